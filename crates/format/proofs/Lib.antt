@@ -1,0 +1,20 @@
+-- The theorems: document 01's examples; the round trip; two levels of one file; how much room tables need; what opaque bytes reach.
+pub mod Examples
+pub mod RoundTrip
+pub mod Promises
+pub mod LevelLaws
+pub mod RoomLaws
+-- What a proof of the reader or of the writer cites, step by step.
+pub mod EngineLaws
+pub mod ListLaws
+pub mod WalkLaws
+pub mod SizeLaws
+-- What these rest on: bits, bytes, and the round trips of items, formats, blocks, bodies, headers and lists.
+pub mod BitLaws
+pub mod ByteLaws
+pub mod Trip
+pub mod ItemLaws
+pub mod BlockLaws
+pub mod BodyLaws
+pub mod HeadLaws
+pub mod ListTrip

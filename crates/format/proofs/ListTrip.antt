@@ -1,0 +1,419 @@
+-- The round trip of tag lists.
+use Prim.Native.Nat.{ℕ, zero, suc, pred, _+_, _-_, _*_, _/_, _^_, _≤_, _<_}
+use mathlib.Core.List.{List, [], _∷_, _++_, append-assoc, append-nil}
+use mathlib.Core.Path.{_≡_, refl, ap, ap₂, sym, _∙_, subst}
+use mathlib.Core.Bool.{Bool, true, false}
+use lib.ListN.{length, length-append, take, drop, take-append-drop, length-drop}
+use lib.Seq.{take-append-seam, drop-append-seam, length-take-le, drop-drop}
+use lib.Dec.{ltb, leb, eqb}
+use borrow.Author.Tests.{ltb-true, leb-true, eqb-true, lt-ltb, le-ltb, le-leb}
+use native.Mathlib.Omega.{arith}
+use Rattle.format.specs.Tests.{pick}
+use Rattle.format.specs.Bits.{AllBytes, Order, ub}
+use Rattle.format.specs.Reading.{Ending, At, Fault, shows, stop}
+use Rattle.format.specs.Formats.{Format}
+use Rattle.format.specs.Items.{skipped, readItem, run}
+use Rattle.format.specs.Bodies.{readBody}
+use Rattle.format.specs.FileAndTags.{Class, opaque, end, container, known, isEnd, isContainer, Tag, Outcome, whole, fault, Walk, chain, Head, head, noHead, rawHead, passes, readHead, Owner, inside, Inside, front, opened, within, atEnd, afterTag, tagThen, oneTag, walkList}
+use Rattle.format.specs.TableOfNumbers.{numbers}
+use Rattle.format.specs.WritingItems.{Written, wrote, cannot, writeItem}
+use Rattle.format.specs.WritingFormats.{unrun}
+use Rattle.format.specs.WritingBodies.{pack, Bytes, bytes, impossible, writeBody}
+use Rattle.format.specs.WritingFiles.{Made, made, unmade, spell16, spell32, spellHead, fitsHead, allBytes, joined, fill, outTag, headed, outOne, unwalkList}
+use Rattle.format.proofs.BitLaws.{length-dig}
+use Rattle.format.proofs.BodyLaws.{body-there, body-back, ReadIf}
+use Rattle.format.proofs.ByteLaws.{has-pack, pack-bytes, length-pack, bytes-append, bytes-take, bytes-drop, has-more, pack-front}
+use Rattle.format.proofs.EngineLaws.{numbers-append}
+use Rattle.format.proofs.HeadLaws.{head-back, HeadIf, head-there, spell-bytes}
+use Rattle.format.proofs.ItemLaws.{round-trip}
+use Rattle.format.proofs.ListLaws.{list-nil, list-one, unlist-nil, unlist-one}
+use Rattle.format.proofs.Trip.{There, Back, has-le}
+use Rattle.format.proofs.WalkLaws.{Fits, head-fits}
+
+all-bytes : (b : List ℕ) → AllBytes b → allBytes b ≡ true
+all-bytes [] h = refl
+all-bytes (x ∷ b) h = rw (lt-ltb x 256 (h .0)) (all-bytes b (h .1))
+
+abbrev If : Bool → Type 0 → Type 0
+If true A = A
+If false A = Unit {0}
+
+if-map : (c : Bool) (A B : Type 0) → (A → B) → If c A → If c B
+if-map true A B f h = f h
+if-map false A B f h = tt
+
+bytes-all : (b : List ℕ) → If (allBytes b) (AllBytes b)
+bytes-all [] = tt
+bytes-all (x ∷ b) = go (ltb x 256) refl (bytes-all b)
+  where
+    go : (c : Bool) → ltb x 256 ≡ c → If (allBytes b) (AllBytes b) → If (pick (ltb x 256) (allBytes b) false) (AllBytes (x ∷ b))
+    go true e h = rw e (if-map (allBytes b) (AllBytes b) (AllBytes (x ∷ b)) (λ l. (ltb-true x 256 e, l)) h)
+    go false e h = rw e tt
+
+-- the values are cut off and put back
+cut-back : (n : ℕ) (vs ys : List ℕ) → length vs ≡ n → (take n (vs ++ ys) ≡ vs) × (drop n (vs ++ ys) ≡ ys) × (leb n (length (vs ++ ys)) ≡ true)
+cut-back n vs ys e =
+    (rw (← e) (take-append-seam vs ys), rw (← e) (drop-append-seam vs ys), le-leb n (length (vs ++ ys)) (rw length-append (omega arith)))
+
+-- the numbers of what stands in a tag
+abbrev pub inNumbers : Inside → List ℕ
+inNumbers i = i .state ∷ length (i .values) ∷ (i .values ++ numbers (i .walk .tags))
+
+abbrev pub WholeIf : Outcome → Type 0 → Type 0
+WholeIf whole A = A
+WholeIf (fault e n) A = Unit {0}
+
+-- the numbers xs are written as the bytes b, whatever follows them
+abbrev pub Again : (List ℕ → Made) → List ℕ → List ℕ → Type 0
+Again W xs b = (ys : List ℕ) → W (xs ++ ys) ≡ made xs b ys
+
+module _ (o : Order) where
+  -- the front of a container is whole bytes
+  abbrev WholeEnd : Ending → Type 0
+  WholeEnd (At p) = 8 * (p / 8) ≡ p
+  WholeEnd (Fault e) = Unit {0}
+
+  pub front-whole : (f : Format) (b : List ℕ) → WholeEnd (run o b (front f) 0 .ended)
+  unfolding run readItem
+  front-whole f b = go (run o b f 0 .ended) refl
+    where
+      skip : (m : ℕ) (c : Bool) → WholeEnd (pick c (shows [] (m + skipped m)) (stop 15) .ended)
+      skip m true = omega arith
+      skip m false = tt
+
+      go : (z : Ending) → run o b f 0 .ended ≡ z → WholeEnd (run o b (front f) 0 .ended)
+      go (Fault e) eq = rw eq tt
+      go (At m) eq = rw eq (skip m (eqb (ub o b m (skipped m)) 0))
+
+  abbrev WholeBits : Written → Type 0
+  WholeBits (wrote xs bs ys) = 8 * (length bs / 8) ≡ length bs
+  WholeBits cannot = Unit {0}
+
+  front-bits : (f : Format) (ns : List ℕ) → WholeBits (unrun o (front f) ns 0)
+  unfolding unrun writeItem
+  front-bits f ns = go (unrun o f ns 0) refl
+    where
+      go : (w : Written) → unrun o f ns 0 ≡ w → WholeBits (unrun o (front f) ns 0)
+      go cannot eq = rw eq tt
+      go (wrote xs bs ys) eq = rw eq (rw (length-append, length-dig) (omega arith))
+
+  -- values, and the numbers of the list inside
+  again-fill : (W : List ℕ → Made) (left : ℕ) (cl : Class) (s : ℕ) (vs cs body : List ℕ)
+      → ((ys : List ℕ) → fill o W left cl s (length vs) vs (cs ++ ys) ≡ made (s ∷ length vs ∷ (vs ++ cs)) body ys) → Again (outTag o W left cl) (s ∷ length vs ∷ (vs ++ cs)) body
+  again-fill W left cl s vs cs body f ys =
+      let c : (take (length vs) (vs ++ (cs ++ ys)) ≡ vs) × (drop (length vs) (vs ++ (cs ++ ys)) ≡ cs ++ ys) × (leb (length vs) (length (vs ++ (cs ++ ys))) ≡ true) = cut-back (length vs) vs (cs ++ ys) refl in
+      rw (append-assoc vs cs ys, c .2, c .0, c .1) (f ys)
+
+-- ---- what is read is written again
+module _ (o : Order) (class : ℕ → Class) where
+  abbrev ListThere : ℕ → Type 0
+  ListThere n = (left : ℕ) (c : Owner) (a : ℕ) (r : List ℕ) → length r ≤ n → AllBytes r
+      → WholeIf (walkList o class left c a r .ended) (Again (unwalkList o class left) (numbers (walkList o class left c a r .tags)) r)
+
+  module _ (n : ℕ) (lists : ListThere n) where
+    tag-there : (left : ℕ) (cl : Class) (a s : ℕ) (body : List ℕ) → length body ≤ n → AllBytes body
+        → pick (isEnd cl) (ltb 0 (length body)) false ≡ false → pick (isContainer cl) (eqb left 0) false ≡ false
+        → WholeIf (within o (walkList o class (pred left)) cl a s body .walk .ended)
+        (Again (outTag o (unwalkList o class (pred left)) left cl) (inNumbers (within o (walkList o class (pred left)) cl a s body)) body)
+    tag-there left opaque a s body l h he hc =
+        again-fill o (unwalkList o class (pred left)) left opaque 0 body [] body (λ ys. rw (all-bytes body h, append-nil body))
+    tag-there left end a s [] l h he hc = again-fill o (unwalkList o class (pred left)) left end 1 [] [] [] (λ ys. refl)
+    tag-there left end a s (x ∷ body) l h he hc =
+        absurd (let t : ltb 0 (suc (length body)) ≡ true = lt-ltb 0 (suc (length body)) (omega arith) in let z : _≡_ {A = ℕ} 0 1 = cc in omega arith)
+    tag-there left (known y) a s body l h he hc = go (readBody o y body .ended) refl (body-there o y body h)
+      where
+        go : (z : Ending) → readBody o y body .ended ≡ z → ReadIf o y body (readBody o y body .shown) (readBody o y body .ended)
+            → WholeIf (within o (walkList o class (pred left)) (known y) a s body .walk .ended)
+            (Again (outTag o (unwalkList o class (pred left)) left (known y)) (inNumbers (within o (walkList o class (pred left)) (known y) a s body)) body)
+        go (Fault e) eq u = rw eq tt
+        go (At q) eq u =
+            let v : writeBody o y (readBody o y body .shown) ≡ bytes body = rw eq at u in
+            rw eq (again-fill o (unwalkList o class (pred left)) left (known y) 1 (readBody o y body .shown) [] body (λ ys. rw (v, append-nil)))
+    tag-there left (container f) a s body l h he hc = go (run o body (front f) 0 .ended) refl
+      where
+        R : Owner → ℕ → List ℕ → Walk
+        R = walkList o class (pred left)
+
+        W : List ℕ → Made
+        W = unwalkList o class (pred left)
+
+        goal : Inside → Type 0
+        goal i = WholeIf (i .walk .ended) (Again (outTag o W left (container f)) (inNumbers i) body)
+
+        inner : (p : ℕ) (xs cs : List ℕ) → 8 * (p / 8) ≡ p → There o body 0 p xs (λ ns p. unrun o (front f) ns p) → Again W cs (drop (p / 8) body)
+            → Again (outTag o W left (container f)) (1 ∷ length xs ∷ (xs ++ cs)) body
+        inner p xs cs v u i = again-fill o W left (container f) 1 xs cs body (λ ys.
+            let q : unrun o (front f) xs 0 ≡ wrote xs (u .bits) [] = rw append-nil at (u .again []) in
+            let n : length (u .bits) / 8 ≡ p / 8 = omega (arith, u .ends) in
+            let k : pack o (p / 8) (u .bits) ≡ take (p / 8) body = pack-front o (p / 8) body (u .bits) h (omega (arith, u .ends, has-le o body 0 (u .bits) (u .has))) (omega (arith, u .ends)) (u .has) in
+            rw (hc, q, n, k, i ys, take-append-drop (p / 8) body))
+
+        deep : (p : ℕ) (xs : List ℕ) → There o body 0 p xs (λ ns p. unrun o (front f) ns p) → 8 * (p / 8) ≡ p → (w : Walk)
+            → WholeIf (w .ended) (Again W (numbers (w .tags)) (drop (p / 8) body)) → goal (record { state = 1; values = xs; walk = w })
+        deep p xs u v w = at (w .ended)
+          where
+            at : (z : Outcome) → WholeIf z (Again W (numbers (w .tags)) (drop (p / 8) body)) → WholeIf z (Again (outTag o W left (container f)) (1 ∷ length xs ∷ (xs ++ numbers (w .tags))) body)
+            at (fault e y) i = tt
+            at whole i = inner p xs (numbers (w .tags)) v u i
+
+        go : (z : Ending) → run o body (front f) 0 .ended ≡ z → goal (opened R a s body (run o body (front f) 0 .shown) (run o body (front f) 0 .ended))
+        go (Fault e) eq = rw eq tt
+        go (At p) eq = rw eq (deep p (run o body (front f) 0 .shown) (rw eq at (round-trip o (front f) .there body 0 (omega arith))) (rw eq at (front-whole o f body))
+            (R (inside a) (s + p / 8) (drop (p / 8) body)) (lists (pred left) (inside a) (s + p / 8) (drop (p / 8) body) (rw length-drop (omega arith)) (bytes-drop (p / 8) body h)))
+
+    -- one tag, and what follows it
+    one-there : (left : ℕ) (c : Owner) (a : ℕ) (r : List ℕ) → length r ≤ suc n → AllBytes r → (g : Head) → Fits class left r g → HeadIf r g
+        → WholeIf (oneTag o class (walkList o class) left c a r g .ended) (Again (unwalkList o class left) (numbers (oneTag o class (walkList o class) left c a r g .tags)) r)
+    one-there left c a r l b (noHead e) h u = tt
+    one-there left c a r l b (head code len size) h u = content (i .walk .ended) (tag-there left (class code) a (a + size) body (omega (arith, h .0, h .1, body-length))
+        (bytes-take len (drop size r) (bytes-drop size r b)) (rw body-length (h .2)) (h .3))
+      where
+        R : ℕ → Owner → ℕ → List ℕ → Walk
+        R = walkList o class
+
+        U : ℕ → List ℕ → Made
+        U = unwalkList o class
+
+        body : List ℕ
+        body = take len (drop size r)
+
+        over : List ℕ
+        over = drop (size + len) r
+
+        i : Inside
+        i = within o (R (pred left)) (class code) a (a + size) body
+
+        body-length : length body ≡ len
+        body-length = length-take-le len (drop size r) (rw length-drop (omega (arith, h .1)))
+
+        room : spellHead code len ++ (body ++ over) ≡ r
+        room = rw (← drop-drop len size r, take-append-drop len (drop size r)) (sym (u .2))
+
+        fits : (k : ℕ) → k ≡ len → fitsHead code k ≡ true
+        fits k e = rw (lt-ltb code 1024 (u .0), lt-ltb k (2 ^ 32) (omega (arith, u .1)))
+
+        split : (w : Walk) → numbers (record { depth = 8 - left; code = code; place = a; size = size; length = len; state = i .state; values = i .values } ∷ (i .walk .tags ++ w .tags)) ≡ code ∷ (inNumbers i ++ numbers (w .tags))
+        split w = ap (λ (l : List ℕ). code ∷ i .state ∷ length (i .values) ∷ l)
+            (ap (λ (l : List ℕ). i .values ++ l) (numbers-append (i .walk .tags) (w .tags)) ∙ sym (append-assoc (i .values) (numbers (i .walk .tags)) (numbers (w .tags))))
+
+        last : (zs : List ℕ) → isEnd (class code) ≡ true → over ≡ [] → Again (outTag o (U (pred left)) left (class code)) zs body → Again (U left) (code ∷ (zs ++ [])) r
+        last zs e q f ys =
+            let v : spellHead code len ++ body ≡ r = rw (q, append-nil) at room in
+            unlist-one o class left code ((zs ++ []) ++ ys) ∙ subst (λ (k : List ℕ). outOne o class U left (code ∷ (k ++ ys)) ≡ made (code ∷ k) r ys) (sym (append-nil zs))
+            (rw (e, f ys, fits (length body) body-length, body-length, v))
+
+        more : (zs cs : List ℕ) → isEnd (class code) ≡ false → Again (U left) cs over → Again (outTag o (U (pred left)) left (class code)) zs body → Again (U left) (code ∷ (zs ++ cs)) r
+        more zs cs e k f ys = unlist-one o class left code ((zs ++ cs) ++ ys)
+            ∙ rw (append-assoc zs cs ys, e, f (cs ++ ys), fits (length body) body-length, body-length, k ys, append-assoc (spellHead code len) body over, room)
+
+        after : (e : Bool) → isEnd (class code) ≡ e → Again (outTag o (U (pred left)) left (class code)) (inNumbers i) body
+            → WholeIf (afterTag e c (a + size + len) over (R left c) .ended) (Again (U left) (code ∷ (inNumbers i ++ numbers (afterTag e c (a + size + len) over (R left c) .tags))) r)
+        after true e f = at over refl
+          where
+            at : (q : List ℕ) → over ≡ q → WholeIf (atEnd c (a + size + len) q .ended) (Again (U left) (code ∷ (inNumbers i ++ numbers (atEnd c (a + size + len) q .tags))) r)
+            at [] q = last (inNumbers i) e q f
+            at (x ∷ q) p = tt
+        after false e f = at (R left c (a + size + len) over .ended) (lists left c (a + size + len) over (rw length-drop (omega (arith, h .0, h .1))) (bytes-drop (size + len) r b))
+          where
+            cs : List ℕ
+            cs = numbers (R left c (a + size + len) over .tags)
+
+            at : (z : Outcome) → WholeIf z (Again (U left) cs over) → WholeIf z (Again (U left) (code ∷ (inNumbers i ++ cs)) r)
+            at (fault e n) k = tt
+            at whole k = more (inNumbers i) cs e k f
+
+        content : (z : Outcome) → WholeIf z (Again (outTag o (U (pred left)) left (class code)) (inNumbers i) body)
+            → WholeIf (chain (record { depth = 8 - left; code = code; place = a; size = size; length = len; state = i .state; values = i .values } ∷ i .walk .tags) z (afterTag (isEnd (class code)) c (a + size + len) over (R left c)) .ended)
+            (Again (U left) (numbers (chain (record { depth = 8 - left; code = code; place = a; size = size; length = len; state = i .state; values = i .values } ∷ i .walk .tags) z (afterTag (isEnd (class code)) c (a + size + len) over (R left c)) .tags)) r)
+        content (fault e y) f = tt
+        content whole f = subst (λ (xs : List ℕ). WholeIf (afterTag (isEnd (class code)) c (a + size + len) over (R left c) .ended) (Again (U left) xs r))
+            (sym (split (afterTag (isEnd (class code)) c (a + size + len) over (R left c)))) (after (isEnd (class code)) refl f)
+
+  -- a header that passed is spelt as one that stands there
+  passed-there : (left : ℕ) (r : List ℕ) → AllBytes r → HeadIf r (readHead class left r)
+  passed-there left r b = go (rawHead r) (head-there r b)
+    where
+      go : (g : Head) → HeadIf r g → HeadIf r (passes class left r g)
+      go (noHead e) h = tt
+      go (head code len size) h = at (ltb (length (drop size r)) len) (pick (isEnd (class code)) (ltb 0 len) false) (pick (isContainer (class code)) (eqb left 0) false)
+        where
+          at : (c d e : Bool) → HeadIf r (pick c (noHead 9) (pick d (noHead 10) (pick e (noHead 12) (head code len size))))
+          at true d e = tt
+          at false true e = tt
+          at false false true = tt
+          at false false false = h
+
+  pub list-there : (n : ℕ) → ListThere n
+  list-there zero left c a [] l b = rw (list-nil o class left c a) tt
+  list-there zero left c a (x ∷ r) l b = absurd (omega arith)
+  list-there (suc n) left c a [] l b = rw (list-nil o class left c a) tt
+  list-there (suc n) left c a (x ∷ r) l b =
+      subst (λ (w : Walk). WholeIf (w .ended) (Again (unwalkList o class left) (numbers (w .tags)) (x ∷ r))) (sym (list-one o class left c a (x ∷ r) (omega arith)))
+      (one-there n (list-there n) left c a (x ∷ r) l b (readHead class left (x ∷ r)) (head-fits class left (x ∷ r)) (passed-there left (x ∷ r) b))
+
+-- ---- what is written is read again
+abbrev pub Spelt : List ℕ → Walk → Type 0
+Spelt xs w = (w .ended ≡ whole) × (numbers (w .tags) ≡ xs)
+
+module _ (o : Order) (class : ℕ → Class) where
+  abbrev pub ListIf : ℕ → List ℕ → Made → Type 0
+  ListIf left ns (made xs r ys) = (ns ≡ xs ++ ys) × AllBytes r × ((c : Owner) (a : ℕ) → Spelt xs (walkList o class left c a r))
+  ListIf left ns unmade = Unit {0}
+
+  abbrev TagIf : ℕ → Class → List ℕ → Made → Type 0
+  TagIf left cl ns (made xs body ys) =
+      (ns ≡ xs ++ ys) × AllBytes body × (pick (isEnd cl) (ltb 0 (length body)) false ≡ false) × (pick (isContainer cl) (eqb left 0) false ≡ false)
+      × ((a s : ℕ) → (within o (walkList o class (pred left)) cl a s body .walk .ended ≡ whole) × (inNumbers (within o (walkList o class (pred left)) cl a s body) ≡ xs))
+  TagIf left cl ns unmade = Unit {0}
+
+  fill-back : (left : ℕ) (cl : Class) (s k : ℕ) (vs ys : List ℕ) → length vs ≡ k → ListIf (pred left) ys (unwalkList o class (pred left) ys)
+      → TagIf left cl (s ∷ k ∷ (vs ++ ys)) (fill o (unwalkList o class (pred left)) left cl s k vs ys)
+  fill-back left opaque s k vs ys l i = go (eqb s 0) refl (allBytes vs) refl (bytes-all vs)
+    where
+      go : (c : Bool) → eqb s 0 ≡ c → (d : Bool) → allBytes vs ≡ d → If d (AllBytes vs) → TagIf left opaque (s ∷ k ∷ (vs ++ ys)) (fill o (unwalkList o class (pred left)) left opaque s k vs ys)
+      go false e d e′ h = rw e tt
+      go true e false e′ h = rw (e, e′) tt
+      go true e true e′ h = rw (e, e′) (refl, h, refl, refl, λ a s′. (refl, rw (eqb-true s 0 e, l, append-nil)))
+  fill-back left end s k vs ys l i = go (eqb s 1) refl (eqb k 0) refl vs l
+    where
+      go : (c : Bool) → eqb s 1 ≡ c → (d : Bool) → eqb k 0 ≡ d → (vs : List ℕ) → length vs ≡ k → TagIf left end (s ∷ k ∷ (vs ++ ys)) (fill o (unwalkList o class (pred left)) left end s k vs ys)
+      go false e d e′ vs l = rw e tt
+      go true e false e′ vs l = rw (e, e′) tt
+      go true e true e′ [] l = rw (e, e′) (refl, tt, refl, refl, λ a s′. (refl, rw (eqb-true s 1 e, eqb-true k 0 e′)))
+      go true e true e′ (x ∷ vs) l = absurd (omega (arith, eqb-true k 0 e′))
+  fill-back left (known y) s k vs ys l i = go (eqb s 1) refl (writeBody o y vs) refl
+    where
+      go : (c : Bool) → eqb s 1 ≡ c → (d : Bytes) → writeBody o y vs ≡ d → TagIf left (known y) (s ∷ k ∷ (vs ++ ys)) (fill o (unwalkList o class (pred left)) left (known y) s k vs ys)
+      go false e d e′ = rw e tt
+      go true e impossible e′ = rw (e, e′) tt
+      go true e (bytes b) e′ =
+          let u : AllBytes b × (readBody o y b ≡ shows vs (8 * length b)) = body-back o y b vs e′ in
+          rw (e, e′) (refl, u .0, refl, refl, λ a s′. rw (u .1) (refl, rw (eqb-true s 1 e, l, append-nil)))
+  fill-back left (container f) s k vs ys l i = go (eqb left 0) refl (eqb s 1) refl (unrun o (front f) vs 0) refl (unwalkList o class (pred left) ys) refl
+    where
+      R : Owner → ℕ → List ℕ → Walk
+      R = walkList o class (pred left)
+
+      W : List ℕ → Made
+      W = unwalkList o class (pred left)
+
+      join : (xs cs body ys′ : List ℕ) (bs : List Bool) → eqb left 0 ≡ false → s ≡ 1 → 8 * (length bs / 8) ≡ length bs → Back o vs xs bs [] 0 (λ b p. run o b (front f) p)
+          → (ys ≡ cs ++ ys′) × AllBytes body × ((c : Owner) (a : ℕ) → Spelt cs (R c a body))
+          → TagIf left (container f) (s ∷ k ∷ (vs ++ ys)) (made (s ∷ k ∷ (vs ++ cs)) (pack o (length bs / 8) bs ++ body) ys′)
+      join xs cs body ys′ bs h e m u i =
+          let b : List ℕ = pack o (length bs / 8) bs in
+          let r : run o (b ++ body) (front f) 0 ≡ shows xs (0 + length bs) = u .reads (b ++ body) (has-more o b body 0 bs (has-pack o (length bs / 8) bs (sym m))) in
+          let d : drop (length bs / 8) (b ++ body) ≡ body = rw length-pack at (drop-append-seam b body) in
+          let z : (0 + length bs) / 8 ≡ length bs / 8 = omega arith in
+          let x : xs ≡ vs = sym (u .parts ∙ append-nil xs) in (
+            rw (i .0, append-assoc vs cs ys′),
+            bytes-append b body (pack-bytes o (length bs / 8) bs) (i .1),
+            refl,
+            h,
+            λ a s′. rw (r, z, d, x, e, ← l) (i .2 (inside a) (s′ + length bs / 8) .0, ap (λ (q : List ℕ). 1 ∷ length vs ∷ (vs ++ q)) (i .2 (inside a) (s′ + length bs / 8) .1)),
+          )
+
+      go : (b : Bool) → eqb left 0 ≡ b → (c : Bool) → eqb s 1 ≡ c → (q : Written) → unrun o (front f) vs 0 ≡ q → (m : Made) → W ys ≡ m
+          → TagIf left (container f) (s ∷ k ∷ (vs ++ ys)) (fill o W left (container f) s k vs ys)
+      go true h c e q e′ m e″ = rw h tt
+      go false h false e q e′ m e″ = rw (h, e) tt
+      go false h true e cannot e′ m e″ = rw (h, e, e′) tt
+      go false h true e (wrote xs bs (y ∷ zs)) e′ m e″ = rw (h, e, e′) tt
+      go false h true e (wrote xs bs []) e′ unmade e″ = rw (h, e, e′, e″) tt
+      go false h true e (wrote xs bs []) e′ (made cs body ys′) e″ = rw (h, e, e′, e″)
+          (join xs cs body ys′ bs h (eqb-true s 1 e) (rw e′ at (front-bits o f vs)) (rw e′ at (round-trip o (front f) .back vs 0)) (rw e″ at i))
+
+  tag-back : (left : ℕ) (cl : Class) (ns : List ℕ) → ((ys : List ℕ) → length ys ≤ length ns → ListIf (pred left) ys (unwalkList o class (pred left) ys))
+      → TagIf left cl ns (outTag o (unwalkList o class (pred left)) left cl ns)
+  tag-back left cl [] i = tt
+  tag-back left cl (s ∷ []) i = tt
+  tag-back left cl (s ∷ k ∷ ns) i = go (leb k (length ns)) refl
+    where
+      W : List ℕ → Made
+      W = unwalkList o class (pred left)
+
+      go : (c : Bool) → leb k (length ns) ≡ c → TagIf left cl (s ∷ k ∷ ns) (pick (leb k (length ns)) (fill o W left cl s k (take k ns) (drop k ns)) unmade)
+      go false e = rw e tt
+      go true e = rw e (rw (take-append-drop k ns) at
+          (fill-back left cl s k (take k ns) (drop k ns) (length-take-le k ns (leb-true k (length ns) e)) (i (drop k ns) (rw length-drop (omega arith)))))
+
+  -- a tag that was put together is read as it was
+  one-read : (left : ℕ) (c : Owner) (a code : ℕ) (body rest : List ℕ) → code < 1024 → length body < 2 ^ 32
+      → pick (isEnd (class code)) (ltb 0 (length body)) false ≡ false → pick (isContainer (class code)) (eqb left 0) false ≡ false
+      → walkList o class left c a (spellHead code (length body) ++ (body ++ rest))
+      ≡ tagThen (8 - left) code a (length (spellHead code (length body))) (length body) (within o (walkList o class (pred left)) (class code) a (a + length (spellHead code (length body))) body)
+      (afterTag (isEnd (class code)) c (a + length (spellHead code (length body)) + length body) rest (walkList o class left c))
+  one-read left c a code body rest h l he hc =
+      let s : List ℕ = spellHead code (length body) in
+      let d : drop (length s) (s ++ (body ++ rest)) ≡ body ++ rest = drop-append-seam s (body ++ rest) in
+      let e : drop (length s + length body) (s ++ (body ++ rest)) ≡ rest = sym (drop-drop (length body) (length s) (s ++ (body ++ rest))) ∙ ap (drop (length body)) d ∙ drop-append-seam body rest in
+      list-one o class left c a (s ++ (body ++ rest)) (long (ltb (length body) 63))
+      ∙ rw (head-back code (length body) (body ++ rest) h l, d, le-ltb (length (body ++ rest)) (length body) (rw length-append (omega arith)), he, hc) (rw (d, e, take-append-seam body rest))
+    where
+      long : (b : Bool) → 0 < length (pick b (spell16 (code * 64 + length body)) (spell16 (code * 64 + 63) ++ spell32 (length body)) ++ (body ++ rest))
+      long true = omega arith
+      long false = omega arith
+
+  -- the numbers of a tag, and of what follows it
+  spelt-then : (d code a size len : ℕ) (i : Inside) (w : Walk) (zs cs : List ℕ) → i .walk .ended ≡ whole → inNumbers i ≡ zs → Spelt cs w → Spelt (code ∷ (zs ++ cs)) (tagThen d code a size len i w)
+  spelt-then d code a size len i w zs cs e q u = subst (λ (z : Outcome). Spelt (code ∷ (zs ++ cs)) (chain (t ∷ i .walk .tags) z w)) (sym e) (u .0, split ∙ ap₂ (λ (x y : List ℕ). code ∷ (x ++ y)) q (u .1))
+    where
+      t : Tag
+      t = record { depth = d; code = code; place = a; size = size; length = len; state = i .state; values = i .values }
+
+      split : numbers (t ∷ (i .walk .tags ++ w .tags)) ≡ code ∷ (inNumbers i ++ numbers (w .tags))
+      split = ap (λ (l : List ℕ). code ∷ i .state ∷ length (i .values) ∷ l)
+          (ap (λ (l : List ℕ). i .values ++ l) (numbers-append (i .walk .tags) (w .tags)) ∙ sym (append-assoc (i .values) (numbers (i .walk .tags)) (numbers (w .tags))))
+
+  one-back : (left code : ℕ) (ns : List ℕ) → ((left : ℕ) (ys : List ℕ) → length ys ≤ length ns → ListIf left ys (unwalkList o class left ys))
+      → ListIf left (code ∷ ns) (outOne o class (unwalkList o class) left (code ∷ ns))
+  one-back left code ns lists = go (outTag o (U (pred left)) left (class code) ns) (tag-back left (class code) ns (λ ys l. lists (pred left) ys l))
+    where
+      U : ℕ → List ℕ → Made
+      U = unwalkList o class
+
+      S : List ℕ → List ℕ
+      S body = spellHead code (length body)
+
+      last : (zs body ys : List ℕ) → code < 1024 → length body < 2 ^ 32 → isEnd (class code) ≡ true → TagIf left (class code) ns (made zs body ys)
+          → ListIf left (code ∷ ns) (made (code ∷ zs) (spellHead code (length body) ++ body) ys)
+      last zs body ys h l e u = (
+        ap (λ (k : List ℕ). code ∷ k) (u .0),
+        bytes-append (S body) body (spell-bytes code (length body) h l) (u .1),
+        λ c a. subst (λ (k : List ℕ). Spelt (code ∷ k) (walkList o class left c a (S body ++ body))) (append-nil zs)
+            (subst (λ (k : List ℕ). Spelt (code ∷ (zs ++ [])) (walkList o class left c a (S body ++ k))) (append-nil body)
+            (subst (Spelt (code ∷ (zs ++ []))) (sym (one-read left c a code body [] h l (u .2) (u .3)))
+            (spelt-then (8 - left) code a (length (S body)) (length body) _ _ zs [] (u .4 a (a + length (S body)) .0) (u .4 a (a + length (S body)) .1) (rw e (refl, refl))))),
+      )
+
+      more : (zs body ys : List ℕ) → code < 1024 → length body < 2 ^ 32 → isEnd (class code) ≡ false → TagIf left (class code) ns (made zs body ys)
+          → (x : Made) → ListIf left ys x → ListIf left (code ∷ ns) (joined (code ∷ zs) (spellHead code (length body) ++ body) x)
+      more zs body ys h l e u unmade v = tt
+      more zs body ys h l e u (made cs rest ys′) v = (
+        rw (u .0, v .0, append-assoc),
+        bytes-append (S body ++ body) rest (bytes-append (S body) body (spell-bytes code (length body) h l) (u .1)) (v .1),
+        λ c a. subst (λ (k : List ℕ). Spelt (code ∷ (zs ++ cs)) (walkList o class left c a k)) (sym (append-assoc (S body) body rest))
+            (subst (Spelt (code ∷ (zs ++ cs))) (sym (one-read left c a code body rest h l (u .2) (u .3)))
+            (spelt-then (8 - left) code a (length (S body)) (length body) _ _ zs cs (u .4 a (a + length (S body)) .0) (u .4 a (a + length (S body)) .1)
+            (rw e (v .2 c (a + length (S body) + length body))))),
+      )
+
+      fit : (zs body ys : List ℕ) → TagIf left (class code) ns (made zs body ys) → length ys ≤ length ns → (c : Bool) → ltb code 1024 ≡ c → (d : Bool) → ltb (length body) (2 ^ 32) ≡ d
+          → (e : Bool) → isEnd (class code) ≡ e → ListIf left (code ∷ ns) (headed code e (made zs body ys) (U left))
+      fit zs body ys u s false f d g true e = rw f tt
+      fit zs body ys u s false f d g false e = rw f tt
+      fit zs body ys u s true f false g true e = rw (f, g) tt
+      fit zs body ys u s true f false g false e = rw (f, g) tt
+      fit zs body ys u s true f true g true e = rw (f, g) (last zs body ys (ltb-true code 1024 f) (ltb-true (length body) (2 ^ 32) g) e u)
+      fit zs body ys u s true f true g false e = rw (f, g) (more zs body ys (ltb-true code 1024 f) (ltb-true (length body) (2 ^ 32) g) e u (U left ys) (lists left ys s))
+
+      go : (x : Made) → TagIf left (class code) ns x → ListIf left (code ∷ ns) (headed code (isEnd (class code)) x (U left))
+      go unmade u = tt
+      go (made zs body ys) u = fit zs body ys u (omega (arith, length-append zs ys, ap length (u .0))) (ltb code 1024) refl (ltb (length body) (2 ^ 32)) refl (isEnd (class code)) refl
+
+  pub list-back : (n left : ℕ) (ns : List ℕ) → length ns ≤ n → ListIf left ns (unwalkList o class left ns)
+  list-back zero left [] l = rw (unlist-nil o class left) tt
+  list-back zero left (code ∷ ns) l = absurd (omega arith)
+  list-back (suc n) left [] l = rw (unlist-nil o class left) tt
+  list-back (suc n) left (code ∷ ns) l =
+      subst (ListIf left (code ∷ ns)) (sym (unlist-one o class left code ns)) (one-back left code ns (λ left ys m. list-back n left ys (omega arith)))

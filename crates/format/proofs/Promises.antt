@@ -1,0 +1,58 @@
+-- That no second answer fits a promise, and that one always does.
+use Prim.Native.Nat.{ℕ, _≤_, _<_}
+use mathlib.Core.List.{List}
+use mathlib.Core.Path.{_≡_, refl, ap, sym, _∙_}
+use mathlib.Core.Bool.{Bool, true, false}
+use lib.ListN.{length}
+use lib.Dec.{ltb, leb}
+use borrow.Author.Tests.{ltb-true, ltb-false, leb-true, leb-false}
+use native.Mathlib.Omega.{arith}
+use Rattle.format.specs.Bits.{Order}
+use Rattle.format.specs.Reasons.{Left, accepts, refusesWith, FileOf, Writes, tooHigh, impossible, tooShort, written}
+use Rattle.format.specs.WritingBodies.{Bytes}
+use Rattle.format.specs.WritingFiles.{writeFile}
+use Rattle.format.proofs.RoundTrip.{level-of, back, no-file, one-file}
+
+-- A promise that is an equation: what a call left, seen as `seen` sees it, is v. If `seen` tells any two apart, no second thing fits.
+pub one-answer : {A B : Type 0} (seen : A → B) → ((x y : A) → seen x ≡ seen y → x ≡ y) → (v : B) (x y : A) → seen x ≡ v → seen y ≡ v → x ≡ y
+one-answer seen apart v x y p q = apart x y (p ∙ sym q)
+
+module _ (o : Order) (level : ℕ) (t m : List ℕ) where
+  -- two files of one table are equal
+  same-file : (f g : List ℕ) → FileOf o level t f → FileOf o level t g → f ≡ g
+  same-file f g u v = one-file o level t f g (u .bytes) (v .bytes) (u .reads) (v .reads)
+
+  -- no two things fit the writer's promise
+  pub writes-one : (x y : Left) → Writes o level t m x → Writes o level t m y → x ≡ y
+  writes-one x y (tooHigh h) (tooHigh k) = refl
+  writes-one x y (tooHigh h) (impossible l k) = absurd (omega arith)
+  writes-one x y (tooHigh h) (tooShort g v k) = absurd (omega (arith, level-of o level g t (v .reads)))
+  writes-one x y (tooHigh h) (written g v k) = absurd (omega (arith, level-of o level g t (v .reads)))
+  writes-one x y (impossible l h) (tooHigh k) = absurd (omega arith)
+  writes-one x y (impossible l h) (impossible l′ k) = refl
+  writes-one x y (impossible l h) (tooShort g v k) = absurd (h g v)
+  writes-one x y (impossible l h) (written g v k) = absurd (h g v)
+  writes-one x y (tooShort f u h) (tooHigh k) = absurd (omega (arith, level-of o level f t (u .reads)))
+  writes-one x y (tooShort f u h) (impossible l k) = absurd (k f u)
+  writes-one x y (tooShort f u h) (tooShort g v k) = ap (λ (z : List ℕ). refusesWith m 21 (length z)) (same-file f g u v)
+  writes-one x y (tooShort f u h) (written g v k) = absurd (omega (arith, ap length (same-file f g u v)))
+  writes-one x y (written f u h) (tooHigh k) = absurd (omega (arith, level-of o level f t (u .reads)))
+  writes-one x y (written f u h) (impossible l k) = absurd (k f u)
+  writes-one x y (written f u h) (tooShort g v k) = absurd (omega (arith, ap length (same-file f g u v)))
+  writes-one x y (written f u h) (written g v k) = ap (λ (z : List ℕ). accepts m z) (same-file f g u v)
+
+  -- and one always does
+  pub writes-some : (x : Left) × Writes o level t m x
+  writes-some = high (ltb 1023 level) refl
+    where
+      room : (f : List ℕ) → FileOf o level t f → (c : Bool) → leb (length f) (length m) ≡ c → (x : Left) × Writes o level t m x
+      room f u true e = (accepts m f, written f u (leb-true (length f) (length m) e))
+      room f u false e = (refusesWith m 21 (length f), tooShort f u (leb-false (length f) (length m) e))
+
+      low : level ≤ 1023 → (b : Bytes) → writeFile o level t ≡ b → (x : Left) × Writes o level t m x
+      low l (Bytes.bytes f) e = room f (record { bytes = back o level f t e .0; reads = back o level f t e .1 }) (leb (length f) (length m)) refl
+      low l Bytes.impossible e = (refusesWith m 20 0, impossible l (λ f u. no-file o level t e f (u .bytes) (u .reads)))
+
+      high : (c : Bool) → ltb 1023 level ≡ c → (x : Left) × Writes o level t m x
+      high true e = (refusesWith m 1 0, tooHigh (ltb-true 1023 level e))
+      high false e = low (omega (arith, ltb-false 1023 level e)) (writeFile o level t) refl

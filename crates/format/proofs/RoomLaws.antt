@@ -1,0 +1,293 @@
+-- The room that tables need (C-21): `table-room` and `tags-room`, at the end. The lists' bound holds for every ending.
+use Prim.Native.Nat.{ℕ, zero, suc, pred, _+_, _-_, _*_, _/_, _≤_}
+use mathlib.Core.List.{List, [], _∷_, _++_, append-nil}
+use mathlib.Core.Path.{_≡_, refl, ap, subst}
+use mathlib.Core.Bool.{Bool, true, false}
+use lib.ListN.{length, getD, take, drop, length-append, length-drop}
+use lib.Seq.{length-take-le}
+use lib.Dec.{ltb, eqb}
+use borrow.Author.Tests.{eqb-true}
+use native.Mathlib.Omega.{arith}
+use Rattle.format.specs.Tests.{pick}
+use Rattle.format.specs.Bits.{Order, ub}
+use Rattle.format.specs.Reading.{Ending, At, Fault, Reading, shows, stop, follow}
+use Rattle.format.specs.Formats.{Item, nothing, item, _▸_, times, the}
+use Rattle.format.specs.Items.{skipped, readItem, run, u32, i32, time, float, byte, color, string, count}
+use Rattle.format.specs.Bodies.{fontTables, compositionAttributes, solidColor, Kind, Value, Fixed, BitFlag, Simple, Discrete, Attribute, flagsOf, content, allFlags, rows, handOn, readBlock, Body, fixed, attributes, readPart, usedUp, readBody}
+use Rattle.format.specs.FileAndTags.{Class, opaque, end, container, known, codes, classOf, isEnd, Tag, Outcome, whole, fault, Walk, broken, chain, Head, head, noHead, readHead, Owner, file, inside, Inside, front, opened, within, afterTag, tagThen, oneTag, walk, walkList}
+use Rattle.format.specs.TableOfNumbers.{numbers, table, tagTable}
+use Rattle.format.specs.Reasons.{startFault, walkFile, gives, result, readFile, readTags}
+use Rattle.format.specs.WritingBodies.{writePart}
+use Rattle.format.proofs.BlockLaws.{as-many}
+use Rattle.format.proofs.BodyLaws.{trip-part}
+use Rattle.format.proofs.EngineLaws.{numbers-append}
+use Rattle.format.proofs.LevelLaws.{long-file}
+use Rattle.format.proofs.SizeLaws.{FairEnd, FairReading, Fair, fair-item, fair-nothing, fair-echo, fair-more, fair-then, fair-seq, fair-times, fair-byte, fair-content, fair-only}
+use Rattle.format.proofs.Trip.{There, has-le}
+use Rattle.format.proofs.WalkLaws.{run-le, Fits, head-fits}
+
+-- ---- attribute blocks
+abbrev pub fixedBy : Kind → ℕ
+fixedBy Value = 0
+fixedBy Fixed = 1
+fixedBy BitFlag = 0
+fixedBy Simple = 0
+fixedBy Discrete = 0
+
+-- how many attributes are Fixed
+abbrev pub fixedCount : List Attribute → ℕ
+fixedCount [] = 0
+fixedCount (a ∷ attrs) = fixedBy (a .kind) + fixedCount attrs
+
+module _ (o : Order) where
+  fair-flag : (k : Kind) → Fair o (fixedBy k) (item (flagsOf k))
+  fair-flag Value = fair-item o (Item.flag 1) (omega arith)
+  fair-flag Fixed = fair-echo o 1
+  fair-flag BitFlag = fair-item o (Item.flag 1) (omega arith)
+  fair-flag Simple = fair-item o (Item.flag 2) (omega arith)
+  fair-flag Discrete = fair-item o (Item.flag 2) (omega arith)
+
+  fair-flags : (attrs : List Attribute) → Fair o (fixedCount attrs) (allFlags attrs)
+  unfolding allFlags
+  fair-flags [] = fair-nothing o
+  fair-flags (a ∷ attrs) = fair-then o (fixedBy (a .kind)) (fixedCount attrs) (item (flagsOf (a .kind))) (λ xs. allFlags attrs) (fair-flag (a .kind)) (λ b p q e. fair-flags attrs)
+
+  fair-rows : (attrs : List Attribute) (φs : List ℕ) → Fair o (length attrs) (rows attrs φs)
+  unfolding rows
+  fair-rows [] φs = fair-nothing o
+  fair-rows (a ∷ attrs) [] = fair-more o 0 (suc (length attrs)) nothing (omega arith) (fair-nothing o)
+  fair-rows (a ∷ attrs) (φ ∷ φs) = fair-more o (1 + (0 + length attrs)) (suc (length attrs)) (item (Item.echo φ) ▸ content a φ ▸ rows attrs φs) (omega arith)
+      (fair-then o 1 (0 + length attrs) (item (Item.echo φ)) (λ xs. content a φ ▸ rows attrs φs) (fair-echo o φ)
+      (λ b p q e. fair-then o 0 (length attrs) (content a φ) (λ xs. rows attrs φs) (fair-content o (a .kind) (a .dataType) φ) (λ b p q e. fair-rows attrs φs)))
+
+  fair-block : (attrs : List Attribute) (b : List ℕ) (p : ℕ) → p ≤ 8 * length b → FairReading (fixedCount attrs) (8 * length b) p (readBlock o b attrs p)
+  unfolding readBlock
+  fair-block attrs b p l = go (run o b (allFlags attrs) p .ended) refl (fair-flags attrs b p l)
+    where
+      φs : List ℕ
+      φs = run o b (allFlags attrs) p .shown
+
+      rest : (m : ℕ) → length φs + p ≤ m + fixedCount attrs → length φs ≡ length attrs → (r : Reading) → FairReading (length attrs) (8 * length b) m r → FairReading (fixedCount attrs) (8 * length b) p r
+      rest m u n r v = at (r .ended) v
+        where
+          at : (z : Ending) → FairEnd (length attrs) (8 * length b) m (length (r .shown)) z → FairEnd (fixedCount attrs) (8 * length b) p (length (r .shown)) z
+          at (At q) v = omega arith
+          at (Fault e) v = omega arith
+
+      go : (z : Ending) → run o b (allFlags attrs) p .ended ≡ z → FairEnd (fixedCount attrs) (8 * length b) p (length φs) z
+          → FairReading (fixedCount attrs) (8 * length b) p (handOn φs z (λ φs q. run o b (rows attrs φs) q))
+      go (Fault e) eq u = omega arith
+      go (At m) eq u = rest m u (as-many o attrs b p m eq) (run o b (rows attrs φs) m) (fair-rows attrs φs b m (run-le o b (allFlags attrs) p m l eq .1))
+
+  -- ---- bodies
+  abbrev pub FairBody : Body → Type 0
+  FairBody (fixed f) = Fair o 0 f
+  FairBody (attributes attrs) = fixedCount attrs ≤ 1
+
+  fair-part : (y : Body) → FairBody y → (b : List ℕ) → FairReading 1 (8 * length b) 0 (readPart o b y 0)
+  unfolding readPart
+  fair-part (fixed f) h b = fair-more o 0 1 f (omega arith) h b 0 (omega arith)
+  fair-part (attributes attrs) h b = go (readBlock o b attrs 0 .ended) (fair-block attrs b 0 (omega arith))
+    where
+      go : (z : Ending) → FairEnd (fixedCount attrs) (8 * length b) 0 (length (readBlock o b attrs 0 .shown)) z → FairEnd 1 (8 * length b) 0 (length (readBlock o b attrs 0 .shown)) z
+      go (At q) u = omega arith
+      go (Fault e) u = omega arith
+
+  pub body-room : (y : Body) → FairBody y → (b : List ℕ) → length (readBody o y b .shown) ≤ 8 * length b + 2
+  unfolding readBody readItem
+  body-room y h b = go (readPart o b y 0 .ended) refl (fair-part y h b)
+    where
+      xs : List ℕ
+      xs = readPart o b y 0 .shown
+
+      same : (n : ℕ) (z : Ending) → usedUp n xs z .shown ≡ xs
+      same n (At p) = refl
+      same n (Fault e) = refl
+
+      skip : (m : ℕ) (c : Bool) → length xs ≤ 8 * length b + 2
+          → length (usedUp (8 * length b) (xs ++ pick c (shows [] (m + skipped m)) (stop 15) .shown) (pick c (shows [] (m + skipped m)) (stop 15) .ended) .shown) ≤ 8 * length b + 2
+      skip m true n = rw append-nil n
+      skip m false n = rw append-nil n
+
+      go : (z : Ending) → readPart o b y 0 .ended ≡ z → FairEnd 1 (8 * length b) 0 (length xs) z
+          → length (usedUp (8 * length b) (follow xs z (λ xs p. readItem o b Item.align p) .shown) (follow xs z (λ xs p. readItem o b Item.align p) .ended) .shown) ≤ 8 * length b + 2
+      go (Fault e) eq u = omega arith
+      go (At m) eq u =
+          let t : There o b 0 m xs (λ ns p. writePart o y ns p) = rw eq at (trip-part o y .there b 0 (omega arith)) in
+          skip m (eqb (ub o b m (skipped m)) 0) (omega (arith, t .ends, has-le o b 0 (t .bits) (t .has)))
+
+  -- ---- classes
+  abbrev pub FairClass : Class → Type 0
+  FairClass opaque = Unit {0}
+  FairClass end = Unit {0}
+  FairClass (container f) = Fair o 0 f
+  FairClass (known y) = FairBody y
+
+  abbrev FairAll : List Class → Type 0
+  FairAll [] = Unit {0}
+  FairAll (c ∷ cs) = FairClass c × FairAll cs
+
+  fair-at : (cs : List Class) → FairAll cs → (n : ℕ) → FairClass (getD cs n opaque)
+  fair-at [] h n = tt
+  fair-at (c ∷ cs) h zero = h .0
+  fair-at (c ∷ cs) h (suc n) = fair-at cs (h .1) n
+
+  fair-u32 : Fair o 0 u32
+  fair-u32 = fair-byte o Item.U32 tt
+
+  fair-i32 : Fair o 0 i32
+  fair-i32 = fair-byte o Item.I32 tt
+
+  fair-time : Fair o 0 time
+  fair-time = fair-byte o Item.U64 tt
+
+  fair-color : Fair o 0 color
+  fair-color = fair-times o 3 byte (fair-byte o (Item.UB 8) (omega arith))
+
+  fair-codes : FairAll codes
+  fair-codes = (tt, (fonts, (fair-u32, (composition, (tt, (fair-seq o byte u32 (fair-byte o (Item.UB 8) (omega arith)) fair-u32, (omega arith, (solid, (tt, (omega arith, (tt, (fair-u32, (fair-seq o u32 time fair-u32 fair-time, (tt, (omega arith, tt)))))))))))))))
+    where
+      fonts : Fair o 0 fontTables
+      fonts = fair-then o 0 0 (count 0 4096) (λ n. times (the n) (string ▸ string)) (fair-only o 0 _ 17 u32 fair-u32)
+          (λ b p q e. fair-times o (the (run o b (count 0 4096) p .shown)) (string ▸ string) (fair-seq o string string (fair-byte o Item.string tt) (fair-byte o Item.string tt)))
+
+      composition : Fair o 0 compositionAttributes
+      composition = fair-seq o i32 _ fair-i32 (fair-seq o i32 _ fair-i32 (fair-seq o time _ fair-time (fair-seq o float color (fair-byte o (Item.LE 4) (omega arith)) fair-color)))
+
+      solid : Fair o 0 solidColor
+      solid = fair-seq o color _ fair-color (fair-seq o i32 i32 fair-i32 fair-i32)
+
+  pub fair-class : (level code : ℕ) → FairClass (classOf level code)
+  unfolding classOf
+  fair-class level code = go (ltb level code)
+    where
+      go : (c : Bool) → FairClass (pick c opaque (getD codes code opaque))
+      go true = tt
+      go false = fair-at codes fair-codes code
+
+  -- ---- lists: n bytes of room give at most 8 × n numbers and n / 2 tags, whatever the ending
+  pub record Room (n : ℕ) (w : Walk) : Type 0 where
+    pub count : length (numbers (w .tags)) ≤ 8 * n
+    pub tags : 2 * length (w .tags) ≤ n
+
+  module _ (class : ℕ → Class) (fair : (code : ℕ) → FairClass (class code)) where
+    -- the numbers of what stands in a tag, but for its state and count
+    abbrev inside-count : Inside → ℕ
+    inside-count i = length (i .values) + length (numbers (i .walk .tags))
+
+    within-room : (R : Owner → ℕ → List ℕ → Walk) → ((c : Owner) (a : ℕ) (r : List ℕ) → Room (length r) (R c a r)) → (cl : Class) → FairClass cl → (a s : ℕ) (body : List ℕ)
+        → (inside-count (within o R cl a s body) ≤ 8 * length body + 13) × (2 * length (within o R cl a s body .walk .tags) ≤ length body)
+    within-room R u opaque h a s body = (omega arith, omega arith)
+    within-room R u end h a s body = (omega arith, omega arith)
+    within-room R u (known y) h a s body = (omega (arith, body-room y h body), omega arith)
+    within-room R u (container f) h a s body = go (run o body (front f) 0 .ended) refl
+        (fair-seq o f (item Item.align) h (fair-item o Item.align tt) body 0 (omega arith))
+      where
+        xs : List ℕ
+        xs = run o body (front f) 0 .shown
+
+        go : (z : Ending) → run o body (front f) 0 .ended ≡ z → FairEnd 0 (8 * length body) 0 (length xs) z
+            → (inside-count (opened R a s body xs z) ≤ 8 * length body + 13) × (2 * length (opened R a s body xs z .walk .tags) ≤ length body)
+        go (Fault e) eq v = (omega arith, omega arith)
+        go (At p) eq v =
+            let l : (0 ≤ p) × (p ≤ 8 * length body) = run-le o body (front f) 0 p (omega arith) eq in
+            let i : Room (length (drop (p / 8) body)) (R (inside a) (s + p / 8) (drop (p / 8) body)) = u (inside a) (s + p / 8) (drop (p / 8) body) in
+            (omega (arith, l .1, i .count, length-drop (p / 8) body), omega (arith, i .tags, length-drop (p / 8) body))
+
+    after-room : (e : Bool) (c : Owner) (a : ℕ) (r : List ℕ) (next : ℕ → List ℕ → Walk) → Room (length r) (next a r) → Room (length r) (afterTag e c a r next)
+    after-room false c a r next u = u
+    after-room true c a [] next u = record { count = omega arith; tags = omega arith }
+    after-room true c a (x ∷ r) next u = record { count = omega arith; tags = omega arith }
+
+    -- a tag whose header and body have n bytes, and what follows it in m bytes
+    then-room : (d code a size len m : ℕ) (i : Inside) (w : Walk) → 2 ≤ size → inside-count i ≤ 8 * len + 13 → 2 * length (i .walk .tags) ≤ len → Room m w
+        → Room (size + len + m) (tagThen d code a size len i w)
+    then-room d code a size len m i w l h k u = go (i .walk .ended)
+      where
+        t : Tag
+        t = record { depth = d; code = code; place = a; size = size; length = len; state = i .state; values = i .values }
+
+        go : (z : Outcome) → Room (size + len + m) (chain (t ∷ i .walk .tags) z w)
+        go (fault e n) = record { count = omega (arith, length-append (i .values) (numbers (i .walk .tags))); tags = omega arith }
+        go whole = record {
+          count = omega (
+            arith,
+            u .count,
+            length-append (i .values) (numbers (i .walk .tags ++ w .tags)),
+            ap length (numbers-append (i .walk .tags) (w .tags)),
+            length-append (numbers (i .walk .tags)) (numbers (w .tags)),
+          );
+          tags = omega (arith, u .tags, length-append (i .walk .tags) (w .tags));
+        }
+
+    pub walk-room : (k left : ℕ) (c : Owner) (a : ℕ) (r : List ℕ) → Room (length r) (walk o class k left c a r)
+    unfolding walk
+    walk-room zero left c a r = record { count = omega arith; tags = omega arith }
+    walk-room (suc k) left c a [] = record { count = omega arith; tags = omega arith }
+    walk-room (suc k) left c a (x ∷ r) = one (λ left c a r. walk-room k left c a r) (readHead class left (x ∷ r)) (head-fits class left (x ∷ r))
+      where
+        R : ℕ → Owner → ℕ → List ℕ → Walk
+        R = walk o class k
+
+        one : ((left : ℕ) (c : Owner) (a : ℕ) (r : List ℕ) → Room (length r) (R left c a r)) → (g : Head) → Fits class left (x ∷ r) g
+            → Room (length (x ∷ r)) (oneTag o class R left c a (x ∷ r) g)
+        one u (noHead e) h = record { count = omega arith; tags = omega arith }
+        one u (head code len size) h =
+            let body : List ℕ = take len (drop size (x ∷ r)) in
+            let n : length body ≡ len = length-take-le len (drop size (x ∷ r)) (rw length-drop (omega (arith, h .1))) in
+            let m : size + len + length (drop (size + len) (x ∷ r)) ≡ length (x ∷ r) = rw length-drop (omega (arith, h .1)) in
+            let v : (inside-count (within o (R (pred left)) (class code) a (a + size) body) ≤ 8 * length body + 13) × (2 * length (within o (R (pred left)) (class code) a (a + size) body .walk .tags) ≤ length body) =
+            within-room (R (pred left)) (λ c a r. u (pred left) c a r) (class code) (fair code) a (a + size) body in
+            subst (λ (n : ℕ). Room n (oneTag o class R left c a (x ∷ r) (head code len size))) m
+            (then-room (8 - left) code a size len (length (drop (size + len) (x ∷ r))) (within o (R (pred left)) (class code) a (a + size) body)
+            (afterTag (isEnd (class code)) c (a + size + len) (drop (size + len) (x ∷ r)) (R left c)) (h .0) (omega (arith, v .0)) (omega (arith, v .1))
+            (after-room (isEnd (class code)) c (a + size + len) (drop (size + len) (x ∷ r)) (R left c) (u left c (a + size + len) (drop (size + len) (x ∷ r)))))
+
+  -- at a level: a list, and the body of a tag that is read
+  pub list-room : (level left : ℕ) (c : Owner) (a : ℕ) (r : List ℕ) → Room (length r) (walkList o (classOf level) left c a r)
+  list-room level left c a r = walk-room (classOf level) (λ code. fair-class level code) (length r) left c a r
+
+  pub known-room : (level code : ℕ) (y : Body) (b : List ℕ) → classOf level code ≡ known y → length (readBody o y b .shown) ≤ 8 * length b + 2
+  known-room level code y b e = body-room y (rw e at (fair-class level code)) b
+
+  -- ---- files
+  abbrev FileRoom : List ℕ → Walk → Outcome → Type 0
+  FileRoom f w whole = (9 ≤ length f) × Room (length (drop 9 f)) w
+  FileRoom f w (fault e n) = Unit {0}
+
+  file-room : (level : ℕ) (f : List ℕ) → FileRoom f (walkFile o level f) (walkFile o level f .ended)
+  unfolding walkFile
+  file-room level f = go (eqb (startFault level f) 0) refl
+    where
+      w : Walk
+      w = walkList o (classOf level) 8 file 9 (drop 9 f)
+
+      good : 9 ≤ length f → (z : Outcome) → FileRoom f w z
+      good l (fault e n) = tt
+      good l whole = (l, walk-room (classOf level) (λ code. fair-class level code) (length (drop 9 f)) 8 file 9 (drop 9 f))
+
+      go : (c : Bool) → eqb (startFault level f) 0 ≡ c → FileRoom f (pick c w (broken (startFault level f) 0)) (pick c w (broken (startFault level f) 0) .ended)
+      go false e = tt
+      go true e = good (long-file level f (eqb-true (startFault level f) 0 e)) (w .ended)
+
+  -- the table of a file of n bytes has at most 8 × n numbers
+  pub table-room : (level : ℕ) (f t : List ℕ) → readFile o level f ≡ gives t → length t ≤ 8 * length f
+  unfolding readFile
+  table-room level f t h = go (walkFile o level f .ended) (file-room level f) h
+    where
+      go : (z : Outcome) → FileRoom f (walkFile o level f) z → result (table f (walkFile o level f)) z ≡ gives t → length t ≤ 8 * length f
+      go (fault e n) u h = absurd (let z : _≡_ {A = ℕ} 0 1 = cc in omega arith)
+      go whole u h = let q : t ≡ table f (walkFile o level f) = cc in rw q (omega (arith, u .0, u .1 .count, length-drop 9 f))
+
+  tag-table-length : (ts : List Tag) → length (tagTable ts) ≡ 5 * length ts
+  tag-table-length [] = refl
+  tag-table-length (t ∷ ts) = omega (arith, tag-table-length ts)
+
+  -- and its tag table at most 5 × n
+  pub tags-room : (level : ℕ) (f t : List ℕ) → readTags o level f ≡ gives t → length t ≤ 5 * length f
+  unfolding readTags
+  tags-room level f t h = go (walkFile o level f .ended) (file-room level f) h
+    where
+      go : (z : Outcome) → FileRoom f (walkFile o level f) z → result (tagTable (walkFile o level f .tags)) z ≡ gives t → length t ≤ 5 * length f
+      go (fault e n) u h = absurd (let z : _≡_ {A = ℕ} 0 1 = cc in omega arith)
+      go whole u h = let q : t ≡ tagTable (walkFile o level f .tags) = cc in rw q (omega (arith, u .0, u .1 .tags, length-drop 9 f, tag-table-length (walkFile o level f .tags)))

@@ -1,0 +1,223 @@
+-- Document 01, 'File and tags', sentence by sentence; and from 'What the mark covers' the class of each code at each level.
+-- Reading a tag list gives a walk: the tags in file order, and how it ended.
+use Prim.Native.Nat.{ℕ, zero, suc, pred, _+_, _-_, _*_, _/_, _%_}
+use mathlib.Core.List.{List, [], _∷_, _++_}
+use mathlib.Core.Bool.{Bool, true, false}
+use lib.ListN.{length, getD, take, drop}
+use lib.Dec.{ltb, leb, eqb}
+use Rattle.format.specs.Tests.{pick, _and_}
+use Rattle.format.specs.Bits.{Order}
+use Rattle.format.specs.Reading.{Ending, At, Fault}
+use Rattle.format.specs.Formats.{Format, _▸_}
+use Rattle.format.specs.Items.{u32, byte, run}
+use Rattle.format.specs.Bodies.{fontTables, compositionAttributes, solidColor, imageReference, compositionReference, layerAttributes, textPathOption, maskBlock, aligned, Body, fixed, attributes, readBody}
+
+-- ---- Header, 9 bytes: "PAG", version byte (1), length of the whole file as a little-endian 32-bit number, compression byte (reserved: any
+-- value is taken and kept). A file has at most 16,777,216 bytes. Tags at depth 0 follow (`walkFile` of Reasons).
+
+-- the little-endian numbers at the start of r
+abbrev pub le16 : List ℕ → ℕ
+le16 r = getD r 0 0 + 256 * getD r 1 0
+
+abbrev pub le32 : List ℕ → ℕ
+le32 r = le16 r + 65536 * (getD r 2 0 + 256 * getD r 3 0)
+
+abbrev pub signatureRight : List ℕ → Bool
+signatureRight f = eqb (getD f 0 0 + 256 * getD f 1 0 + 65536 * getD f 2 0) (0x50 + 256 * 0x41 + 65536 * 0x47)
+
+abbrev pub versionRight : List ℕ → Bool
+versionRight f = eqb (getD f 3 0) 1
+
+abbrev pub lengthRight : List ℕ → Bool
+lengthRight f = eqb (le32 (drop 4 f)) (length f) and leb (length f) 16777216
+
+abbrev pub compression : List ℕ → ℕ
+compression f = getD f 8 0
+
+-- ---- Tag header: a little-endian 16-bit number; code = number / 64, length = number % 64. Length 63 means that a little-endian 32-bit body
+-- length follows; it must be 63 or more (8). A header that the end of its list's room cuts is 6.
+
+-- code, body length and header size; or a reason
+pub data Head : Type 0 where
+  head : ℕ → ℕ → ℕ → Head
+  noHead : ℕ → Head
+
+-- r is the rest of the list's room
+abbrev pub rawHead : List ℕ → Head
+rawHead r =
+    pick (ltb (length r) 2) (noHead 6)
+    (pick (eqb (le16 r % 64) 63)
+    (pick (ltb (length r) 6) (noHead 6) (pick (ltb (le32 (drop 2 r)) 63) (noHead 8) (head (le16 r / 64) (le32 (drop 2 r)) 6)))
+    (head (le16 r / 64) (le16 r % 64) 2))
+
+-- ---- A tag list ends with End: code 0, length 0. Tags 2 and 5 are containers. Body of 2: id (U32), then a tag list. Body of 5: type (one
+-- byte, any), id (U32), then a tag list.
+abbrev pub vectorComposition : Format
+vectorComposition = u32
+
+abbrev pub layerBlock : Format
+layerBlock = byte ▸ u32
+
+-- what a tag is: carried as bytes; End; a container, with what stands before its list; read
+pub data Class : Type 0 where
+  opaque end : Class
+  container : Format → Class
+  known : Body → Class
+
+-- the codes 0 to 14
+abbrev pub codes : List Class
+codes =
+    end
+    ∷ known (fixed fontTables)
+    ∷ container vectorComposition
+    ∷ known (fixed compositionAttributes)
+    ∷ opaque
+    ∷ container layerBlock
+    ∷ known (attributes layerAttributes)
+    ∷ known (fixed solidColor)
+    ∷ opaque
+    ∷ known (attributes textPathOption)
+    ∷ opaque
+    ∷ known (fixed imageReference)
+    ∷ known (fixed compositionReference)
+    ∷ opaque
+    ∷ known (attributes maskBlock)
+    ∷ []
+
+-- ---- ('What the mark covers') Every other tag is opaque; listed tags with a code above the level are opaque too.
+unfoldable pub classOf : ℕ → ℕ → Class
+classOf level code = pick (ltb level code) opaque (getD codes code opaque)
+
+abbrev pub isEnd : Class → Bool
+isEnd opaque = false
+isEnd end = true
+isEnd (container f) = false
+isEnd (known y) = false
+
+abbrev pub isContainer : Class → Bool
+isContainer opaque = false
+isContainer end = false
+isContainer (container f) = true
+isContainer (known y) = false
+
+-- ---- A container at depth 8 is refused (12). Before that: the body is longer than the list's rest (9); End has a body (10).
+
+-- left: how many depths may still lie below this list
+abbrev pub passes : (ℕ → Class) → ℕ → List ℕ → Head → Head
+passes class left r (noHead e) = noHead e
+passes class left r (head code len size) =
+    pick (ltb (length (drop size r)) len) (noHead 9)
+    (pick (isEnd (class code) and ltb 0 len) (noHead 10)
+    (pick (isContainer (class code) and eqb left 0) (noHead 12)
+    (head code len size)))
+
+abbrev pub readHead : (ℕ → Class) → ℕ → List ℕ → Head
+readHead class left r = passes class left r (rawHead r)
+
+-- ---- What a walk gives.
+
+-- size: of the header. length: of the body. state: 1 read, 0 opaque
+pub record Tag : Type 0 where
+  pub depth : ℕ
+  pub code : ℕ
+  pub place : ℕ
+  pub size : ℕ
+  pub length : ℕ
+  pub state : ℕ
+  pub values : List ℕ
+
+-- whole: the list filled its room exactly. fault: a reason and its second number
+pub data Outcome : Type 0 where
+  whole : Outcome
+  fault : ℕ → ℕ → Outcome
+
+-- a tag whose header passed is in the list, also if its body then faults: with the values shown up to there
+pub record Walk : Type 0 where
+  pub tags : List Tag
+  pub ended : Outcome
+
+-- no tags, and this outcome
+abbrev pub noTags : Outcome → Walk
+noTags z = record { tags = []; ended = z }
+
+abbrev pub broken : ℕ → ℕ → Walk
+broken e n = noTags (fault e n)
+
+-- the tags ts, which ended so, and if that is whole what follows
+abbrev pub chain : List Tag → Outcome → Walk → Walk
+chain ts whole w = record { tags = ts ++ w .tags; ended = w .ended }
+chain ts (fault e n) w = record { tags = ts; ended = fault e n }
+
+-- ---- The list must fill its room exactly.
+
+-- whose list it is: the file's own, or that of the container at this place
+pub data Owner : Type 0 where
+  file : Owner
+  inside : ℕ → Owner
+
+-- the second number of 7 and 11: the container's place; at depth 0 the place a where it happened
+abbrev pub blame : Owner → ℕ → ℕ
+blame file a = a
+blame (inside c) a = c
+
+-- after End the room is used up, else 11
+abbrev pub atEnd : Owner → ℕ → List ℕ → Walk
+atEnd c a [] = noTags whole
+atEnd c a (x ∷ r) = broken 11 (blame c a)
+
+-- after a tag: nothing more if it is End, else the rest r of the list, at place a
+abbrev pub afterTag : Bool → Owner → ℕ → List ℕ → (ℕ → List ℕ → Walk) → Walk
+afterTag true c a r next = atEnd c a r
+afterTag false c a r next = next a r
+
+-- ---- Lists nest, and any tag may stand in any list.
+
+-- what stands in a tag: its state, its values, and the walk of the list inside it
+pub record Inside : Type 0 where
+  pub state : ℕ
+  pub values : List ℕ
+  pub walk : Walk
+
+-- a fault of an item has the tag's place a
+abbrev pub endAt : ℕ → Ending → Outcome
+endAt a (At p) = whole
+endAt a (Fault e) = fault e a
+
+-- a container's own items, and the skip to the whole byte where its list starts
+abbrev pub front : Format → Format
+front f = f ▸ aligned
+
+-- the container at place a, whose own numbers are xs; its list, read by R, has the rest of the body, which stands at s
+abbrev pub opened : (Owner → ℕ → List ℕ → Walk) → ℕ → ℕ → List ℕ → List ℕ → Ending → Inside
+opened R a s body xs (At p) = record { state = 1; values = xs; walk = R (inside a) (s + p / 8) (drop (p / 8) body) }
+opened R a s body xs (Fault e) = record { state = 1; values = xs; walk = broken e a }
+
+-- by class: the tag at place a, with its body at s
+abbrev pub within : Order → (Owner → ℕ → List ℕ → Walk) → Class → ℕ → ℕ → List ℕ → Inside
+within o R opaque a s body = record { state = 0; values = body; walk = noTags whole }
+within o R end a s body = record { state = 1; values = []; walk = noTags whole }
+within o R (known y) a s body = record { state = 1; values = readBody o y body .shown; walk = noTags (endAt a (readBody o y body .ended)) }
+within o R (container f) a s body = opened R a s body (run o body (front f) 0 .shown) (run o body (front f) 0 .ended)
+
+-- the tag with this header and what stands in it, and the walk w of what follows it
+abbrev pub tagThen : ℕ → ℕ → ℕ → ℕ → ℕ → Inside → Walk → Walk
+tagThen d code a size len i w =
+    chain (record { depth = d; code = code; place = a; size = size; length = len; state = i .state; values = i .values } ∷ i .walk .tags) (i .walk .ended) w
+
+-- one tag, by its header, and the rest of its list; lists are read by R
+abbrev pub oneTag : Order → (ℕ → Class) → (ℕ → Owner → ℕ → List ℕ → Walk) → ℕ → Owner → ℕ → List ℕ → Head → Walk
+oneTag o class R left c a r (noHead e) = broken e a
+oneTag o class R left c a r (head code len size) =
+    tagThen (8 - left) code a size len (within o (R (pred left)) (class code) a (a + size) (take len (drop size r)))
+    (afterTag (isEnd (class code)) c (a + size + len) (drop (size + len) r) (R left c))
+
+-- the list at place a, whose room is r. Room that is used up without End is 7.
+-- k bounds the number of tags; it does not matter if it is at least the room's length: `list-one` of proofs/ListLaws is this rule without it.
+unfoldable pub walk : Order → (ℕ → Class) → ℕ → ℕ → Owner → ℕ → List ℕ → Walk
+walk o class zero left c a r = broken 7 (blame c a)
+walk o class (suc k) left c a [] = broken 7 (blame c a)
+walk o class (suc k) left c a (x ∷ r) = oneTag o class (walk o class k) left c a (x ∷ r) (readHead class left (x ∷ r))
+
+-- a room of n bytes has fewer than n tags
+abbrev pub walkList : Order → (ℕ → Class) → ℕ → Owner → ℕ → List ℕ → Walk
+walkList o class left c a r = walk o class (length r) left c a r

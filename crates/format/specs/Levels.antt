@@ -1,0 +1,58 @@
+-- Demand 3, of two levels lo ≤ hi of one file: a lower level shows the same as a higher one, except that each outermost tag above it stands
+-- opaque; their refusals agree, but for places at or inside such tags.
+use Prim.Native.Nat.{ℕ, _+_, _≤_, _<_}
+use mathlib.Core.List.{List, [], _∷_}
+use mathlib.Core.Path.{_≡_}
+use lib.ListN.{take, drop}
+use lib.Dec.{ltb}
+use Rattle.format.specs.Tests.{pick}
+use Rattle.format.specs.Bits.{Order}
+use Rattle.format.specs.FileAndTags.{Tag, Outcome, whole, fault}
+use Rattle.format.specs.Reasons.{walkFile}
+
+-- the place after a tag
+abbrev pub endOf : Tag → ℕ
+endOf t = t .place + t .size + t .length
+
+-- the tag made opaque: state 0, and its values are the plain bytes of its body in the file f
+abbrev pub veil : List ℕ → Tag → Tag
+veil f t = record {
+  depth = t .depth;
+  code = t .code;
+  place = t .place;
+  size = t .size;
+  length = t .length;
+  state = 0;
+  values = take (t .length) (drop (t .place + t .size) f);
+}
+
+-- the tags in file order: those that start before e stand inside the last tag that was hidden, and are left out;
+-- a tag with a code above the level is hidden, up to the place after it; the others stay
+abbrev pub hideFrom : ℕ → List ℕ → ℕ → List Tag → List Tag
+hideFrom level f e [] = []
+hideFrom level f e (t ∷ ts) =
+    pick (ltb (t .place) e) (hideFrom level f e ts)
+    (pick (ltb level (t .code)) (veil f t ∷ hideFrom level f (endOf t) ts)
+    (t ∷ hideFrom level f e ts))
+
+-- each outermost tag with a code above the level is made opaque, and the tags inside it are left out
+abbrev pub hide : ℕ → List ℕ → List Tag → List Tag
+hide level f ts = hideFrom level f 0 ts
+
+-- place n is at or inside a tag of ts that has a code above the level
+pub data InHidden (level n : ℕ) : List Tag → Type 0 where
+  here : {t : Tag} {ts : List Tag} → level < t .code → t .place ≤ n → n < endOf t → InHidden level n (t ∷ ts)
+  later : {t : Tag} {ts : List Tag} → InHidden level n ts → InHidden level n (t ∷ ts)
+
+-- the higher level refuses: with the same reason and number (e, n), or with a number at or inside a tag above the lower level
+pub data Refuses (lo : ℕ) (ts : List Tag) (e n : ℕ) : Outcome → Type 0 where
+  alike : Refuses lo ts e n (fault e n)
+  apart : {e′ n′ : ℕ} → InHidden lo n′ ts → Refuses lo ts e n (fault e′ n′)
+
+pub record Levels (o : Order) (lo hi : ℕ) (f : List ℕ) : Type 0 where
+  -- (a) where the higher level accepts, the lower does, and shows the higher's tags with those above it hidden
+  pub accepted : walkFile o hi f .ended ≡ whole → walkFile o lo f ≡ record { tags = hide lo f (walkFile o hi f .tags); ended = whole }
+  -- (b) where the lower level refuses, the higher does: for the same reason with the same number, or at or inside a tag above the lower level
+  pub refused : (e n : ℕ) → walkFile o lo f .ended ≡ fault e n → Refuses lo (walkFile o lo f .tags) e n (walkFile o hi f .ended)
+  -- (c) where only the higher refuses, its number is at or inside a tag above the lower level
+  pub only : (e n : ℕ) → walkFile o lo f .ended ≡ whole → walkFile o hi f .ended ≡ fault e n → InHidden lo n (walkFile o lo f .tags)

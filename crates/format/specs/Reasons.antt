@@ -1,0 +1,107 @@
+-- Document 01, 'Reasons': the answers of the three calls. The level, the file, the table and the lent memory are arbitrary.
+--
+-- No. | given when                                          | second number             | where
+--   1 | level above 1023                                    | 0                         | `startFault`, `Writes`
+--   2 | fewer than 9 bytes                                  | 0                         | `startFault`
+--   3 | signature wrong                                     | 0                         | `startFault`
+--   4 | version not 1                                       | 0                         | `startFault`
+--   5 | length field wrong, or over the limit               | 0                         | `startFault`
+--   6 | the end of its list's room cuts a header            | its place                 | `rawHead` of FileAndTags
+--   7 | list room is used up without End                    | container's place; file   | `walk` of FileAndTags
+--     |                                                     | length at depth 0         |
+--   8 | long header, length below 63                        | tag's place               | `rawHead` of FileAndTags
+--   9 | body longer than the list's rest                    | tag's place               | `passes` of FileAndTags
+--  10 | End with a body                                     | tag's place               | `passes` of FileAndTags
+--  11 | bytes after End                                     | container's place; first  | `atEnd` of FileAndTags
+--     |                                                     | such byte at depth 0      |
+--  12 | container at depth 8                                | tag's place               | `passes` of FileAndTags
+--  13 | an item runs past the body                          | tag's place               | `readVar`, `readLE`, `showText`, `readUB`, `readFlag` of Items
+--  14 | spelling of U32, U64, I32                           | tag's place               | `readVar`, `carry`, `notOne` of Items
+--  15 | skipped bit not zero                                | tag's place               | `readAlign` of Items
+--  16 | unlisted enum, Bool, interpolation 0, byte over 255 | tag's place               | `enum` of Items; `blendMode`, `interpolation`, `values` of Bodies
+--  17 | count outside its range                             | tag's place               | `count` of Items
+--  18 | body of a read tag not used up                      | tag's place               | `usedUp` of Bodies
+--  19 | table too short                                     | numbers needed            | `into`
+--  20 | writer: no file at this level has this table        | 0                         | `Writes`
+--  21 | writer: output too short                            | bytes needed              | `Writes`
+-- (13 to 18 get the tag's place from `endAt` and `opened`, a header's reason from `oneTag`, 7 and 11 their number from `blame`, all of FileAndTags.)
+use Prim.Native.Nat.{ℕ, _≤_, _<_}
+use mathlib.Core.List.{List, _++_}
+use mathlib.Core.Path.{_≡_}
+use lib.ListN.{length, drop}
+use lib.Dec.{ltb, leb, eqb}
+use Rattle.format.specs.Tests.{pick}
+use Rattle.format.specs.Bits.{Order, AllBytes}
+use Rattle.format.specs.FileAndTags.{signatureRight, versionRight, lengthRight, classOf, Outcome, whole, fault, Walk, broken, file, walkList}
+use Rattle.format.specs.TableOfNumbers.{table, tagTable}
+
+-- ---- 1 to 5 are tried in this order (0: none of them).
+unfoldable pub startFault : ℕ → List ℕ → ℕ
+startFault level f =
+    pick (ltb 1023 level) 1
+    (pick (ltb (length f) 9) 2
+    (pick (signatureRight f)
+    (pick (versionRight f)
+    (pick (lengthRight f) 0
+    5)
+    4)
+    3))
+
+-- ---- After that the first fault in file order counts: the walk of the tags at depth 0, which follow the header's 9 bytes; 8 depths may lie
+-- below them. At one tag header 6 to 10 and then 12 are tried in this order (`readHead` of FileAndTags).
+-- For an item: skipped bits (15), its bytes (13), its spelling (14), its range (16, 17) (`run` of Items).
+unfoldable pub walkFile : Order → ℕ → List ℕ → Walk
+walkFile o level f = pick (eqb (startFault level f) 0) (walkList o (classOf level) 8 file 9 (drop 9 f)) (broken (startFault level f) 0)
+
+-- what a file gives: the numbers of a table, or a reason and its second number
+pub data Result : Type 0 where
+  gives : List ℕ → Result
+  refuses : ℕ → ℕ → Result
+
+abbrev pub result : List ℕ → Outcome → Result
+result ns whole = gives ns
+result ns (fault e n) = refuses e n
+
+-- its table of numbers, and its tag table
+unfoldable pub readFile : Order → ℕ → List ℕ → Result
+readFile o level f = result (table f (walkFile o level f)) (walkFile o level f .ended)
+
+unfoldable pub readTags : Order → ℕ → List ℕ → Result
+readTags o level f = result (tagTable (walkFile o level f .tags)) (walkFile o level f .ended)
+
+-- ---- An answer is one of two cases: accepted with its count, or refused with reason and number.
+pub data Answer : Type 0 where
+  accepted : ℕ → Answer
+  refused : ℕ → ℕ → Answer
+
+-- what a call leaves behind: its answer, and what the lent memory then holds
+pub record Left : Type 0 where
+  pub answer : Answer
+  pub lent : List ℕ
+
+-- ---- An acceptance gives the count of numbers or bytes used; lent memory past these stays. A refusal changes nothing lent.
+abbrev pub accepts : List ℕ → List ℕ → Left
+accepts m ns = record { answer = accepted (length ns); lent = ns ++ drop (length ns) m }
+
+abbrev pub refusesWith : List ℕ → ℕ → ℕ → Left
+refusesWith m e n = record { answer = refused e n; lent = m }
+
+-- ---- 19 comes only when nothing else is wrong: the numbers do not fit into the lent memory m. This is the promise of `read` and of `tags`:
+-- `read` leaves `into m (readFile high level f)`, and `tags` leaves `into m (readTags high level f)`.
+abbrev pub into : List ℕ → Result → Left
+into m (gives ns) = pick (leb (length ns) (length m)) (accepts m ns) (refusesWith m 19 (length ns))
+into m (refuses e n) = refusesWith m e n
+
+-- ---- The writer tries 1, 20, 21; the whole lent table slice is the table.
+
+-- f is a file that this level reads as exactly the table t
+pub record FileOf (o : Order) (level : ℕ) (t f : List ℕ) : Type 0 where
+  pub bytes : AllBytes f
+  pub reads : readFile o level f ≡ gives t
+
+-- what `write` may leave, by the reader's definition alone: for the table t and the lent output m
+pub data Writes (o : Order) (level : ℕ) (t m : List ℕ) : Left → Type 0 where
+  tooHigh : 1023 < level → Writes o level t m (refusesWith m 1 0)
+  impossible : level ≤ 1023 → ((f : List ℕ) → FileOf o level t f → ⊥) → Writes o level t m (refusesWith m 20 0)
+  tooShort : (f : List ℕ) → FileOf o level t f → length m < length f → Writes o level t m (refusesWith m 21 (length f))
+  written : (f : List ℕ) → FileOf o level t f → length f ≤ length m → Writes o level t m (accepts m f)
