@@ -8,7 +8,7 @@ use Rattle.format.specs.Formats.{Item, Format, item, _▸_, times}
 use Rattle.format.specs.Items.{readItem, readVar, readFlag, run, u32, i32, path}
 use Rattle.format.specs.Bodies.{maskBlock, readBlock, allFlags, rows, Body, fixed, attributes, readPart, readBody}
 use Rattle.format.specs.FileAndTags.{classOf, walk}
-use Rattle.format.specs.Reasons.{startFault, walkFile, Result, gives, refuses, readFile}
+use Rattle.format.specs.Reasons.{startFault, walkFile, Result, gives, refuses, readFile, readTags, accepted, Left, refusesWith, into}
 
 -- a file at a level; a whole body; a format that need not use up its bytes
 pub data Case : Type 0 where
@@ -30,6 +30,9 @@ pub record Example : Type 0 where
   pub given : Case
   pub gives : Result
 
+abbrev file1 : List ℕ
+file1 = 0x50 ∷ 0x41 ∷ 0x47 ∷ 0x01 ∷ 0x0B ∷ 0x00 ∷ 0x00 ∷ 0x00 ∷ 0x00 ∷ 0x00 ∷ 0x00 ∷ []
+
 abbrev file2 : List ℕ
 file2 =
     0x50 ∷ 0x41 ∷ 0x47 ∷ 0x01 ∷ 0x13 ∷ 0x00 ∷ 0x00 ∷ 0x00 ∷ 0x00 ∷ 0xC6 ∷ 0x01 ∷ 0xFF ∷ 0x80 ∷ 0x00 ∷ 0x80 ∷ 0x0A ∷ 0x03 ∷ 0x00 ∷ 0x00 ∷ []
@@ -38,7 +41,7 @@ abbrev pub examples : List Example
 examples =
     -- P1
     record {
-      given = file 1023 (0x50 ∷ 0x41 ∷ 0x47 ∷ 0x01 ∷ 0x0B ∷ 0x00 ∷ 0x00 ∷ 0x00 ∷ 0x00 ∷ 0x00 ∷ 0x00 ∷ []);
+      given = file 1023 file1;
       gives = gives (0 ∷ 0 ∷ 1 ∷ 0 ∷ []);
     }
     -- P2 and P3
@@ -77,3 +80,33 @@ examples =
 pub P1-to-P11 : map (λ (x : Example). read (x .given)) examples ≡ map (λ (x : Example). x .gives) examples
 unfolding readFile walkFile startFault classOf walk readBody readPart readBlock allFlags rows run times readItem readVar readFlag ub bitAt
 P1-to-P11 = refl
+
+-- the room: P1 needs four numbers, and its tag table five; what is lent past these stays, and a refusal changes nothing
+pub record RoomExample : Type 0 where
+  pub lent : List ℕ
+  pub table : Left
+  pub tagTable : Left
+
+abbrev pub roomExamples : List RoomExample
+roomExamples =
+    record { lent = []; table = refusesWith [] 19 4; tagTable = refusesWith [] 19 5 }
+    ∷ record { lent = 9 ∷ 9 ∷ 9 ∷ []; table = refusesWith (9 ∷ 9 ∷ 9 ∷ []) 19 4; tagTable = refusesWith (9 ∷ 9 ∷ 9 ∷ []) 19 5 }
+    ∷ record {
+      lent = 9 ∷ 9 ∷ 9 ∷ 9 ∷ [];
+      table = record { answer = accepted 4; lent = 0 ∷ 0 ∷ 1 ∷ 0 ∷ [] };
+      tagTable = refusesWith (9 ∷ 9 ∷ 9 ∷ 9 ∷ []) 19 5;
+    }
+    ∷ record {
+      lent = 9 ∷ 9 ∷ 9 ∷ 9 ∷ 9 ∷ 9 ∷ [];
+      table = record { answer = accepted 4; lent = 0 ∷ 0 ∷ 1 ∷ 0 ∷ 9 ∷ 9 ∷ [] };
+      tagTable = record { answer = accepted 5; lent = 0 ∷ 0 ∷ 9 ∷ 2 ∷ 0 ∷ 9 ∷ [] };
+    }
+    ∷ []
+
+pub rooms-read : map (λ (x : RoomExample). into (x .lent) (readFile high 1023 file1)) roomExamples ≡ map (λ (x : RoomExample). x .table) roomExamples
+unfolding readFile walkFile startFault classOf walk
+rooms-read = refl
+
+pub rooms-tags : map (λ (x : RoomExample). into (x .lent) (readTags high 1023 file1)) roomExamples ≡ map (λ (x : RoomExample). x .tagTable) roomExamples
+unfolding readTags walkFile startFault classOf walk
+rooms-tags = refl

@@ -15,7 +15,7 @@ use Rattle.format.specs.Bits.{Order, ub}
 use Rattle.format.specs.Reading.{shows, stop}
 use Rattle.format.specs.Formats.{Item, Format}
 use Rattle.format.specs.Items.{signExtend, skipped, room, Num, num, bad, showNum, mapNum, readUB, carry, readVar, readItem, sign, notOne, readLE, above, readFlag, exist, Text, text, cut, showText, addText, readText, run}
-use Rattle.format.specs.WritingItems.{dig, unsext, wrote, cannot, Bits, spelt, none, before, spellVar, undo, put, single, spellUB, writeItem, unsign, spellI32, spellLE, spellFlag, textByte, spellTxt, takeText}
+use Rattle.format.specs.WritingItems.{dig, unextend, wrote, cannot, Bits, spelt, none, before, spellVar, undo, put, single, spellUB, writeItem, unsign, spellI32, spellLE, spellFlag, textByte, spellTxt, takeText}
 use Rattle.format.specs.WritingFormats.{unrun}
 use Rattle.format.proofs.BitLaws.{Has, ub-lt, length-dig, has-ub, ub-has}
 use Rattle.format.proofs.Trip.{Trip, ThereIf, BackIf, has-le, has-append, has-split, trip-fmt}
@@ -112,15 +112,15 @@ module _ (o : Order) (n : ℕ) where
   num-ub = record { there = ub-there; back = ub-back }
 
 -- SB: for every width
-unsext-sext : (n u : ℕ) → unsext n (signExtend n u) ≡ u
-unsext-sext n u = go (ltb (u * 2) (2 ^ n)) refl
+unextend-extend : (n u : ℕ) → unextend n (signExtend n u) ≡ u
+unextend-extend n u = go (ltb (u * 2) (2 ^ n)) refl
   where
-    go : (c : Bool) → ltb (u * 2) (2 ^ n) ≡ c → unsext n (signExtend n u) ≡ u
+    go : (c : Bool) → ltb (u * 2) (2 ^ n) ≡ c → unextend n (signExtend n u) ≡ u
     go true e = rw (e, e)
     go false e = rw (e, le-ltb ((u + (2 ^ 64 - 2 ^ n)) * 2) (2 ^ n) (omega (arith, ltb-false (u * 2) (2 ^ n) e))) (omega arith)
 
-pub num-sb : (o : Order) (n : ℕ) → NumTrip o (λ b p. mapNum (signExtend n) (readUB o b p n)) (undo (signExtend n) (unsext n) (spellUB o n))
-num-sb o n = num-map o _ _ (signExtend n) (unsext n) (λ b p v q e. unsext-sext n v) (num-ub o n)
+pub num-sb : (o : Order) (n : ℕ) → NumTrip o (λ b p. mapNum (signExtend n) (readUB o b p n)) (undo (signExtend n) (unextend n) (spellUB o n))
+num-sb o n = num-map o _ _ (signExtend n) (unextend n) (λ b p v q e. unextend-extend n v) (num-ub o n)
 
 pub num-width : (o : Order) → NumTrip o (λ b p. mapNum suc (readUB o b p 5)) (undo suc pred (spellUB o 5))
 num-width o = num-map o _ _ suc pred (λ b p v q e. refl) (num-ub o 5)

@@ -1,5 +1,6 @@
 -- The theorems: document 01's examples; the round trip; two levels of one file; how much room tables need; what opaque bytes reach.
 pub mod Examples
+pub mod Tested
 pub mod RoundTrip
 pub mod Promises
 pub mod LevelLaws

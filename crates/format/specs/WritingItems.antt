@@ -46,8 +46,8 @@ abbrev pub undo : (ℕ → ℕ) → (ℕ → ℕ) → (ℕ → Bits) → ℕ →
 undo f g s v = pick (eqb (f (g v)) v) (s (g v)) none
 
 -- SB[n]
-abbrev pub unsext : ℕ → ℕ → ℕ
-unsext n v = pick (ltb (v * 2) (2 ^ n)) v (v - (2 ^ 64 - 2 ^ n))
+abbrev pub unextend : ℕ → ℕ → ℕ
+unextend n v = pick (ltb (v * 2) (2 ^ n)) v (v - (2 ^ 64 - 2 ^ n))
 
 -- I32: 2 ^ 63 parts the negative numbers from the others
 abbrev pub unsign : ℕ → ℕ
@@ -96,7 +96,7 @@ takeText o (n ∷ ns) = pick (leb n (length ns)) (put (n ∷ take n ns) (spellTx
 unfoldable pub writeItem : Order → Item → List ℕ → ℕ → Written
 writeItem o Item.align ns p = wrote [] (dig o (skipped p) 0) ns
 writeItem o (Item.UB n) ns p = single (spellUB o n) ns
-writeItem o (Item.SB n) ns p = single (undo (signExtend n) (unsext n) (spellUB o n)) ns
+writeItem o (Item.SB n) ns p = single (undo (signExtend n) (unextend n) (spellUB o n)) ns
 writeItem o Item.width ns p = single (undo suc pred (spellUB o 5)) ns
 writeItem o Item.U32 ns p = single (λ v. spellVar o 15 v 4) ns
 writeItem o Item.U64 ns p = single (λ v. spellVar o 1 v 9) ns

@@ -1,0 +1,83 @@
+"""Checks cases.txt against pag_reference: each expectation, the length field,
+and that write gives back the bytes of each accepted file.
+`check_cases.py FILE` checks another file of cases."""
+
+import os
+import sys
+
+import pag_reference
+
+HERE = os.path.dirname(os.path.abspath(__file__))
+
+
+def repeats(text, number):
+    """Tokens and `token*N` spelled out; number turns a token into an int."""
+    out = []
+    for token in text.split():
+        item, star, count = token.partition('*')
+        out += [number(item)] * (int(count) if star else 1)
+    return out
+
+
+def parse_bytes(text):
+    if any(len(token.split('*')[0]) != 2 for token in text.split()):
+        raise ValueError('not pairs of hex digits: ' + text)
+    return bytes(repeats(text, lambda pair: int(pair, 16)))
+
+
+def parse_expected(text):
+    kind, _, rest = text.partition(' ')
+    numbers = repeats(rest, int)
+    if kind == 'table':
+        return ('table', numbers)
+    if kind == 'refused' and len(numbers) == 2:
+        return ('refused', numbers[0], numbers[1])
+    raise ValueError('not an expectation: ' + text)
+
+
+def load(path=os.path.join(HERE, '..', 'cases.txt')):
+    """[(name, level, bytes, expected, note)] in the file's order."""
+    cases = []
+    with open(path, encoding='utf-8') as lines:
+        for line in lines:
+            name, level, data, expected, note = line.rstrip('\n').split(' | ')
+            cases.append((name, int(level), parse_bytes(data),
+                          parse_expected(expected), note))
+    return cases
+
+
+def length_field_right(data, expected):
+    """The length field is right wherever it is not the point (1 to 5)."""
+    if expected[0] == 'refused' and expected[1] <= 5:
+        return True
+    return int.from_bytes(data[4:8], 'little') == len(data)
+
+
+def disagreements(case):
+    name, level, data, expected, _ = case
+    found = []
+    answer = pag_reference.read(level, data)
+    if answer[:2] != expected if answer[0] == 'table' else answer != expected:
+        found.append('reads as %s, expected %s' % (str(answer)[:300], str(expected)[:300]))
+    if not length_field_right(data, expected):
+        found.append('length field is wrong')
+    if expected[0] == 'table':
+        if pag_reference.write(level, expected[1]) != ('file', data):
+            found.append('write does not give back the file')
+    return ['%s: %s' % (name, text) for text in found]
+
+
+def main():
+    cases = load(*sys.argv[1:2])
+    names = [case[0] for case in cases]
+    found = ['name twice: ' + n for n in sorted(set(names)) if names.count(n) > 1]
+    for case in cases:
+        found += disagreements(case)
+    for text in found:
+        print(text)
+    print('%d cases, %d disagreements' % (len(cases), len(found)))
+    return 1 if found else 0
+
+
+if __name__ == '__main__':
+    sys.exit(main())

@@ -1,0 +1,379 @@
+"""Random valid files, damaged variants of them, and a self-check of
+pag_reference with both. The files are made here from document 01's items as
+strings of bits, without pag_reference's writer."""
+
+import random
+import sys
+
+import pag_reference as pag
+
+COVERED = (0, 1, 2, 3, 5, 6, 7, 9, 11, 12, 14)
+LEAVES = (1, 3, 6, 7, 9, 11, 12, 14)
+
+
+# ------------------------------------------------------------ items as bits
+
+def ub(value, width):
+    return format(value, '0%db' % width)
+
+
+def sb(value, width):
+    return ub(value % (1 << width), width)
+
+
+def pad(bits):
+    return bits + '0' * (-len(bits) % 8)
+
+
+def as_bytes(bits):
+    bits = pad(bits)
+    return bytes(int(bits[i:i + 8], 2) for i in range(0, len(bits), 8))
+
+
+def sized(rng, top_bits):
+    """A random number of at most top_bits bits, each length alike."""
+    return rng.getrandbits(rng.randint(1, top_bits))
+
+
+def spelled(value):
+    bits = ''
+    while value > 127:
+        bits += ub(128 + value % 128, 8)
+        value //= 128
+    return bits + ub(value, 8)
+
+
+def u32(rng):
+    return spelled(sized(rng, 32))
+
+
+def time(rng):
+    return spelled(sized(rng, 64))
+
+
+def i32(rng):
+    d = sized(rng, 32)
+    return spelled(0 if d == 1 else d)
+
+
+def byte(rng):
+    return ub(rng.getrandbits(8), 8)
+
+
+def float_(rng):
+    return ub(rng.getrandbits(32), 32)
+
+
+def bool_(rng):
+    return ub(rng.getrandbits(1), 8)
+
+
+def color(rng):
+    return byte(rng) + byte(rng) + byte(rng)
+
+
+def ratio(rng):
+    return i32(rng) + u32(rng)
+
+
+def blend_mode(rng):
+    return ub(rng.choice(list(range(17)) + list(range(21, 27))), 8)
+
+
+def track_matte(rng):
+    return ub(rng.randint(0, 4), 8)
+
+
+def mask_mode(rng):
+    return ub(rng.randint(0, 7), 8)
+
+
+def signed_fields(rng, width, count):
+    half = 1 << (width - 1)
+    return ''.join(sb(rng.randint(-half, half - 1), width) for _ in range(count))
+
+
+def path(rng):
+    verbs = [rng.randint(0, 7) for _ in range(rng.choice((0, 1, 2, 3, 5, 9)))]
+    width = rng.randint(1, 32)
+    coordinates = sum((0, 2, 2, 1, 1, 4, 4, 6)[verb] for verb in verbs)
+    bits = spelled(len(verbs)) + ''.join(ub(verb, 3) for verb in verbs)
+    return bits + ub(width - 1, 5) + signed_fields(rng, width, coordinates)
+
+
+# ------------------------------------------------------------ bodies
+
+def frame_values(rng, data_type, count):
+    if data_type is bool_:
+        return ''.join(ub(rng.getrandbits(1), 1) for _ in range(count))
+    if data_type is byte:
+        width = rng.randint(1, 32)
+        values = [rng.getrandbits(min(width, 8)) for _ in range(count)]
+        return ub(width - 1, 5) + ''.join(ub(value, width) for value in values)
+    return ''.join(pad(data_type(rng)) for _ in range(count))
+
+
+def keyframed(rng, kind, data_type):
+    frames = rng.choice((1, 1, 2, 3, 4, 7))
+    bits, beziers = spelled(frames), 0
+    if kind == 'Simple':
+        interpolations = [rng.randint(1, 3) for _ in range(frames)]
+        beziers = interpolations.count(2)
+        bits += pad(''.join(ub(one, 2) for one in interpolations))
+    bits += ''.join(time(rng) for _ in range(frames + 1))
+    bits += pad(frame_values(rng, data_type, frames + 1))
+    width = rng.randint(1, 32)
+    return bits + ub(width - 1, 5) + signed_fields(rng, width, 4 * beziers)
+
+
+LAYER = [('BitFlag', None), ('BitFlag', None), ('Value', u32), ('Value', ratio),
+         ('Value', time), ('Value', blend_mode), ('Value', track_matte),
+         ('Simple', float_), ('Fixed', time)]
+TEXT = [('Value', u32), ('Discrete', bool_), ('Discrete', bool_),
+        ('Discrete', bool_), ('Simple', float_), ('Simple', float_)]
+MASK = [('Fixed', u32), ('BitFlag', None), ('Value', mask_mode),
+        ('Simple', path), ('Simple', byte), ('Simple', float_)]
+
+
+def block(rng, attributes):
+    flags, contents = '', ''
+    for kind, data_type in attributes:
+        exist = 1 if kind == 'Fixed' else rng.getrandbits(1)
+        animatable = kind in ('Simple', 'Discrete') and exist and rng.getrandbits(1)
+        if kind != 'Fixed':
+            flags += ub(exist, 1)
+        if kind in ('Simple', 'Discrete') and exist:
+            flags += ub(int(animatable), 1)
+        if animatable:
+            contents += pad(keyframed(rng, kind, data_type))
+        elif exist and kind != 'BitFlag':
+            contents += pad(data_type(rng))
+    return pad(flags) + contents
+
+
+def string(rng):
+    count = rng.choice((0, 0, 1, 3, 20))
+    return ''.join(ub(rng.randint(1, 255), 8) for _ in range(count)) + '0' * 8
+
+
+def fonts(rng):
+    count = rng.choice((0, 1, 1, 2, 4))
+    return spelled(count) + ''.join(string(rng) for _ in range(2 * count))
+
+
+def leaf_bits(rng, code):
+    if code == 1:
+        return fonts(rng)
+    if code == 3:
+        return i32(rng) + i32(rng) + time(rng) + float_(rng) + color(rng)
+    if code == 7:
+        return color(rng) + i32(rng) + i32(rng)
+    if code == 11:
+        return u32(rng)
+    if code == 12:
+        return u32(rng) + time(rng)
+    return block(rng, {6: LAYER, 9: TEXT, 14: MASK}[code])
+
+
+def leaf_body(rng, code):
+    return as_bytes(leaf_bits(rng, code))
+
+
+# ------------------------------------------------------------ tags and files
+
+def tag(code, body):
+    if len(body) < 63:
+        return (code * 64 + len(body)).to_bytes(2, 'little') + body
+    return ((code * 64 + 63).to_bytes(2, 'little')
+            + len(body).to_bytes(4, 'little') + body)
+
+
+def opaque_tag(rng):
+    code = rng.randint(1, 1023) if rng.getrandbits(1) else rng.choice((4, 8, 10, 13, 15))
+    if code in COVERED:
+        code = 1023
+    return tag(code, rng.randbytes(rng.choice((0, 1, 2, 5, 61, 62, 63, 64, 100))))
+
+
+def container(rng, depth):
+    head = b'' if rng.getrandbits(1) else rng.randbytes(1)
+    code = 5 if head else 2
+    return tag(code, head + as_bytes(u32(rng)) + tag_list(rng, depth + 1))
+
+
+def tag_list(rng, depth):
+    """Tags and End; containers stand at depth 0 to 7."""
+    out = b''
+    for _ in range(rng.choice((0, 1, 1, 2, 3))):
+        pick = rng.random()
+        if pick < 0.35 and depth < 8:
+            out += container(rng, depth)
+        elif pick < 0.5:
+            out += opaque_tag(rng)
+        else:
+            code = rng.choice(LEAVES)
+            out += tag(code, leaf_body(rng, code))
+    return out + b'\0\0'
+
+
+def file_of(tags, compression=0):
+    return (b'PAG\x01' + (9 + len(tags)).to_bytes(4, 'little')
+            + bytes([compression]) + tags)
+
+
+def random_file(rng):
+    """A random file that is good at every level."""
+    if rng.random() < 0.3:      # one tag alone, so that damage hits its body
+        code = rng.choice(LEAVES)
+        return file_of(tag(code, leaf_body(rng, code)) + b'\0\0', rng.getrandbits(8))
+    return file_of(tag_list(rng, 0), rng.getrandbits(8))
+
+
+# ------------------------------------------------------------ damage
+
+def patched(data):
+    """The data with its own length in the length field."""
+    return data[:4] + len(data).to_bytes(4, 'little') + data[8:]
+
+
+def flip(rng, data):
+    out = bytearray(data)
+    for _ in range(rng.choice((1, 1, 2, 4))):
+        place = rng.randrange(len(out)) if rng.random() < 0.1 else rng.randrange(9, len(out))
+        out[place] ^= 1 << rng.randrange(8)
+    return bytes(out)
+
+
+def cut(rng, data):
+    return patched(data[:rng.randint(9, len(data))])
+
+
+def insert(rng, data):
+    place = rng.randint(9, len(data))
+    new = rng.choice((b'\0', b'\x80', b'\xff', rng.randbytes(1), rng.randbytes(3)))
+    return patched(data[:place] + new + data[place:])
+
+
+def raw_cut(rng, data):
+    return data[:rng.randint(0, len(data))]
+
+
+def wrap(rng, data):
+    """The whole list put into one to nine containers inside each other."""
+    tags = data[9:]
+    for _ in range(rng.randint(1, 9)):
+        tags = tag(2, b'\x01' + tags) + b'\0\0'
+    return file_of(tags)
+
+
+def damage_body(rng, data):
+    """The first tag's body changed and its header made to fit."""
+    size = 6 if data[9] % 64 == 63 else 2
+    number = int.from_bytes(data[9:11], 'little')
+    length = int.from_bytes(data[11:15], 'little') if size == 6 else number % 64
+    body, rest = data[9 + size:9 + size + length], data[9 + size + length:]
+    place = rng.randint(0, len(body))
+    way = rng.randrange(3)
+    if way == 0:
+        body = body[:place]
+    elif way == 1:
+        body = body[:place] + rng.randbytes(rng.randint(1, 3)) + body[place:]
+    else:
+        body = body[:place] + rng.choice((b'\0', b'\x80', b'\xff')) + body[place + 1:]
+    return file_of(tag(number // 64, body) + rest)
+
+
+def damage(rng, data):
+    """A damaged variant of a good file; it may still be good."""
+    ways = (flip, flip, flip, cut, insert, raw_cut, wrap, damage_body, damage_body)
+    return rng.choice(ways)(rng, data)
+
+
+def damaged_table(rng, table):
+    out = list(table)
+    place = rng.randrange(len(out))
+    way = rng.randrange(4)
+    if way == 0:
+        del out[place]
+    elif way == 1:
+        out.insert(place, rng.choice((0, 1, 2, 255, 256, sized(rng, 64))))
+    elif way == 2:
+        out[place] = rng.choice((0, 1, 3, 32, 33, 256, 1 << 32, sized(rng, 64)))
+    else:
+        out[place] = (out[place] + rng.choice((-1, 1))) % (1 << 64)
+    return out
+
+
+# ------------------------------------------------------------ self-check
+
+def any_level(rng):
+    return rng.choice((0, 1, 2, 4, 5, 6, 8, 11, 13, 1023, 1023, 1023))
+
+
+def check_rows(data, table, rows):
+    """The tag table agrees with the bytes and the headers of the table."""
+    place = 1
+    for depth, code, start, size, length in rows:
+        number = int.from_bytes(data[start:start + 2], 'little')
+        assert table[place] == code == number // 64 and 0 <= depth <= 8
+        assert size == (6 if length >= 63 else 2)
+        place += 3 + table[place + 2]
+    assert place == len(table)
+
+
+def check_good(rng):
+    data, level = random_file(rng), any_level(rng)
+    answer = pag.read(level, data)
+    assert answer[0] == 'table', (level, data.hex(), answer)
+    assert pag.write(level, answer[1]) == ('file', data), (level, data.hex())
+    assert pag.read(level, data) == answer
+    check_rows(data, answer[1], answer[2])
+    assert pag.listing(data).endswith('\n')
+
+
+def check_damaged(rng, tally):
+    data, level = damage(rng, random_file(rng)), any_level(rng)
+    answer = pag.read(level, data)
+    if answer[0] == 'table':
+        assert pag.write(level, answer[1]) == ('file', data), (level, data.hex())
+        check_rows(data, answer[1], answer[2])
+        tally['taken'] = tally.get('taken', 0) + 1
+    else:
+        assert 2 <= answer[1] <= 18 and 0 <= answer[2] <= len(data)
+        tally[answer[1]] = tally.get(answer[1], 0) + 1
+    assert pag.listing(data).endswith('\n')
+
+
+def check_table(rng, tally):
+    """A file the writer gives reads as the very table."""
+    level = any_level(rng)
+    table = damaged_table(rng, pag.read(level, random_file(rng))[1])
+    answer = pag.write(level, table)
+    if answer[0] == 'file':
+        assert pag.read(level, answer[1])[1] == table, (level, table)
+    else:
+        assert answer == ('refused', 20, 0)
+    tally[answer[0]] = tally.get(answer[0], 0) + 1
+
+
+def show(tally):
+    return ', '.join('%s: %d' % (key, tally[key]) for key in sorted(tally, key=str))
+
+
+def main(seed=1, good=5000, damaged=20000, tables=10000):
+    rng = random.Random(seed)
+    for _ in range(good):
+        check_good(rng)
+    print('%d good files: read, write, read agree' % good)
+    tally = {}
+    for _ in range(damaged):
+        check_damaged(rng, tally)
+    print('%d damaged files, no exception; by reason: %s' % (damaged, show(tally)))
+    tally = {}
+    for _ in range(tables):
+        check_table(rng, tally)
+    print('%d damaged tables: %s' % (tables, show(tally)))
+
+
+if __name__ == '__main__':
+    main(*map(int, sys.argv[1:]))

@@ -1,0 +1,69 @@
+#!/usr/bin/env python3
+"""Writes crates/format/proofs/Tested.antt: the cases of at most 400 bytes, as one table that the definitions compute."""
+
+import os
+
+import check_cases
+
+LONGEST = 400
+HERE = os.path.dirname(os.path.abspath(__file__))
+OUT = os.path.join(HERE, '..', '..', 'crates', 'format', 'proofs', 'Tested.antt')
+
+TOP = """-- Test files with what document 01 makes of them, as one table that the definitions compute.
+-- Made by tests/reference/make_tested.py from tests/cases.txt, whose expectations were derived by hand; edit these.
+use Prim.Native.Nat.{ℕ}
+use mathlib.Core.List.{List, [], _∷_, map}
+use mathlib.Core.Path.{_≡_, refl}
+use Rattle.format.specs.Bits.{high, bitAt, ub}
+use Rattle.format.specs.Formats.{times}
+use Rattle.format.specs.Items.{readVar, readLE, readText, readFlag, readItem, run}
+use Rattle.format.specs.Bodies.{allFlags, rows, readBlock, readPart, readBody}
+use Rattle.format.specs.FileAndTags.{classOf, walk}
+use Rattle.format.specs.Reasons.{startFault, walkFile, Result, gives, refuses, readFile}
+
+-- a file at a level, and what it gives
+pub record Test : Type 0 where
+  pub level : ℕ
+  pub file : List ℕ
+  pub result : Result
+
+abbrev pub tests : List Test
+tests =
+"""
+
+BOTTOM = """
+pub tested : map (λ (t : Test). readFile high (t .level) (t .file)) tests ≡ map (λ (t : Test). t .result) tests
+unfolding readFile walkFile startFault classOf walk readBody readPart readBlock allFlags rows run times readItem readVar readLE readText readFlag ub bitAt
+tested = refl
+"""
+
+
+def antt_list(numbers):
+    return '(' + ' ∷ '.join(list(numbers) + ['[]']) + ')'
+
+
+def result(expected):
+    if expected[0] == 'table':
+        return 'gives ' + antt_list(map(str, expected[1]))
+    return 'refuses %d %d' % expected[1:]
+
+
+def row(case, cons):
+    name, level, data, expected, note = case
+    file = antt_list('0x%02X' % byte for byte in data)
+    return ('    -- %s: %s\n    %srecord { level = %d; file = %s; result = %s }\n'
+            % (name, note, cons, level, file, result(expected)))
+
+
+def main():
+    cases = [case for case in check_cases.load() if len(case[2]) <= LONGEST]
+    with open(OUT, 'w', encoding='utf-8') as out:
+        out.write(TOP)
+        for number, case in enumerate(cases):
+            out.write(row(case, '∷ ' if number else ''))
+        out.write('    ∷ []\n' + BOTTOM)
+    print('%d of the cases written' % len(cases))
+
+
+if __name__ == '__main__':
+    main()

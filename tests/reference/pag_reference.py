@@ -1,0 +1,785 @@
+"""An independent reference of the PAG reader and writer, made from document 01.
+
+Lines in quotation marks in the comments are document 01's sentences.
+Decision n is point n of docs/DECISIONS.md.
+"""
+
+FILE_LIMIT = 16777216       # "A file has at most 16,777,216 bytes."
+TOP_LEVEL = 1023            # "A level from 0 to 1023 goes with each call"
+TOP_DEPTH = 8               # "A container at depth 8 is refused."
+TOP_COUNT = 4096            # "Frames are 1 to 4,096; verbs and fonts 0 to 4,096."
+WORD = 1 << 64              # "A negative number is kept modulo 2^64"
+LISTING_BYTES = 32768       # "reads at most 32,768 bytes from standard input"
+LISTING_NUMBERS = 8192      # "needing more than 8,192 numbers is refused by 19"
+
+LINEAR, BEZIER, HOLD = 1, 2, 3      # "1 linear, 2 Bezier, 3 hold"
+CONTAINERS = (2, 5)                 # "Tags 2 and 5 are containers."
+COVERED = (0, 1, 2, 3, 5, 6, 7, 9, 11, 12, 14)
+COORDINATES = (0, 2, 2, 1, 1, 4, 4, 6)  # "Coordinates by verb 0 to 7"
+
+# The data types of bytes with an enumeration, and the numbers listed for each.
+LISTED = {
+    'blendMode': tuple(range(0, 17)) + tuple(range(21, 27)),
+    'trackMatteType': tuple(range(0, 5)),
+    'maskMode': tuple(range(0, 8)),
+}
+
+# "These lists stand in the program as constant tables of attribute kind and
+# data type." (name, kind, data type)
+BLOCKS = {
+    6: (('isActive', 'BitFlag', None),
+        ('autoOrientation', 'BitFlag', None),
+        ('parent', 'Value', 'U32'),
+        ('stretch', 'Value', 'Ratio'),
+        ('startTime', 'Value', 'Time'),
+        ('blendMode', 'Value', 'blendMode'),
+        ('trackMatteType', 'Value', 'trackMatteType'),
+        ('timeRemap', 'Simple', 'Float'),
+        ('duration', 'Fixed', 'Time')),
+    9: (('path', 'Value', 'U32'),
+        ('reversed', 'Discrete', 'Bool'),
+        ('perpendicular', 'Discrete', 'Bool'),
+        ('forceAlignment', 'Discrete', 'Bool'),
+        ('firstMargin', 'Simple', 'Float'),
+        ('lastMargin', 'Simple', 'Float')),
+    14: (('id', 'Fixed', 'U32'),
+         ('inverted', 'BitFlag', None),
+         ('maskMode', 'Value', 'maskMode'),
+         ('path', 'Simple', 'Path'),
+         ('opacity', 'Simple', 'byte'),
+         ('expansion', 'Simple', 'Float')),
+}
+
+# The plain bodies, item by item (1 has its own function).
+PLAIN = {
+    3: ('I32', 'I32', 'Time', 'Float', 'Color'),
+    7: ('Color', 'I32', 'I32'),
+    11: ('U32',),
+    12: ('U32', 'Time'),
+    2: ('U32',),                # "Body of 2: id (U32), then a tag list."
+    5: ('byte', 'U32'),         # "Body of 5: type (one byte, any), id (U32)"
+}
+
+
+class Refusal(Exception):
+    """A refusal with its reason and its second number."""
+
+    def __init__(self, reason, number=0):
+        super().__init__(reason, number)
+        self.reason, self.number = reason, number
+
+
+class Fault(Exception):
+    """A fault inside a body: the tag's place is not known here."""
+
+    def __init__(self, reason):
+        super().__init__(reason)
+        self.reason = reason
+
+
+def tag_is_read(level, code):
+    """"listed tags with a code above it are opaque too" """
+    return code in COVERED and code <= level
+
+
+# ---------------------------------------------------------------- reading
+
+class BodyReader:
+    """One body and a bit place in it; `values` are the numbers read so far."""
+
+    def __init__(self, body):
+        self.body = body
+        self.bit = 0
+        self.values = []
+
+    def unsigned(self, width):
+        """UB[width]: "the first bit is the top bit of the byte, and the first
+        bit of a field is its highest"; past the body is 13."""
+        end = self.bit + width
+        if end > 8 * len(self.body):
+            raise Fault(13)
+        first, last = self.bit // 8, (end + 7) // 8
+        chunk = int.from_bytes(self.body[first:last], 'big')
+        self.bit = end
+        return (chunk >> (8 * last - end)) & ((1 << width) - 1)
+
+    def signed(self, width):
+        """SB[width], "sign-extended from its top bit", modulo 2^64."""
+        value = self.unsigned(width)
+        if value >> (width - 1):
+            value -= 1 << width
+        return value % WORD
+
+    def width(self):
+        """"A width is UB[5] plus 1, everywhere: 1 to 32." """
+        return self.unsigned(5) + 1
+
+    def align(self):
+        """"A byte item starts at the next whole byte; skipped bits are zero" """
+        skipped = -self.bit % 8
+        if skipped and self.unsigned(skipped) != 0:
+            raise Fault(15)
+
+    def byte(self):
+        self.align()
+        return self.unsigned(8)
+
+    def bytes_left(self):
+        return len(self.body) - (self.bit + 7) // 8
+
+    def spelled(self, most_bytes, last_at_most):
+        """"seven bits a byte, lowest first, top bit set when more follow";
+        "only the shortest spelling is taken"."""
+        value = 0
+        for index in range(most_bytes):
+            byte = self.byte()
+            value |= (byte & 127) << (7 * index)
+            if byte < 128:
+                longer = index > 0 and byte == 0
+                over = index == most_bytes - 1 and byte > last_at_most
+                if longer or over:
+                    raise Fault(14)
+                return value
+        raise Fault(14)     # decision 5: all of them continue
+
+    def u32(self):
+        return self.spelled(5, 15)
+
+    def u64(self):
+        return self.spelled(10, 1)
+
+    def i32(self):
+        """"the magnitude is d / 2, odd d is negative. d = 1 (minus zero) is
+        refused." """
+        d = self.u32()
+        if d == 1:
+            raise Fault(14)
+        magnitude = d // 2
+        return (-magnitude if d % 2 else magnitude) % WORD
+
+    def count(self, least):
+        """A count of frames, verbs or fonts: outside its range is 17."""
+        number = self.u32()
+        if not least <= number <= TOP_COUNT:
+            raise Fault(17)
+        return number
+
+    def put(self, *numbers):
+        self.values.extend(numbers)
+
+
+def read_float(reader):
+    """"four bytes, little-endian, kept as their 32-bit pattern" """
+    reader.align()
+    if reader.bytes_left() < 4:
+        raise Fault(13)
+    reader.put(sum(reader.byte() << (8 * i) for i in range(4)))
+
+
+def read_bool(reader):
+    """"Bool: one byte, 0 or 1." """
+    value = reader.byte()
+    if value > 1:
+        raise Fault(16)
+    reader.put(value)
+
+
+def read_listed(reader, data_type):
+    """A byte with an enumeration: "unlisted enum" is 16."""
+    value = reader.byte()
+    if value not in LISTED[data_type]:
+        raise Fault(16)
+    reader.put(value)
+
+
+def read_string(reader):
+    """"bytes up to a zero byte, may be empty"; in the table "its length and
+    then its bytes"."""
+    string = []
+    while True:
+        byte = reader.byte()
+        if byte == 0:
+            break
+        string.append(byte)
+    reader.put(len(string), *string)
+
+
+def read_path(reader):
+    """"verb count (U32), UB[3] per verb, width, SB[width] per coordinate, with
+    nothing skipped between. The width stands even without coordinates." """
+    count = reader.count(0)
+    verbs = [reader.unsigned(3) for _ in range(count)]
+    width = reader.width()
+    coordinates = sum(COORDINATES[verb] for verb in verbs)
+    reader.put(count, *verbs, width)
+    reader.put(*[reader.signed(width) for _ in range(coordinates)])
+
+
+def read_item(reader, data_type):
+    """One item of the given data type, its numbers put to the values."""
+    if data_type == 'U32':
+        reader.put(reader.u32())
+    elif data_type == 'I32':
+        reader.put(reader.i32())
+    elif data_type == 'Time':
+        reader.put(reader.u64())
+    elif data_type == 'byte':
+        reader.put(reader.byte())
+    elif data_type == 'Color':
+        reader.put(reader.byte(), reader.byte(), reader.byte())
+    elif data_type == 'Ratio':
+        reader.put(reader.i32())
+        reader.put(reader.u32())
+    elif data_type == 'Float':
+        read_float(reader)
+    elif data_type == 'Bool':
+        read_bool(reader)
+    elif data_type == 'Path':
+        read_path(reader)
+    else:
+        read_listed(reader, data_type)
+
+
+def read_interpolations(reader, frames):
+    """"UB[2] per frame (1 linear, 2 Bezier, 3 hold)"; 0 is 16."""
+    interpolations = []
+    for _ in range(frames):
+        interpolation = reader.unsigned(2)
+        if interpolation == 0:
+            raise Fault(16)
+        interpolations.append(interpolation)
+    reader.put(*interpolations)
+    return interpolations
+
+
+def read_frame_values(reader, data_type, count):
+    """"Values: Floats in turn; Bools one bit each; bytes as a width, then
+    UB[width] each, at most 255; Paths in turn." """
+    if data_type == 'Bool':
+        reader.put(*[reader.unsigned(1) for _ in range(count)])
+    elif data_type == 'byte':
+        width = reader.width()
+        reader.put(width)
+        for _ in range(count):
+            value = reader.unsigned(width)
+            if value > 255:
+                raise Fault(16)
+            reader.put(value)
+    else:
+        for _ in range(count):
+            read_item(reader, data_type)
+
+
+def read_keyframed(reader, kind, data_type):
+    """"Keyframed content (animatable set), with n frames". "Each of these five
+    parts starts on a whole byte." """
+    frames = reader.count(1)
+    reader.put(frames)
+    interpolations = []
+    if kind != 'Discrete':
+        reader.align()
+        interpolations = read_interpolations(reader, frames)
+    reader.align()
+    for _ in range(frames + 1):
+        reader.put(reader.u64())
+    reader.align()
+    read_frame_values(reader, data_type, frames + 1)
+    reader.align()
+    width = reader.width()      # "The width stands always, Discrete included"
+    reader.put(width)
+    for _ in range(4 * interpolations.count(BEZIER)):
+        reader.put(reader.signed(width))
+
+
+def read_flags(reader, kind):
+    """The flags of one attribute as exist + 2 × animatable; "Fixed gives 1"."""
+    if kind == 'Fixed':
+        return 1
+    exist = reader.unsigned(1)
+    if kind in ('Simple', 'Discrete') and exist:
+        return 1 + 2 * reader.unsigned(1)
+    return exist
+
+
+def read_block(reader, attributes):
+    """"flags of all attributes in order as bits, then contents in order" """
+    flags = [read_flags(reader, kind) for _, kind, _ in attributes]
+    for (_, kind, data_type), flag in zip(attributes, flags):
+        reader.put(flag)
+        if flag == 3:
+            read_keyframed(reader, kind, data_type)
+        elif flag == 1 and kind != 'BitFlag':
+            read_item(reader, data_type)
+
+
+def read_fonts(reader):
+    """"1: count U32, then two Strings each." """
+    count = reader.count(0)
+    reader.put(count)
+    for _ in range(count):
+        read_string(reader)
+        read_string(reader)
+
+
+def read_leaf(code, body):
+    """The values of a read tag that is no container."""
+    reader = BodyReader(body)
+    if code in BLOCKS:
+        read_block(reader, BLOCKS[code])
+    elif code == 1:
+        read_fonts(reader)
+    else:
+        for data_type in PLAIN.get(code, ()):
+            read_item(reader, data_type)
+    reader.align()              # "also at a body's end"; decision 4: 15, then 18
+    if reader.bytes_left():
+        raise Fault(18)
+    return reader.values
+
+
+def read_body(code, body):
+    """The values of a body alone, at level 1023. For 2 and 5 the values are
+    the container's own items; what follows them is not looked at."""
+    if code not in COVERED:
+        return ('values', list(body))
+    if code == 0 and body:
+        return ('fault', 10)
+    try:
+        if code in CONTAINERS:
+            return ('values', read_container_items(code, body).values)
+        return ('values', read_leaf(code, body))
+    except Fault as fault:
+        return ('fault', fault.reason)
+
+
+def read_container_items(code, body):
+    reader = BodyReader(body)
+    for data_type in PLAIN[code]:
+        read_item(reader, data_type)
+    return reader
+
+
+def little_endian(data, place, size):
+    return int.from_bytes(data[place:place + size], 'little')
+
+
+class FileReader:
+    """A walk of the tag lists of one file at one level."""
+
+    def __init__(self, level, data):
+        self.level, self.data = level, data
+        self.table = [data[8]]
+        self.rows = []
+
+    def header(self, place, end, depth):
+        """"at one tag header 6 to 10 and then 12 in this order" """
+        if end - place < 2:
+            raise Refusal(6, place)
+        number = little_endian(self.data, place, 2)
+        code, length, size = number // 64, number % 64, 2
+        if length == 63:
+            size = 6
+            if end - place < size:
+                raise Refusal(6, place)
+            length = little_endian(self.data, place + 2, 4)
+            if length < 63:
+                raise Refusal(8, place)
+        if length > end - place - size:
+            raise Refusal(9, place)
+        if code == 0 and length > 0:
+            raise Refusal(10, place)
+        if self.is_container(code) and depth == TOP_DEPTH:
+            raise Refusal(12, place)
+        return code, size, length
+
+    def is_container(self, code):
+        return code in CONTAINERS and tag_is_read(self.level, code)
+
+    def tag_list(self, place, end, depth, container):
+        """"A tag list ends with End: code 0, length 0. The list must fill its
+        room exactly." container is its place, None at depth 0."""
+        while True:
+            if place == end:
+                raise Refusal(7, end if container is None else container)
+            code, size, length = self.header(place, end, depth)
+            self.rows.append([depth, code, place, size, length])
+            start = place + size
+            self.tag(code, place, start, start + length, depth)
+            place = start + length
+            if code == 0:
+                break
+        if place != end:
+            raise Refusal(11, place if container is None else container)
+
+    def tag(self, code, place, start, end, depth):
+        """The numbers of one tag; "a container's children follow it"."""
+        body = self.data[start:end]
+        try:
+            if not tag_is_read(self.level, code):
+                self.put_tag(code, 0, body)
+            elif code in CONTAINERS:
+                items = read_container_items(code, body)
+                self.put_tag(code, 1, items.values)
+                self.tag_list(start + items.bit // 8, end, depth + 1, place)
+            else:
+                self.put_tag(code, 1, read_leaf(code, body))
+        except Fault as fault:
+            raise Refusal(fault.reason, place) from None
+
+    def put_tag(self, code, state, values):
+        self.table += [code, state, len(values)]
+        self.table.extend(values)
+
+
+def check_file_header(level, data):
+    """"1 to 5 are tried in this order." """
+    if level > TOP_LEVEL:
+        raise Refusal(1)
+    if len(data) < 9:
+        raise Refusal(2)
+    if data[0:3] != b'PAG':
+        raise Refusal(3)
+    if data[3] != 1:
+        raise Refusal(4)
+    if little_endian(data, 4, 4) != len(data) or len(data) > FILE_LIMIT:
+        raise Refusal(5)
+
+
+def read(level, data):
+    """('table', numbers, tag rows) or ('refused', reason, number); the rooms
+    (19) are the caller's."""
+    data = bytes(data)
+    try:
+        check_file_header(level, data)
+        reader = FileReader(level, data)
+        reader.tag_list(9, len(data), 0, None)
+    except Refusal as refusal:
+        return ('refused', refusal.reason, refusal.number)
+    return ('table', reader.table, reader.rows)
+
+
+# ---------------------------------------------------------------- writing
+
+def no_file():
+    """"writer: no file at this level has this table" """
+    return Refusal(20)
+
+
+class Numbers:
+    """A slice of the table, taken number by number."""
+
+    def __init__(self, numbers, place=0):
+        self.numbers = numbers
+        self.place = place
+
+    def take(self, least=0, most=WORD - 1):
+        if self.place >= len(self.numbers):
+            raise no_file()
+        number = self.numbers[self.place]
+        if not least <= number <= most:
+            raise no_file()
+        self.place += 1
+        return number
+
+    def take_slice(self, count):
+        if count > len(self.numbers) - self.place:
+            raise no_file()
+        self.place += count
+        return self.numbers[self.place - count:self.place]
+
+    def used_up(self):
+        return self.place == len(self.numbers)
+
+
+class BodyWriter:
+    """A body under way: whole bytes, and the bits of a byte begun."""
+
+    def __init__(self, numbers):
+        self.numbers = Numbers(numbers)
+        self.out = bytearray()
+        self.begun = 0
+        self.begun_bits = 0
+
+    def bits(self, width, value):
+        self.begun = (self.begun << width) | value
+        self.begun_bits += width
+        while self.begun_bits >= 8:
+            self.begun_bits -= 8
+            self.out.append(self.begun >> self.begun_bits)
+            self.begun &= (1 << self.begun_bits) - 1
+
+    def align(self):
+        """Skipped bits are zero."""
+        if self.begun_bits:
+            self.bits(8 - self.begun_bits, 0)
+
+    def byte(self, value):
+        self.align()
+        self.out.append(value)
+
+    def spelled(self, value):
+        """The shortest spelling of a U32 or U64."""
+        while value > 127:
+            self.byte(128 + value % 128)
+            value //= 128
+        self.byte(value)
+
+    def take(self, least=0, most=WORD - 1):
+        return self.numbers.take(least, most)
+
+    def u32(self):
+        self.spelled(self.take(most=(1 << 32) - 1))
+
+    def i32(self):
+        """Range -2147483647 to 2147483647, d = 2 × magnitude + sign."""
+        value = self.take()
+        if value >= WORD // 2:
+            value -= WORD
+        if abs(value) > 2147483647:
+            raise no_file()
+        self.spelled(2 * abs(value) + (value < 0))
+
+    def count(self, least):
+        number = self.take(least, TOP_COUNT)
+        self.spelled(number)
+        return number
+
+    def unsigned(self, width, least=0, most=None):
+        top = (1 << width) - 1
+        value = self.take(least, top if most is None else min(top, most))
+        self.bits(width, value)
+        return value
+
+    def signed(self, width):
+        value = self.take()
+        if value >= WORD // 2:
+            value -= WORD
+        half = 1 << (width - 1)
+        if not -half <= value < half:
+            raise no_file()
+        self.bits(width, value % (1 << width))
+
+    def width(self):
+        width = self.take(1, 32)
+        self.bits(5, width - 1)
+        return width
+
+
+def write_string(writer):
+    length = writer.take()
+    for byte in writer.numbers.take_slice(length):
+        if not 1 <= byte <= 255:    # decision 15: a zero byte would end it
+            raise no_file()
+        writer.byte(byte)
+    writer.byte(0)
+
+
+def write_path(writer):
+    count = writer.count(0)
+    verbs = [writer.unsigned(3) for _ in range(count)]
+    width = writer.width()
+    for _ in range(sum(COORDINATES[verb] for verb in verbs)):
+        writer.signed(width)
+
+
+def write_float(writer):
+    pattern = writer.take(most=(1 << 32) - 1)
+    for byte in pattern.to_bytes(4, 'little'):
+        writer.byte(byte)
+
+
+def write_listed(writer, data_type):
+    value = writer.take()
+    if value not in LISTED[data_type]:
+        raise no_file()
+    writer.byte(value)
+
+
+def write_item(writer, data_type):
+    if data_type == 'U32':
+        writer.u32()
+    elif data_type == 'I32':
+        writer.i32()
+    elif data_type == 'Time':
+        writer.spelled(writer.take())
+    elif data_type == 'byte':
+        writer.byte(writer.take(most=255))
+    elif data_type == 'Color':
+        for _ in range(3):
+            writer.byte(writer.take(most=255))
+    elif data_type == 'Ratio':
+        writer.i32()
+        writer.u32()
+    elif data_type == 'Float':
+        write_float(writer)
+    elif data_type == 'Bool':
+        writer.byte(writer.take(most=1))
+    elif data_type == 'Path':
+        write_path(writer)
+    else:
+        write_listed(writer, data_type)
+
+
+def write_frame_values(writer, data_type, count):
+    if data_type == 'Bool':
+        for _ in range(count):
+            writer.unsigned(1)
+    elif data_type == 'byte':
+        width = writer.width()
+        for _ in range(count):
+            writer.unsigned(width, most=255)
+    else:
+        for _ in range(count):
+            write_item(writer, data_type)
+
+
+def write_keyframed(writer, kind, data_type):
+    frames = writer.count(1)
+    bezier_frames = 0
+    if kind != 'Discrete':
+        writer.align()
+        for _ in range(frames):
+            bezier_frames += writer.unsigned(2, least=1) == BEZIER
+    writer.align()
+    for _ in range(frames + 1):
+        writer.spelled(writer.take())
+    writer.align()
+    write_frame_values(writer, data_type, frames + 1)
+    writer.align()
+    width = writer.width()
+    for _ in range(4 * bezier_frames):
+        writer.signed(width)
+
+
+def write_content(writer, kind, data_type, flag):
+    if flag == 3:
+        write_keyframed(writer, kind, data_type)
+    elif flag == 1 and kind != 'BitFlag':
+        write_item(writer, data_type)
+
+
+FLAGS_BY_KIND = {'BitFlag': (0, 1), 'Value': (0, 1), 'Fixed': (1,),
+                 'Simple': (0, 1, 3), 'Discrete': (0, 1, 3)}
+
+
+def write_block(writer, attributes):
+    """The table gives flags and content attribute by attribute; the file gives
+    all flags first. So the contents go to a writer of their own: they start
+    on a whole byte, because every content starts with a byte item."""
+    contents = BodyWriter(())
+    contents.numbers = writer.numbers
+    for _, kind, data_type in attributes:
+        flag = writer.take()
+        if flag not in FLAGS_BY_KIND[kind]:
+            raise no_file()
+        if kind != 'Fixed':
+            writer.bits(1, flag % 2)
+        if kind in ('Simple', 'Discrete') and flag:
+            writer.bits(1, flag // 2)
+        write_content(contents, kind, data_type, flag)
+    writer.align()
+    contents.align()
+    writer.out += contents.out
+
+
+def write_fonts(writer):
+    for _ in range(writer.count(0)):
+        write_string(writer)
+        write_string(writer)
+
+
+def write_values(code, values):
+    """The body, or a container's own items, that reads as these values."""
+    writer = BodyWriter(values)
+    if code in BLOCKS:
+        write_block(writer, BLOCKS[code])
+    elif code == 1:
+        write_fonts(writer)
+    else:
+        for data_type in PLAIN.get(code, ()):
+            write_item(writer, data_type)
+    writer.align()
+    if not writer.numbers.used_up():
+        raise no_file()
+    return bytes(writer.out)
+
+
+def write_opaque(values):
+    """"An opaque tag's values are its body bytes." """
+    if not all(0 <= value <= 255 for value in values):
+        raise no_file()
+    return bytes(values)
+
+
+def write_tag_header(code, length):
+    if length < 63:
+        return (code * 64 + length).to_bytes(2, 'little')
+    if length > FILE_LIMIT:
+        raise no_file()
+    return (code * 64 + 63).to_bytes(2, 'little') + length.to_bytes(4, 'little')
+
+
+def write_list(level, numbers, depth):
+    """The bytes of one tag list, its End included."""
+    out = bytearray()
+    while True:
+        code = numbers.take(most=1023)
+        is_read = tag_is_read(level, code)
+        numbers.take(int(is_read), int(is_read))
+        values = numbers.take_slice(numbers.take())
+        if not is_read:
+            body = write_opaque(values)
+        else:
+            body = write_values(code, values)
+        if is_read and code in CONTAINERS:
+            if depth == TOP_DEPTH:
+                raise no_file()
+            body += write_list(level, numbers, depth + 1)
+        out += write_tag_header(code, len(body)) + body
+        if code == 0:
+            return bytes(out)
+
+
+def write(level, table):
+    """('file', bytes) or ('refused', 1 or 20, 0); the output's room (21) is
+    the caller's. "the whole lent table slice is the table" """
+    if level > TOP_LEVEL:
+        return ('refused', 1, 0)
+    numbers = Numbers(table)
+    try:
+        compression = numbers.take(most=255)
+        tags = write_list(level, numbers, 0)
+        length = 9 + len(tags)
+        if not numbers.used_up() or length > FILE_LIMIT:
+            raise no_file()
+    except Refusal as refusal:
+        return ('refused', refusal.reason, refusal.number)
+    header = b'PAG\x01' + length.to_bytes(4, 'little') + bytes([compression])
+    return ('file', header + tags)
+
+
+# ---------------------------------------------------------------- listing
+
+def tag_lines(table, rows):
+    """"per tag depth, place, header size, body length, code, state, values" """
+    numbers = Numbers(table, 1)
+    for depth, code, place, size, length in rows:
+        numbers.take(code, code)
+        state = numbers.take()
+        values = numbers.take_slice(numbers.take())
+        yield [depth, place, size, length, code, state] + list(values)
+
+
+def listing(data):
+    """The listing program's output for these bytes of standard input."""
+    if len(data) > LISTING_BYTES:
+        return 'too long\n'
+    answer = read(TOP_LEVEL, data)
+    if answer[0] == 'table' and len(answer[1]) > LISTING_NUMBERS:
+        answer = ('refused', 19, len(answer[1]))
+    if answer[0] == 'refused':
+        records = [answer]
+    else:
+        records = [['PAG', data[3], len(data), data[8]]]
+        records += tag_lines(answer[1], answer[2])
+    return ''.join('\t'.join(map(str, record)) + '\n' for record in records)
