@@ -1,4 +1,4 @@
--- The theorems: document 01's examples; the round trip; two levels of one file; how much room tables need; what opaque bytes reach.
+-- The theorems: document 01's examples; the round trip; two levels of one file; how much room tables need.
 pub mod Examples
 pub mod Tested
 pub mod RoundTrip
