@@ -282,7 +282,7 @@ module _ (o : Order) where
   fair-values MaskModes n = fair-times n (enum 7) (fair-enum 7)
   fair-values Paths n = fair-times n path fair-path
 
-  fair-interpolations : (k : Kind) (n : ℕ) → Fair o 0 (interpolations k n)
+  pub fair-interpolations : (k : Kind) (n : ℕ) → Fair o 0 (interpolations k n)
   fair-interpolations Value n = fair-nothing
   fair-interpolations Fixed n = fair-nothing
   fair-interpolations BitFlag n = fair-nothing

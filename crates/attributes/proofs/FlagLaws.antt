@@ -1,0 +1,205 @@
+-- The constant rows are the definitions' lists; flag bits one by one; and the flags of all rows, step by step. Assumes nothing.
+use Prim.Native.Nat.{ℕ, zero, suc, _+_, _-_, _*_, _≤_, _<_}
+use mathlib.Core.List.{List, [], _∷_, map}
+use mathlib.Core.Path.{_≡_, refl, ap, sym, _∙_}
+use mathlib.Core.Bool as truth
+use mathlib.Core.Bool.{true, false}
+use native.Mathlib.Numerals.{add-one}
+use native.Mathlib.Omega.{arith}
+use lib.ListN.{length, getD, set, take, drop, length-set, List·getD-map}
+use lib.Seq.{drop-cons, sets-eq, slice-cons, slice-empty, length-slice, take-at}
+use lib.Dec.{eqb}
+use borrow.Author.Tests.{ne-eqb}
+use Rattle.format.specs.Tests.{pick}
+use Rattle.format.specs.Bits.{high, ub}
+use Rattle.format.specs.Reading.{Ending, Reading, At, Fault, shows}
+use Rattle.format.specs.Formats.{Item, item, _▸_}
+use Rattle.format.specs.Items.{Num, num, bad, room, exist, readUB, readFlag, readItem, showNum, run}
+use Rattle.format.specs.Bodies as bodies
+use Rattle.format.specs.Bodies.{flagsOf, allFlags}
+use Rattle.format.proofs.BitLaws.{ub-lt}
+use Rattle.format.proofs.BlockLaws.{as-many}
+use Rattle.format.proofs.WalkLaws.{run-le}
+use Rattle.bits.specs.Places.{Inside, seen}
+use Rattle.bits.specs.declared.BitPlace.{BitPlace}
+use Rattle.bits.specs.declared.Got.{Got}
+use Rattle.bits.specs.declared.Got.the-variants.{Value as GotValue, Fault as GotFault}
+use Rattle.table.specs.State.{State, after}
+use Rattle.table.proofs.EngineLaws.{state, after-none, then-one, then-never}
+use Rattle.attributes.specs.Rows.{kindOf, attributeOf, allAttributes, noAttribute, rowsFrom, AreRows}
+use Rattle.attributes.specs.declared.Attribute.{Attribute}
+use Rattle.attributes.specs.declared.Kind.{Kind}
+use Rattle.attributes.specs.declared.Kind.the-variants.{Value, Fixed, BitFlag, Simple, Discrete}
+use Rattle.attributes.specs.declared.DataType.{DataType}
+use Rattle.attributes.specs.declared.DataType.the-variants.{U32, Time, Float, Ratio, Bool, Byte, BlendMode, TrackMatteType, MaskMode, Path}
+
+-- ---- the constant rows
+
+-- in a list, what would stand past its end does not matter
+getD-any : {A : Type 0} (l : List A) (i : ℕ) (d e : A) → i < length l → getD l i d ≡ getD l i e
+getD-any l i d e h =
+    let f : getD l i d ∷ drop (suc i) l ≡ getD l i e ∷ drop (suc i) l = sym (drop-cons l i d h) ∙ drop-cons l i e h in
+    cc
+
+-- the definitions' attributes in the code's words
+abbrev codeKind : bodies.Kind → Kind
+codeKind bodies.Value = Value
+codeKind bodies.Fixed = Fixed
+codeKind bodies.BitFlag = BitFlag
+codeKind bodies.Simple = Simple
+codeKind bodies.Discrete = Discrete
+
+abbrev codeType : bodies.DataType → DataType
+codeType bodies.U32s = U32
+codeType bodies.Times = Time
+codeType bodies.Floats = Float
+codeType bodies.Ratios = Ratio
+codeType bodies.Bools = Bool
+codeType bodies.Bytes = Byte
+codeType bodies.BlendModes = BlendMode
+codeType bodies.TrackMatteTypes = TrackMatteType
+codeType bodies.MaskModes = MaskMode
+codeType bodies.Paths = Path
+
+abbrev codeRow : bodies.Attribute → Attribute
+codeRow a = record { kind = codeKind (a .kind); data_type = codeType (a .dataType) }
+
+-- THE table: its rows, read back, compute to the lists, and so at each place
+pub row-is : (d : Attribute) (i : ℕ) → i < 21 → attributeOf (getD (map codeRow allAttributes) i d) ≡ getD allAttributes i noAttribute
+row-is d i h = sym (List·getD-map attributeOf (map codeRow allAttributes) i d) ∙ getD-any allAttributes i (attributeOf d) noAttribute h
+
+-- the rows from here are the row here and the rows after it
+pub rows-next : {row end : ℕ} (x : Attribute) → row < end → end ≤ 21 → attributeOf x ≡ getD allAttributes row noAttribute
+    → rowsFrom row end ≡ attributeOf x ∷ rowsFrom (row + 1) end
+rows-next {row} {end} x h l e = slice-cons row end allAttributes noAttribute h l ∙ rw (e, add-one row)
+
+pub rows-many : {start end : ℕ} → AreRows start end → length (rowsFrom start end) ≡ end - start
+rows-many {start} {end} a = length-slice start end allAttributes (a .inside)
+
+-- ---- flag bits
+
+-- the first bit, and at most n after it
+abbrev onward : List ℕ → ℕ → Num → Num
+onward b n (num v q) = pick (eqb v 0) (num 0 q) (exist (readFlag high b q n))
+onward b n (bad e) = bad e
+
+flag-bit : (b : List ℕ) (p n : ℕ) → readFlag high b p (suc n) ≡ onward b n (readUB high b p 1)
+unfolding readFlag
+flag-bit b p n = go (room b p 1)
+  where
+    go : (t : truth.Bool) → pick t (pick (eqb (ub high b p 1) 0) (num 0 (p + 1)) (exist (readFlag high b (p + 1) n))) (bad 13)
+        ≡ onward b n (pick t (num (ub high b p 1) (p + 1)) (bad 13))
+    go true = refl
+    go false = refl
+
+-- one bit is a field of one bit
+flag-one : (b : List ℕ) (p : ℕ) → readFlag high b p 1 ≡ readUB high b p 1
+unfolding readFlag
+flag-one b p = flag-bit b p 0 ∙ go (room b p 1) (ub high b p 1) (ub-lt high b p 1)
+  where
+    go : (t : truth.Bool) (v : ℕ) → v < 2 → onward b 0 (pick t (num v (p + 1)) (bad 13)) ≡ pick t (num v (p + 1)) (bad 13)
+    go true zero h = refl
+    go true (suc zero) h = refl
+    go true (suc (suc v)) h = absurd (omega arith)
+    go false v h = refl
+
+pub one-bit : (b : List ℕ) (p : ℕ) {n : Num} → n ≡ readUB high b p 1 → showNum n ≡ run high b (item (Item.flag 1)) p
+unfolding run readItem
+one-bit b p e = ap showNum (e ∙ sym (flag-one b p))
+
+-- two bits, by what the first gave
+module _ (b : List ℕ) (p : ℕ) (r : Got) (first : seen r ≡ readUB high b p 1) where
+  two-bits : run high b (item (Item.flag 2)) p ≡ showNum (onward b 1 (seen r))
+  unfolding run readItem
+  two-bits = rw (first, flag-bit b p 1)
+
+  -- it is not there
+  pub two-past : {e : ℕ} → r ≡ GotFault e → showNum (seen r) ≡ run high b (item (Item.flag 2)) p
+  two-past e = rw (two-bits, e)
+
+  -- it is 0
+  pub two-none : {v : ℕ} {q : BitPlace} → r ≡ GotValue v q → v ≡ 0 → showNum (num 0 (q .0)) ≡ run high b (item (Item.flag 2)) p
+  two-none e z = rw (two-bits, e, z)
+
+  -- it is 1, and a is what the second gave
+  module _ {v : ℕ} {q : BitPlace} (a : Got) (e : r ≡ GotValue v q) (one : v ≡ 0 → ⊥) (second : seen a ≡ readUB high b (q .0) 1) where
+    two-more : run high b (item (Item.flag 2)) p ≡ showNum (exist (seen a))
+    two-more = rw (two-bits, e, ne-eqb v 0 one, flag-one b (q .0), second)
+
+    pub two-cut : {z : ℕ} → a ≡ GotFault z → showNum (seen a) ≡ run high b (item (Item.flag 2)) p
+    two-cut f = rw (two-more, f)
+
+    pub two-both : {w : ℕ} {z : BitPlace} → a ≡ GotValue w z → showNum (num (1 + 2 * w) (z .0)) ≡ run high b (item (Item.flag 2)) p
+    two-both f = rw (two-more, f)
+
+-- the kind that a `match` tells
+pub flag-of : (b : List ℕ) (p : ℕ) {kind : Kind} {r : Reading} (told : Kind) → kind ≡ told → r ≡ run high b (item (flagsOf (kindOf told))) p
+    → r ≡ run high b (item (flagsOf (kindOf kind))) p
+flag-of b p told e f = f ∙ ap (λ (k : Kind). run high b (item (flagsOf (kindOf k))) p) (sym e)
+
+-- no bit, and the number 1
+pub fixed-is : (b : List ℕ) (p : ℕ) → showNum (num 1 p) ≡ run high b (item (Item.echo 1)) p
+unfolding run readItem
+fixed-is b p = refl
+
+-- ---- the flags of all rows, one after the other
+module _ (s t₀ : List ℕ) (start end p₀ : ℕ) where
+  abbrev flagsFrom : ℕ → ℕ → Reading
+  flagsFrom row p = run high s (allFlags (rowsFrom row end)) p
+
+  -- the whole from the start is what is left from here
+  pub record Going (t : List ℕ) (p row j : ℕ) : Type 0 where
+    pub size : length t ≡ length t₀
+    pub rest : after t₀ 0 (flagsFrom start p₀) ≡ after t j (flagsFrom row p)
+    pub place : Inside s p
+    pub below : row ≤ end
+    pub stored : j ≤ row
+
+  -- the row here is x, whose kind tells its flag
+  module _ {t : List ℕ} {p row j : ℕ} (x : Attribute) (some : row < end) (rows : end ≤ 21) (is : attributeOf x ≡ getD allAttributes row noAttribute) (g : Going t p row j) where
+    flags-here : flagsFrom row p ≡ run high s (item (flagsOf (kindOf (x .kind))) ▸ allFlags (rowsFrom (row + 1) end)) p
+    unfolding allFlags
+    flags-here = ap (λ (l : List bodies.Attribute). run high s (allFlags l) p) (rows-next x some rows is)
+
+    pub flags-next : {v q : ℕ} {u : List ℕ} → showNum (num v q) ≡ run high s (item (flagsOf (kindOf (x .kind)))) p → u ≡ set t j v → Going u q (row + 1) (j + 1)
+    flags-next {v} {q} {u} e d =
+        let l : (p ≤ q) × (q ≤ 8 * length s) = run-le high s (item (flagsOf (kindOf (x .kind)))) p q (g .place .0) (ap (λ (r : Reading). r .ended) (sym e)) in
+        record {
+          size = ap length d ∙ length-set t j v ∙ g .size;
+          rest = g .rest ∙ ap (after t j) flags-here ∙ sym (then-one high s t j (item (flagsOf (kindOf (x .kind)))) (λ xs. allFlags (rowsFrom (row + 1) end)) p (sym e) d refl);
+          place = (l .1, g .place .1);
+          below = omega arith;
+          stored = omega (arith, g .stored);
+        }
+
+    pub flags-stop : {e : ℕ} → showNum (bad e) ≡ run high s (item (flagsOf (kindOf (x .kind)))) p → state t j (Fault e) ≡ after t₀ 0 (flagsFrom start p₀)
+    flags-stop e =
+        then-never high s t j (item (flagsOf (kindOf (x .kind)))) (λ xs. allFlags (rowsFrom (row + 1) end)) p (sym e) ∙ sym (g .rest ∙ ap (after t j) flags-here)
+
+  pub flags-done : {t : List ℕ} {p row j : ℕ} → end ≤ row → Going t p row j → state t j (At p) ≡ after t₀ 0 (flagsFrom start p₀)
+  unfolding run allFlags
+  flags-done {t} {p} {row} {j} h g =
+      let z : row ≡ end = omega (arith, g .below) in
+      let n : rowsFrom row end ≡ [] = rw z (slice-empty end allAttributes) in
+      sym (g .rest ∙ rw n (after-none t j p))
+
+-- ---- for callers
+
+-- how the reading ended, from what a run left
+pub ended-is : (t : List ℕ) (k : ℕ) (r : Reading) {u : List ℕ} {j : ℕ} {z : Ending} → state u j z ≡ after t k r → r .ended ≡ z
+unfolding after
+ended-is t k r e = ap (λ (s : State). s .ended) (sym e)
+
+-- lent room for nine flags holds, from index 0 on, the flags that were shown
+module _ {start end : ℕ} (b f : List ℕ) (p : ℕ) {u : List ℕ} {j q : ℕ} (rows : AreRows start end) (lent : 9 ≤ length f)
+    (e : state u j (At q) ≡ after f 0 (run high b (allFlags (rowsFrom start end)) p)) where
+  pub flags-in : take (end - start) u ≡ run high b (allFlags (rowsFrom start end)) p .shown
+  unfolding after
+  flags-in =
+      let φs : List ℕ = run high b (allFlags (rowsFrom start end)) p .shown in
+      let n : length φs ≡ end - start = as-many high (rowsFrom start end) b p q (ended-is f 0 (run high b (allFlags (rowsFrom start end)) p) e) ∙ rows-many rows in
+      let m : 0 + length φs ≤ length f = omega (arith, rows .few, n) in
+      ap (λ (s : State). take (end - start) (s .table)) e ∙ rw (sets-eq φs f 0 m) (take-at φs _ (end - start) n)
+
+  pub flags-read : run high b (allFlags (rowsFrom start end)) p ≡ shows (take (end - start) u) q
+  flags-read = λ i. record { shown = sym flags-in i; ended = ended-is f 0 (run high b (allFlags (rowsFrom start end)) p) e i }

@@ -1,0 +1,68 @@
+-- `attributes::read_flag` meets its contract: the flag of the kind that the `match` tells.
+use denote.Ref.{now}
+use Rattle.attributes.specs.declared.Kind.the-variants.{Value, Fixed, BitFlag, Simple, Discrete}
+use Rattle.attributes.proofs.FlagLaws.{flag-of, one-bit, fixed-is}
+use borrow.Author.Needs.{needs}
+use Rattle.attributes.proofs.read_flag.Statement.{statement}
+use Rattle.attributes.proofs.read_flag.Tie as tie
+
+enum-told : tie.Need-enum-told
+enum-told c = search needs
+
+read-ub-requires : tie.Need-read-ub-requires
+read-ub-requires c κs = search needs
+
+enum-told-2 : tie.Need-enum-told-2
+enum-told-2 c = search needs
+
+enum-told-3 : tie.Need-enum-told-3
+enum-told-3 c = search needs
+
+read-ub-requires-2 : tie.Need-read-ub-requires-2
+read-ub-requires-2 c κs = search needs
+
+enum-told-4 : tie.Need-enum-told-4
+enum-told-4 c = search needs
+
+read-two-flags-requires : tie.Need-read-two-flags-requires
+read-two-flags-requires c κs = search needs
+
+enum-told-5 : tie.Need-enum-told-5
+enum-told-5 c = search needs
+
+read-two-flags-requires-2 : tie.Need-read-two-flags-requires-2
+read-two-flags-requires-2 c κs = search needs
+
+returns : tie.Need-returns
+returns c = let a = c .before .before .before .before .args in flag-of (now (a .s)) (a .at .0) Value (c .before .enum-told .given .1) (one-bit (now (a .s)) (a .at .0) (c .read-ub .ensures))
+
+returns-2 : tie.Need-returns-2
+returns-2 c = let a = c .before .before .before .args in flag-of (now (a .s)) (a .at .0) Fixed (c .enum-told2 .given .1) (fixed-is (now (a .s)) (a .at .0))
+
+returns-3 : tie.Need-returns-3
+returns-3 c = let a = c .before .before .before .before .args in flag-of (now (a .s)) (a .at .0) BitFlag (c .before .enum-told3 .given .1) (one-bit (now (a .s)) (a .at .0) (c .read-ub2 .ensures))
+
+returns-4 : tie.Need-returns-4
+returns-4 c = let a = c .before .before .before .before .args in flag-of (now (a .s)) (a .at .0) Simple (c .before .enum-told4 .given .1) (c .read-two-flags .ensures)
+
+returns-5 : tie.Need-returns-5
+returns-5 c = let a = c .before .before .before .before .args in flag-of (now (a .s)) (a .at .0) Discrete (c .before .enum-told5 .given .1) (c .read-two-flags2 .ensures)
+
+pub read-flag-spec : {M : Type 1} → statement M
+read-flag-spec =
+    tie.close
+    (tie.spec
+    enum-told
+    read-ub-requires
+    enum-told-2
+    enum-told-3
+    read-ub-requires-2
+    enum-told-4
+    read-two-flags-requires
+    enum-told-5
+    read-two-flags-requires-2
+    returns
+    returns-2
+    returns-3
+    returns-4
+    returns-5)

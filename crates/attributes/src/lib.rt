@@ -1,0 +1,217 @@
+// The attribute lists of tags 6, 9 and 14 as constant rows of kind and data type, and their flags.
+ghost use mathlib.Core.Path.{_≡_};
+ghost use Prim.Native.Nat.{_<_};
+ghost use lib.ListN.{getD};
+ghost use Rattle.format.specs.Bits.{high};
+ghost use Rattle.format.specs.Formats.{item};
+ghost use Rattle.format.specs.Items.{run, showNum};
+ghost use Rattle.format.specs.Bodies.{flagsOf, allFlags};
+ghost use Rattle.bits.specs.Places.{Inside, seen};
+ghost use Rattle.table.specs.State.{after};
+ghost use Rattle.table.specs.Run.{left};
+ghost use Rattle.attributes.specs.Rows.{kindOf, attributeOf, allAttributes, noAttribute, attributesOf, rowsFrom, AreRows};
+use bits::BitPlace;
+use bits::Got;
+use table::Run;
+
+pub enum Kind {
+    Value,
+    Fixed,
+    BitFlag,
+    Simple,
+    Discrete,
+}
+
+pub enum DataType {
+    U32,
+    Time,
+    Float,
+    Ratio,
+    Bool,
+    Byte,
+    BlendMode,
+    TrackMatteType,
+    MaskMode,
+    Path,
+}
+
+pub struct Attribute {
+    pub kind: Kind,
+    pub data_type: DataType,
+}
+
+// Rows of the table: the first, and the one after the last.
+pub struct Rows {
+    pub start: usize,
+    pub end: usize,
+}
+
+const ATTRIBUTES: [Attribute; 21] = [
+    // 6: isActive, autoOrientation, parent, stretch, startTime, blendMode, trackMatteType, timeRemap, duration
+    Attribute {
+        kind: Kind::BitFlag,
+        data_type: DataType::Bool,
+    },
+    Attribute {
+        kind: Kind::BitFlag,
+        data_type: DataType::Bool,
+    },
+    Attribute {
+        kind: Kind::Value,
+        data_type: DataType::U32,
+    },
+    Attribute {
+        kind: Kind::Value,
+        data_type: DataType::Ratio,
+    },
+    Attribute {
+        kind: Kind::Value,
+        data_type: DataType::Time,
+    },
+    Attribute {
+        kind: Kind::Value,
+        data_type: DataType::BlendMode,
+    },
+    Attribute {
+        kind: Kind::Value,
+        data_type: DataType::TrackMatteType,
+    },
+    Attribute {
+        kind: Kind::Simple,
+        data_type: DataType::Float,
+    },
+    Attribute {
+        kind: Kind::Fixed,
+        data_type: DataType::Time,
+    },
+    // 9: path, reversed, perpendicular, forceAlignment, firstMargin, lastMargin
+    Attribute {
+        kind: Kind::Value,
+        data_type: DataType::U32,
+    },
+    Attribute {
+        kind: Kind::Discrete,
+        data_type: DataType::Bool,
+    },
+    Attribute {
+        kind: Kind::Discrete,
+        data_type: DataType::Bool,
+    },
+    Attribute {
+        kind: Kind::Discrete,
+        data_type: DataType::Bool,
+    },
+    Attribute {
+        kind: Kind::Simple,
+        data_type: DataType::Float,
+    },
+    Attribute {
+        kind: Kind::Simple,
+        data_type: DataType::Float,
+    },
+    // 14: id, inverted, maskMode, path, opacity, expansion
+    Attribute {
+        kind: Kind::Fixed,
+        data_type: DataType::U32,
+    },
+    Attribute {
+        kind: Kind::BitFlag,
+        data_type: DataType::Bool,
+    },
+    Attribute {
+        kind: Kind::Value,
+        data_type: DataType::MaskMode,
+    },
+    Attribute {
+        kind: Kind::Simple,
+        data_type: DataType::Path,
+    },
+    Attribute {
+        kind: Kind::Simple,
+        data_type: DataType::Byte,
+    },
+    Attribute {
+        kind: Kind::Simple,
+        data_type: DataType::Float,
+    },
+];
+
+pub fn attribute_at(i: usize) -> Attribute
+    requires { ⌜ i < 21 ⌝ }
+    ensures { λ r. ⌜ attributeOf r ≡ getD allAttributes i noAttribute ⌝ }
+{
+    ATTRIBUTES[i]
+}
+
+// The rows of a tag that is an attribute block; the others have none.
+pub fn rows_of(code: u32) -> Rows
+    ensures { λ r. ⌜ AreRows (r .start) (r .end) × (rowsFrom (r .start) (r .end) ≡ attributesOf code) ⌝ }
+{
+    match code {
+        6 => Rows { start: 0, end: 9 },
+        9 => Rows { start: 9, end: 15 },
+        14 => Rows { start: 15, end: 21 },
+        _ => Rows { start: 0, end: 0 },
+    }
+}
+
+// An exist bit; if set, an animatable bit.
+fn read_two_flags(s: &[u8], at: BitPlace) -> Got
+    requires { ⌜ Inside (now s) (at .0) ⌝ }
+    ensures { λ r. ⌜ showNum (seen r) ≡ run high (now (s .entry)) (item (flagsOf (kindOf Kind.Simple))) (at .0) ⌝ }
+{
+    let e = bits::fields::read_ub(s, at, 1);
+    let Got::Value(exist, next) = e else {
+        return e;
+    };
+    if exist == 0 {
+        return Got::Value(0, next);
+    }
+    let a = bits::fields::read_ub(s, next, 1);
+    let Got::Value(animatable, after) = a else {
+        return a;
+    };
+    Got::Value(1 + 2 * animatable, after)
+}
+
+// The flags of one attribute as a number: exist + 2 × animatable; a Fixed one has no bit, and gives 1.
+pub fn read_flag(kind: Kind, s: &[u8], at: BitPlace) -> Got
+    requires { ⌜ Inside (now s) (at .0) ⌝ }
+    ensures { λ r. ⌜ showNum (seen r) ≡ run high (now (s .entry)) (item (flagsOf (kindOf kind))) (at .0) ⌝ }
+{
+    match kind {
+        Kind::Value => bits::fields::read_ub(s, at, 1),
+        Kind::Fixed => Got::Value(1, at),
+        Kind::BitFlag => bits::fields::read_ub(s, at, 1),
+        Kind::Simple => read_two_flags(s, at),
+        Kind::Discrete => read_two_flags(s, at),
+    }
+}
+
+// The flags of all rows, in order.
+pub fn read_flags(rows: Rows, s: &[u8], at: BitPlace, flags: &mut [u64]) -> Run
+    requires { ⌜ AreRows (rows .start) (rows .end) × Inside (now s) (at .0) ⌝ }
+    ensures { λ r. ⌜ left (now (flags .exit)) r ≡ after (now (flags .entry)) 0 (run high (now (s .entry)) (allFlags (rowsFrom (rows .start) (rows .end))) (at .0)) ⌝ }
+{
+    let end = rows.end;
+    let mut place = at;
+    let mut row = rows.start;
+    let mut j = 0;
+    while row < end {
+        let a = attribute_at(row);
+        let kind = a.kind;
+        let r = read_flag(kind, s, place);
+        match r {
+            Got::Value(number, next) => {
+                table::put(flags, j, number);
+                place = next;
+            }
+            Got::Fault(why) => {
+                return Run::Stop(why, j);
+            }
+        }
+        row += 1;
+        j += 1;
+    }
+    Run::Done(place, j)
+}

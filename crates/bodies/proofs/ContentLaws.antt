@@ -1,0 +1,156 @@
+-- Attribute blocks: an attribute's content by its kind and flag number, and the rows of a block one after the other.
+use Prim.Native.Nat.{ℕ, suc, _+_, _-_, _*_, _≤_, _<_}
+use mathlib.Core.List.{List, [], _∷_}
+use mathlib.Core.Path.{_≡_, refl, ap, ap₂, sym, _∙_}
+use native.Mathlib.Numerals.{add-one}
+use native.Mathlib.Omega.{arith}
+use lib.ListN.{length, getD, take}
+use lib.Seq.{slice, slice-cons, slice-empty}
+use borrow.Author.Tests.{eq-eqb, ne-eqb}
+use Rattle.format.specs.Bits.{high}
+use Rattle.format.specs.Reading.{At, Fault, Reading, shows}
+use Rattle.format.specs.Formats.{Item, Format, nothing, item, _▸_}
+use Rattle.format.specs.Items.{run, readItem}
+use Rattle.format.specs.Bodies as bodies
+use Rattle.format.specs.Bodies.{value, keyframed, contentOf, content, rows, allFlags, readBlock}
+use Rattle.format.proofs.SizeLaws.{Fair, FairEnd, fair-echo, fair-then, fair-content}
+use Rattle.format.proofs.WalkLaws.{run-le}
+use Rattle.bits.specs.declared.BitPlace.{BitPlace}
+use Rattle.table.specs.State.{State, after}
+use Rattle.table.specs.Run.{left}
+use Rattle.table.specs.Fields.{Fits}
+use Rattle.table.specs.declared.Run.{Run}
+use Rattle.table.specs.declared.Run.the-variants.{Done, Stop}
+use Rattle.table.proofs.EngineLaws.{state, after-none, after-stop, alike-assoc}
+use Rattle.table.proofs.RunLaws.{run-done, run-stop}
+use Rattle.attributes.specs.Rows.{kindOf, typeOf, attributeOf, allAttributes, noAttribute, rowsFrom, AreRows}
+use Rattle.attributes.specs.declared.Attribute.{Attribute}
+use Rattle.attributes.specs.declared.Kind.{Kind}
+use Rattle.attributes.specs.declared.Kind.the-variants.{Value}
+use Rattle.attributes.proofs.FlagLaws.{rows-next}
+use Rattle.bodies.specs.Leaf.{animatable}
+
+-- ---- contents, by the flag number
+module _ (b t : List ℕ) (k p : ℕ) where
+  -- nothing was read, and nothing stored
+  pub content-none : state t k (At p) ≡ after t k (run high b nothing p)
+  unfolding run
+  content-none = sym (after-none t k p)
+
+  module _ (kind : bodies.Kind) (d : bodies.DataType) (φ : ℕ) where
+    pub animatable-none : φ ≡ 0 → state t k (At p) ≡ after t k (run high b (animatable kind d φ) p)
+    animatable-none e = rw (eq-eqb φ 0 e) content-none
+
+    pub animatable-value : {x : State} → (φ ≡ 0 → ⊥) → φ ≡ 1 → x ≡ after t k (run high b (value d) p) → x ≡ after t k (run high b (animatable kind d φ) p)
+    animatable-value n e h = rw (ne-eqb φ 0 n, eq-eqb φ 1 e) h
+
+    pub animatable-frames : {x : State} → (φ ≡ 0 → ⊥) → (φ ≡ 1 → ⊥) → x ≡ after t k (run high b (keyframed kind d) p) → x ≡ after t k (run high b (animatable kind d φ) p)
+    animatable-frames n m h = rw (ne-eqb φ 0 n, ne-eqb φ 1 m) h
+
+  module _ (d : bodies.DataType) (φ : ℕ) where
+    pub value-none : φ ≡ 0 → state t k (At p) ≡ after t k (run high b (contentOf (kindOf Value) d φ) p)
+    value-none e = rw (eq-eqb φ 0 e) content-none
+
+    pub value-some : {x : State} → (φ ≡ 0 → ⊥) → x ≡ after t k (run high b (value d) p) → x ≡ after t k (run high b (contentOf (kindOf Value) d φ) p)
+    value-some n h = rw (ne-eqb φ 0 n) h
+
+    -- the kind that a `match` tells
+    pub content-of : {kind : Kind} {x : State} (told : Kind) → kind ≡ told → x ≡ after t k (run high b (contentOf (kindOf told) d φ) p)
+        → x ≡ after t k (run high b (contentOf (kindOf kind) d φ) p)
+    content-of told e f = f ∙ ap (λ (z : Kind). after t k (run high b (contentOf (kindOf z) d φ) p)) (sym e)
+
+    pub animatable-of : {kind : Kind} {x : State} (told : Kind) → animatable (kindOf told) d φ ≡ contentOf (kindOf told) d φ → kind ≡ told
+        → x ≡ after t k (run high b (animatable (kindOf kind) d φ) p) → x ≡ after t k (run high b (contentOf (kindOf kind) d φ) p)
+    animatable-of told same e f =
+        content-of told e (f ∙ ap (λ (z : Kind). after t k (run high b (animatable (kindOf z) d φ) p)) e ∙ ap (λ (g : Format). after t k (run high b g p)) same)
+
+-- the flag number is shown, and takes no bits
+pub echo-one : (b : List ℕ) (p φ : ℕ) → run high b (item (Item.echo φ)) p ≡ shows (φ ∷ []) p
+unfolding run readItem
+echo-one b p φ = refl
+
+-- ---- one row, and the rows after it
+abbrev pub rowOf : bodies.Attribute → ℕ → Format
+rowOf a φ = item (Item.echo φ) ▸ content a φ
+
+fair-row : (a : bodies.Attribute) (φ : ℕ) → Fair high 1 (rowOf a φ)
+fair-row a φ = fair-then high 1 0 (item (Item.echo φ)) (λ xs. content a φ) (fair-echo high φ) (λ b p q e. fair-content high (a .kind) (a .dataType) φ)
+
+-- m numbers may be stored for nothing; a row uses one of these
+row-fits : (b t : List ℕ) (a : bodies.Attribute) (φ m k : ℕ) {u : List ℕ} {p j q : ℕ} → Fits b p (k + suc m) → state u j (At q) ≡ after t k (run high b (rowOf a φ) p) → Fits b q (j + m)
+unfolding after
+row-fits b t a φ m k {u} {p} {j} {q} h e =
+    let z : run high b (rowOf a φ) p .ended ≡ At q = ap (λ (s : State). s .ended) (sym e) in
+    let l : (p ≤ q) × (q ≤ 8 * length b) = run-le high b (rowOf a φ) p q (h .0 .0) z in
+    let n : FairEnd 1 (8 * length b) p (length (run high b (rowOf a φ) p .shown)) (At q) = rw z at (fair-row a φ b p (h .0 .0)) in
+    let c : j ≡ k + length (run high b (rowOf a φ) p .shown) = ap (λ (s : State). s .count) e in
+    ((l .1, h .0 .1), omega (arith, n, c, h .1))
+
+-- the loop: the whole from the start is what is left from here
+module _ (s t₀ flags : List ℕ) (k start end p₀ : ℕ) where
+  abbrev rowsAt : ℕ → Format
+  rowsAt row = rows (rowsFrom row end) (slice (row - start) (end - start) flags)
+
+  abbrev whole : State
+  whole = after t₀ k (run high s (rows (rowsFrom start end) (take (end - start) flags)) p₀)
+
+  pub record Going (t : List ℕ) (p j row : ℕ) : Type 0 where
+    pub size : length t ≡ length t₀
+    pub same : whole ≡ after t j (run high s (rowsAt row) p)
+    pub fits : Fits s p (j + (end - row))
+    pub from : start ≤ row
+    pub below : row ≤ end
+
+  -- the row here is x, with the flag number φ; R is the answer of the call that read it
+  module _ {t : List ℕ} {p j row φ : ℕ} (x : Attribute) (some : row < end) (inside : end ≤ 21) (lent : end - start ≤ length flags)
+      (is : attributeOf x ≡ getD allAttributes row noAttribute) (flag : φ ≡ getD flags (row - start) 0) (g : Going t p j row) where
+    rows-here : run high s (rowsAt row) p ≡ run high s (rowOf (attributeOf x) φ ▸ rowsAt (row + 1)) p
+    unfolding rows
+    rows-here =
+        let n : suc (row - start) ≡ row + 1 - start = omega (arith, g .from) in
+        let f : slice (row - start) (end - start) flags ≡ φ ∷ slice (row + 1 - start) (end - start) flags =
+        slice-cons (row - start) (end - start) flags 0 (omega (arith, g .from)) lent ∙ rw (flag, n) in
+        ap₂ (λ (l : List bodies.Attribute) (φs : List ℕ). run high s (rows l φs) p) (rows-next x some inside is) f
+        ∙ sym (alike-assoc (item (Item.echo φ)) (content (attributeOf x) φ) (rowsAt (row + 1)) high s p)
+
+    module _ {u : List ℕ} {R : Run} (ran : left u R ≡ after t j (run high s (rowOf (attributeOf x) φ) p)) where
+      pub rows-next-row : {q : BitPlace} {i : ℕ} → length u ≡ length t → R ≡ Done q i → Going u (q .0) i (row + 1)
+      rows-next-row z e = record {
+        size = z ∙ g .size;
+        same = g .same ∙ ap (after t j) rows-here ∙ sym (run-done s t j (rowOf (attributeOf x) φ) p ran (λ xs. rowsAt (row + 1)) e refl);
+        fits = row-fits s t (attributeOf x) φ (end - (row + 1)) j (g .fits .0, omega (arith, g .fits .1)) (ap (left u) (sym e) ∙ ran);
+        from = omega (arith, g .from);
+        below = omega arith;
+      }
+
+      pub rows-stop : {e i : ℕ} → R ≡ Stop e i → left u R ≡ whole
+      rows-stop e = run-stop s t j (rowOf (attributeOf x) φ) p ran (λ xs. rowsAt (row + 1)) e ∙ sym (g .same ∙ ap (after t j) rows-here)
+
+  pub rows-done : {t : List ℕ} {p j row : ℕ} → end ≤ row → Going t p j row → state t j (At p) ≡ whole
+  unfolding run rows
+  rows-done {t} {p} {j} {row} h g =
+      let z : row ≡ end = omega (arith, g .below) in
+      let n : rowsFrom row end ≡ [] = rw z (slice-empty end allAttributes) in
+      sym (g .same ∙ rw n (after-none t j p))
+
+  -- at the start all flags are left
+  pub rows-start : AreRows start end → Fits s p₀ (k + 9) → Going t₀ p₀ k start
+  rows-start r h =
+      let n : start - start ≡ 0 = omega arith in
+      record { size = refl; same = rw n; fits = (h .0, omega (arith, h .1, r .few)); from = omega arith; below = r .up }
+
+-- ---- a block: its flags, and then its rows
+module _ (b t : List ℕ) (k p : ℕ) (attrs : List bodies.Attribute) where
+  pub block-rows : {φs : List ℕ} {q : ℕ} {x : State} → run high b (allFlags attrs) p ≡ shows φs q → x ≡ after t k (run high b (rows attrs φs) q) → x ≡ after t k (readBlock high b attrs p)
+  unfolding readBlock
+  block-rows e h = rw e h
+
+  pub block-stop : {e : ℕ} → run high b (allFlags attrs) p .ended ≡ Fault e → state t k (Fault e) ≡ after t k (readBlock high b attrs p)
+  unfolding readBlock
+  block-stop {e} h = rw h (sym (after-stop t k e))
+
+-- flags take no room in the table
+pub flags-fit : (b : List ℕ) (attrs : List bodies.Attribute) {φs : List ℕ} {p q k : ℕ} → run high b (allFlags attrs) p ≡ shows φs q → Fits b p k → Fits b q k
+flags-fit b attrs {φs} {p} {q} e h =
+    let l : (p ≤ q) × (q ≤ 8 * length b) = run-le high b (allFlags attrs) p q (h .0 .0) (ap (λ (r : Reading). r .ended) e) in
+    ((l .1, h .0 .1), omega (arith, l .0, h .1))

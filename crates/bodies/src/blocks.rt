@@ -1,0 +1,122 @@
+// Attribute blocks: the flags of all attributes, then each attribute's flag number and content.
+ghost use mathlib.Core.Path.{_≡_};
+ghost use Prim.Native.Nat.{_+_, _-_, _≤_};
+ghost use lib.ListN.{length, take};
+ghost use Rattle.format.specs.Bits.{high};
+ghost use Rattle.format.specs.Formats.{Item, item, _▸_};
+ghost use Rattle.format.specs.Items.{run};
+ghost use Rattle.format.specs.Bodies.{contentOf, content, rows as «rowsOf», readBlock};
+ghost use Rattle.table.specs.State.{after};
+ghost use Rattle.table.specs.Run.{left};
+ghost use Rattle.table.specs.Fields.{Fits};
+ghost use Rattle.bodies.specs.Leaf.{animatable};
+ghost use Rattle.attributes.specs.Rows.{kindOf, typeOf, attributeOf, rowsFrom, AreRows};
+use attributes::Attribute;
+use attributes::DataType;
+use attributes::Kind;
+use attributes::Rows;
+use bits::BitPlace;
+use table::Run;
+
+// The content of a Simple or Discrete attribute: none, a value, or keyframes.
+fn read_animatable(
+    kind: Kind,
+    what: DataType,
+    flag: u64,
+    s: &[u8],
+    at: BitPlace,
+    t: &mut [u64],
+    k: usize,
+) -> Run
+    requires { ⌜ Fits (now s) (at .0) k ⌝ }
+    ensures { λ r. ⌜ left (now (t .exit)) r ≡ after (now (t .entry)) k (run high (now (s .entry)) (animatable (kindOf kind) (typeOf what) flag) (at .0)) ⌝ }
+{
+    if flag == 0 {
+        return Run::Done(at, k);
+    }
+    if flag == 1 {
+        return values::read_value(what, s, at, t, k);
+    }
+    values::keyframes::read_keyframed(kind, what, s, at, t, k)
+}
+
+// An attribute's content, by its flag number.
+fn read_content(
+    kind: Kind,
+    what: DataType,
+    flag: u64,
+    s: &[u8],
+    at: BitPlace,
+    t: &mut [u64],
+    k: usize,
+) -> Run
+    requires { ⌜ Fits (now s) (at .0) k ⌝ }
+    ensures { λ r. ⌜ left (now (t .exit)) r ≡ after (now (t .entry)) k (run high (now (s .entry)) (contentOf (kindOf kind) (typeOf what) flag) (at .0)) ⌝ }
+{
+    match kind {
+        Kind::Value => if flag == 0 {
+            Run::Done(at, k)
+        } else {
+            values::read_value(what, s, at, t, k)
+        },
+        Kind::Fixed => values::read_value(what, s, at, t, k),
+        Kind::BitFlag => Run::Done(at, k),
+        Kind::Simple => read_animatable(kind, what, flag, s, at, t, k),
+        Kind::Discrete => read_animatable(kind, what, flag, s, at, t, k),
+    }
+}
+
+// An attribute: its flag number, and its content.
+fn read_attribute(
+    attribute: Attribute,
+    flag: u64,
+    s: &[u8],
+    at: BitPlace,
+    t: &mut [u64],
+    k: usize,
+) -> Run
+    requires { ⌜ Fits (now s) (at .0) (k + 1) ⌝ }
+    ensures { λ r. ⌜ left (now (t .exit)) r ≡ after (now (t .entry)) k (run high (now (s .entry)) (item (Item.echo flag) ▸ content (attributeOf attribute) flag) (at .0)) ⌝ }
+{
+    let kind = attribute.kind;
+    let what = attribute.data_type;
+    table::put(t, k, flag);
+    read_content(kind, what, flag, s, at, t, k + 1)
+}
+
+// The rows' attributes in order, with the flag numbers that were read for them.
+fn read_contents(rows: Rows, flags: &[u64], s: &[u8], at: BitPlace, t: &mut [u64], k: usize) -> Run
+    requires { ⌜ AreRows (rows .start) (rows .end) × (9 ≤ length (now flags)) × Fits (now s) (at .0) (k + 9) ⌝ }
+    ensures { λ r. ⌜ left (now (t .exit)) r ≡ after (now (t .entry)) k (run high (now (s .entry)) («rowsOf» (rowsFrom (rows .start) (rows .end)) (take (rows .end - rows .start) (now (flags .entry)))) (at .0)) ⌝ }
+{
+    let start = rows.start;
+    let end = rows.end;
+    let mut place = at;
+    let mut j = k;
+    let mut row = start;
+    while row < end {
+        let flag = flags[row - start];
+        let attribute = attributes::attribute_at(row);
+        let r = read_attribute(attribute, flag, s, place, t, j);
+        let Run::Done(next, i) = r else {
+            return r;
+        };
+        place = next;
+        j = i;
+        row += 1;
+    }
+    Run::Done(place, j)
+}
+
+// An attribute block.
+pub(crate) fn read_block(rows: Rows, s: &[u8], at: BitPlace, t: &mut [u64], k: usize) -> Run
+    requires { ⌜ AreRows (rows .start) (rows .end) × Fits (now s) (at .0) (k + 9) ⌝ }
+    ensures { λ r. ⌜ left (now (t .exit)) r ≡ after (now (t .entry)) k (readBlock high (now (s .entry)) (rowsFrom (rows .start) (rows .end)) (at .0)) ⌝ }
+{
+    let mut flags = [0u64; 9];
+    let r = attributes::read_flags(rows, s, at, &mut flags);
+    match r {
+        Run::Done(next, _) => read_contents(rows, &flags, s, next, t, k),
+        Run::Stop(why, _) => Run::Stop(why, k),
+    }
+}

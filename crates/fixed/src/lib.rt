@@ -1,0 +1,139 @@
+// Bodies that are no attribute blocks: their items as constant rows, walked by one reader; and font tables.
+ghost use mathlib.Core.Path.{_≡_};
+ghost use Prim.Native.Nat.{_≤_, _<_};
+ghost use lib.ListN.{getD};
+ghost use Rattle.format.specs.Bits.{high};
+ghost use Rattle.format.specs.Formats.{times};
+ghost use Rattle.format.specs.Items.{run, string};
+ghost use Rattle.format.specs.Bodies.{fontTables};
+ghost use Rattle.table.specs.State.{after};
+ghost use Rattle.table.specs.Run.{left};
+ghost use Rattle.table.specs.Fields.{Fits};
+ghost use Rattle.fixed.specs.Fixed.{inOrder, allItems, itemsFrom, fixedOf, RowsOf};
+use bits::BitPlace;
+use bits::Got;
+use items::Item;
+use table::Run;
+
+const ITEMS: [Item; 18] = [
+    // 2: id
+    Item::U32,
+    // 3: width, height, Time, Float, Color
+    Item::I32,
+    Item::I32,
+    Item::Time,
+    Item::Float,
+    Item::Byte,
+    Item::Byte,
+    Item::Byte,
+    // 5: type, id
+    Item::Byte,
+    Item::U32,
+    // 7: Color, width, height
+    Item::Byte,
+    Item::Byte,
+    Item::Byte,
+    Item::I32,
+    Item::I32,
+    // 11: id
+    Item::U32,
+    // 12: id, Time
+    Item::U32,
+    Item::Time,
+];
+
+// Items of the table: from row start on, up to row end.
+struct Rows {
+    start: usize,
+    end: usize,
+}
+
+fn item_at(i: usize) -> Item
+    requires { ⌜ i < 18 ⌝ }
+    ensures { λ r. ⌜ r ≡ getD allItems i Item.U32 ⌝ }
+{
+    ITEMS[i]
+}
+
+// The items from row start on, up to row end.
+fn read_items(start: usize, end: usize, s: &[u8], at: BitPlace, t: &mut [u64], k: usize) -> Run
+    requires { ⌜ (start ≤ end) × (end ≤ 18) × Fits (now s) (at .0) k ⌝ }
+    ensures { λ r. ⌜ left (now (t .exit)) r ≡ after (now (t .entry)) k (run high (now (s .entry)) (inOrder (itemsFrom start end)) (at .0)) ⌝ }
+{
+    let mut place = at;
+    let mut j = k;
+    let mut row = start;
+    while row < end {
+        let r = table::read_one(item_at(row), s, place, t, j);
+        let Run::Done(next, i) = r else {
+            return r;
+        };
+        place = next;
+        j = i;
+        row += 1;
+    }
+    Run::Done(place, j)
+}
+
+// n Strings.
+fn read_strings(n: usize, s: &[u8], at: BitPlace, t: &mut [u64], k: usize) -> Run
+    requires { ⌜ Fits (now s) (at .0) k ⌝ }
+    ensures { λ r. ⌜ left (now (t .exit)) r ≡ after (now (t .entry)) k (run high (now (s .entry)) (times n string) (at .0)) ⌝ }
+{
+    let mut place = at;
+    let mut j = k;
+    let mut left = n;
+    while 0 < left {
+        let r = table::text::read_string(s, place, t, j);
+        let Run::Done(behind, i) = r else {
+            return r;
+        };
+        place = behind;
+        j = i;
+        left -= 1;
+    }
+    Run::Done(place, j)
+}
+
+// 1: a count, then two Strings each.
+fn read_fonts(s: &[u8], at: BitPlace, t: &mut [u64], k: usize) -> Run
+    requires { ⌜ Fits (now s) (at .0) k ⌝ }
+    ensures { λ r. ⌜ left (now (t .exit)) r ≡ after (now (t .entry)) k (run high (now (s .entry)) fontTables (at .0)) ⌝ }
+{
+    let c = items::read_item(Item::Count(0), s, at);
+    match c {
+        Got::Value(n, next) => {
+            table::put(t, k, n);
+            read_strings(2 * (n as usize), s, next, t, k + 1)
+        }
+        Got::Fault(why) => Run::Stop(why, k),
+    }
+}
+
+// The rows of a code other than 1: those of a container stand before its list; a code that has no items has no rows.
+fn rows_of(code: u32) -> Rows
+    requires { ⌜ (code ≡ 1 → ⊥) ⌝ }
+    ensures { λ r. ⌜ RowsOf code (r .start) (r .end) ⌝ }
+{
+    match code {
+        2 => Rows { start: 0, end: 1 },
+        3 => Rows { start: 1, end: 8 },
+        5 => Rows { start: 8, end: 10 },
+        7 => Rows { start: 10, end: 15 },
+        11 => Rows { start: 15, end: 16 },
+        12 => Rows { start: 16, end: 18 },
+        _ => Rows { start: 0, end: 0 },
+    }
+}
+
+// The items of a tag that is no attribute block; of a container those before its list.
+pub fn read_fixed(code: u32, s: &[u8], at: BitPlace, t: &mut [u64], k: usize) -> Run
+    requires { ⌜ Fits (now s) (at .0) k ⌝ }
+    ensures { λ r. ⌜ left (now (t .exit)) r ≡ after (now (t .entry)) k (run high (now (s .entry)) (fixedOf code) (at .0)) ⌝ }
+{
+    if code == 1 {
+        return read_fonts(s, at, t, k);
+    }
+    let rows = rows_of(code);
+    read_items(rows.start, rows.end, s, at, t, k)
+}

@@ -1,0 +1,3 @@
+-- Variable-length numbers; every item that shows one number.
+pub mod VarLaws
+pub mod ItemLaws

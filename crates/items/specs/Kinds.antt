@@ -1,0 +1,58 @@
+-- The kinds of items that show one number: the formats of document 01 that they stand for, and what each part of an item reads as.
+use Prim.Native.Nat.{ℕ, zero, suc, _*_, _+_}
+use mathlib.Core.Bool.{Bool}
+use mathlib.Core.List.{List}
+use lib.Dec.{ltb, leb}
+use Rattle.format.specs.Tests.{pick, _and_, _or_}
+use Rattle.format.specs.Bits.{high}
+use Rattle.format.specs.Formats.{Format}
+use Rattle.format.specs.Items.{Num, u32, i32, time, float, byte, enum, count, readU32, readU64, readLE, readUB, mapNum, notOne, sign}
+use Rattle.format.specs.Bodies.{blendMode}
+use Rattle.items.specs.declared.Item.{Item}
+use Rattle.items.specs.declared.Item.the-variants.{U32, I32, Time, Float, Byte, Enum, BlendMode, Count}
+
+-- the format of a kind; a Count goes to 4,096
+abbrev pub formatOf : Item → Format
+formatOf U32 = u32
+formatOf I32 = i32
+formatOf Time = time
+formatOf Float = float
+formatOf Byte = byte
+formatOf (Enum top) = enum top
+formatOf BlendMode = blendMode
+formatOf (Count lo) = count lo 4096
+
+-- what its bytes read as, from a whole byte on: all but its range
+abbrev pub spelt : Item → List ℕ → ℕ → Num
+spelt U32 b p = readU32 high b p
+spelt I32 b p = mapNum sign (notOne (readU32 high b p))
+spelt Time b p = readU64 high b p
+spelt Float b p = readLE high b p 4
+spelt Byte b p = readUB high b p 8
+spelt (Enum top) b p = readUB high b p 8
+spelt BlendMode b p = readUB high b p 8
+spelt (Count lo) b p = readU32 high b p
+
+-- v is from a to z
+abbrev pub between : ℕ → ℕ → ℕ → Bool
+between a v z = leb a v and leb v z
+
+-- the reason that the number v gets outside its range: 0 if there is none
+unfoldable pub rangeFault : Item → ℕ → ℕ
+rangeFault U32 v = 0
+rangeFault I32 v = 0
+rangeFault Time v = 0
+rangeFault Float v = 0
+rangeFault Byte v = 0
+rangeFault (Enum top) v = pick (leb v top) 0 16
+rangeFault BlendMode v = pick (leb v 16 or between 21 v 26) 0 16
+rangeFault (Count lo) v = pick (between lo v 4096) 0 17
+
+-- may b end a spelling of several bytes, with k more allowed after it? Not as 0, and the last that is allowed is at most top
+unfoldable pub canEnd : ℕ → ℕ → ℕ → Bool
+canEnd k top b = ltb 0 b and (ltb 0 k or leb b top)
+
+-- what a spelling of at most k + 1 bytes, the last at most top, stays below
+abbrev pub cap : ℕ → ℕ → ℕ
+cap zero top = top + 1
+cap (suc k) top = 128 * cap k top

@@ -1,0 +1,4 @@
+pub mod EngineLaws
+pub mod FieldLaws
+pub mod TextLaws
+pub mod RunLaws

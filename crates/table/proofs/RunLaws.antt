@@ -1,0 +1,102 @@
+-- What the answer of an engine call tells its caller: in a sequence, in a loop, and after the skip to a whole byte.
+use Prim.Native.Nat.{ℕ, zero, suc, _+_, _-_, _<_}
+use mathlib.Core.List.{List, [], _∷_}
+use mathlib.Core.Path.{_≡_, refl, ap, sym, _∙_}
+use lib.ListN.{length}
+use lib.Seq.{length-sets}
+use native.Mathlib.Omega.{arith}
+use Rattle.format.specs.Bits.{high}
+use Rattle.format.specs.Reading.{Ending, At, Fault, shows, stop}
+use Rattle.format.specs.Formats.{Item, Format, nothing, item, _▹_, _▸_, times}
+use Rattle.format.specs.Items.{run, readItem, u32, byte}
+use Rattle.format.proofs.SizeLaws.{Fair, fair-byte, fair-only}
+use Rattle.bits.specs.Places.{alignedAt}
+use Rattle.bits.specs.declared.Aligned.the-variants.{Clean, Unclean}
+use Rattle.bits.specs.declared.BitPlace.{BitPlace}
+use Rattle.bits.specs.declared.BytePlace.{BytePlace}
+use Rattle.bits.proofs.FieldLaws.{align-clean, align-unclean}
+use Rattle.items.specs.Kinds.{formatOf}
+use Rattle.items.specs.declared.Item.{Item as Kind}
+use Rattle.items.specs.declared.Item.the-variants.{U32, I32, Time, Float, Byte, Enum, BlendMode, Count}
+use Rattle.table.specs.State.{State, after}
+use Rattle.table.specs.Run.{left}
+use Rattle.table.specs.Fields.{Fits}
+use Rattle.table.specs.declared.Run.{Run}
+use Rattle.table.specs.declared.Run.the-variants.{Done, Stop}
+use Rattle.table.proofs.EngineLaws.{state, after-none, one-stored, then-done, then-stop, fits-after}
+
+-- a call that read f, and g after it
+module _ (b t : List ℕ) (k : ℕ) (f : Format) (p : ℕ) {u : List ℕ} {R : Run} (ran : left u R ≡ after t k (run high b f p)) where
+  pub run-done : {q : BitPlace} {j : ℕ} {x : State} (g : List ℕ → Format) → R ≡ Done q j → x ≡ after u j (run high b (g (run high b f p .shown)) (q .0))
+      → x ≡ after t k (run high b (f ▹ g) p)
+  run-done g e d = then-done high b t k f g p (ap (left u) (sym e) ∙ ran) d
+
+  pub run-stop : {e j : ℕ} (g : List ℕ → Format) → R ≡ Stop e j → left u R ≡ after t k (run high b (f ▹ g) p)
+  run-stop g e = ap (left u) e ∙ then-stop high b t k f g p (ap (left u) (sym e) ∙ ran)
+
+  pub run-fits : {q : BitPlace} {j : ℕ} → R ≡ Done q j → Fair high 0 f → Fits b p k → Fits b (q .0) j
+  run-fits e h l = fits-after b t f h l (ap (left u) (sym e) ∙ ran)
+
+-- ---- a loop that reads a format part by part: the whole from the start is what is left from here
+pub record Going (s t₀ : List ℕ) (k : ℕ) (whole : Format) (p₀ : ℕ) (t : List ℕ) (p j : ℕ) (rest : Format) : Type 0 where
+  pub size : length t ≡ length t₀
+  pub same : after t₀ k (run high s whole p₀) ≡ after t j (run high s rest p)
+  pub fits : Fits s p j
+
+module _ {s t₀ : List ℕ} {k p₀ : ℕ} {t : List ℕ} {p j : ℕ} {whole rest : Format} (g : Going s t₀ k whole p₀ t p j rest) where
+  -- the part f comes next, and was read
+  module _ {f more : Format} (split : rest ≡ f ▸ more) where
+    pub going-size : {u : List ℕ} {i : ℕ} {z : Ending} → state u i z ≡ after t j (run high s f p) → length u ≡ length t₀
+    unfolding after
+    going-size ran = ap (λ (z : State). length (z .table)) ran ∙ length-sets t j (run high s f p .shown) ∙ g .size
+
+    whole-is : after t₀ k (run high s whole p₀) ≡ after t j (run high s (f ▸ more) p)
+    whole-is = g .same ∙ ap (λ (z : Format). after t j (run high s z p)) split
+
+    pub going-next : {u : List ℕ} {R : Run} {q : BitPlace} {i : ℕ} → Fair high 0 f → R ≡ Done q i → left u R ≡ after t j (run high s f p) → Going s t₀ k whole p₀ u (q .0) i more
+    going-next h e ran = record { size = going-size ran; same = whole-is ∙ sym (run-done s t j f p ran (λ xs. more) e refl); fits = run-fits s t j f p ran e h (g .fits) }
+
+    pub going-stop : {u : List ℕ} {R : Run} {e i : ℕ} → R ≡ Stop e i → left u R ≡ after t j (run high s f p) → left u R ≡ after t₀ k (run high s whole p₀)
+    going-stop e ran = run-stop s t j f p ran (λ xs. more) e ∙ sym whole-is
+
+  pub going-done : rest ≡ nothing → state t j (At p) ≡ after t₀ k (run high s whole p₀)
+  unfolding run
+  going-done e = sym (g .same ∙ ap (λ (z : Format). after t j (run high s z p)) e ∙ after-none t j p)
+
+-- n times a format: one and the rest, or nothing
+pub times-more : (n : ℕ) (f : Format) → 0 < n → times n f ≡ f ▸ times (n - 1) f
+unfolding times
+times-more zero f h = absurd (omega arith)
+times-more (suc n) f h = let m : suc n - 1 ≡ n = omega arith in rw m
+
+pub times-zero : (n : ℕ) (f : Format) → n ≡ 0 → times n f ≡ nothing
+unfolding times
+times-zero n f e = rw e
+
+-- ---- an item that was read, and its number stored
+
+pub fair-kind : (kind : Kind) → Fair high 0 (formatOf kind)
+fair-kind U32 = fair-byte high Item.U32 tt
+fair-kind I32 = fair-byte high Item.I32 tt
+fair-kind Time = fair-byte high Item.U64 tt
+fair-kind Float = fair-byte high (Item.LE 4) (omega arith)
+fair-kind Byte = fair-byte high (Item.UB 8) (omega arith)
+fair-kind (Enum top) = fair-only high 0 _ 16 byte (fair-byte high (Item.UB 8) (omega arith))
+fair-kind BlendMode = fair-only high 0 _ 16 byte (fair-byte high (Item.UB 8) (omega arith))
+fair-kind (Count lo) = fair-only high 0 _ 17 u32 (fair-byte high Item.U32 tt)
+
+pub one-fits : (kind : Kind) (b : List ℕ) (p : ℕ) {v q k : ℕ} → run high b (formatOf kind) p ≡ shows (v ∷ []) q → Fits b p k → Fits b q (k + 1)
+one-fits kind b p {k = k} e h = fits-after b [] (formatOf kind) (fair-kind kind) h (one-stored [] k e refl)
+
+-- ---- the skip to a whole byte, from the answer of `align`
+module _ (b : List ℕ) (p : ℕ) where
+  pub align-none : {i : BytePlace} {q : BitPlace} → alignedAt b p ≡ Clean i q → run high b (item Item.align) p ≡ shows [] (q .0)
+  unfolding run readItem
+  align-none e = align-clean b p e .0
+
+  pub align-never : alignedAt b p ≡ Unclean → run high b (item Item.align) p ≡ stop 15
+  unfolding run readItem
+  align-never e = align-unclean b p e
+
+  pub align-fits : {i : BytePlace} {q : BitPlace} {k : ℕ} → alignedAt b p ≡ Clean i q → Fits b p k → Fits b (q .0) k
+  align-fits e h = let f = align-clean b p e in ((omega (arith, f .1, f .2, f .3, h .0 .0), h .0 .1), omega (arith, f .2, h .1))

@@ -1,0 +1,47 @@
+-- The kinds of bit fields that stand in runs, and their formats.
+use Prim.Native.Nat.{ℕ, _+_, _*_, _^_, _≤_}
+use mathlib.Core.List.{List, [], _∷_}
+use mathlib.Core.Bool.{Bool, true}
+use lib.Dec.{ltb, leb, eqb}
+use Rattle.format.specs.Tests.{pick}
+use Rattle.format.specs.Formats.{Item, Format, item, only, the}
+use Rattle.format.specs.Items.{Num, num, bad, coordinatesOf}
+use Rattle.bits.specs.Places.{Inside}
+use Rattle.table.specs.declared.fields.Field.{Field}
+use Rattle.table.specs.declared.fields.Field.the-variants.{Verb, Interpolation, Bit, ByteValue, Coordinate}
+
+-- what a field's number may be: an interpolation is not 0, and a byte value at most 255
+abbrev pub allows : Field → ℕ → Bool
+allows Verb v = true
+allows Interpolation v = ltb 0 v
+allows Bit v = true
+allows ByteValue v = leb v 255
+allows Coordinate v = true
+
+abbrev pub judgeNum : Field → Num → Num
+judgeNum f (num v p) = pick (allows f v) (num v p) (bad 16)
+judgeNum f (bad e) = bad e
+
+-- one field of w bits
+abbrev pub fieldOf : Field → ℕ → Format
+fieldOf Verb w = item (Item.UB w)
+fieldOf Interpolation w = only (λ ns. ltb 0 (the ns)) 16 (item (Item.UB w))
+fieldOf Bit w = item (Item.UB w)
+fieldOf ByteValue w = only (λ ns. leb (the ns) 255) 16 (item (Item.UB w))
+fieldOf Coordinate w = item (Item.SB w)
+
+-- how many signed fields a field of this kind and value announces: a verb its coordinates, a Bezier frame four
+abbrev pub announces : Field → ℕ → ℕ
+announces Verb v = coordinatesOf v
+announces Interpolation v = pick (eqb v 2) 4 0
+announces Bit v = 0
+announces ByteValue v = 0
+announces Coordinate v = 0
+
+abbrev pub announced : Field → List ℕ → ℕ
+announced f [] = 0
+announced f (v ∷ vs) = announces f v + announced f vs
+
+-- an engine's place p and index k: so far a number was stored for each bit at most, so that no index can wrap
+abbrev pub Fits : List ℕ → ℕ → ℕ → Type 0
+Fits b p k = Inside b p × (k ≤ p + 2 ^ 62)

@@ -1,0 +1,105 @@
+use denote.Ref.{now}
+use mathlib.Core.Path.{refl, sym, _∙_}
+use native.Mathlib.Omega.{arith}
+use lib.Dec.{lit≤}
+use Rattle.attributes.specs.Rows.{kindOf}
+use Rattle.attributes.specs.declared.Kind.the-variants.{Value, Fixed, BitFlag, Simple, Discrete}
+use Rattle.table.proofs.RunLaws.{align-none, align-never, align-fits}
+use Rattle.values.proofs.ValueLaws.{frames-of, frames-never, frames-none, frames-some}
+use borrow.Author.Needs.{needs}
+use Rattle.values.proofs.keyframes.read_interpolations.Statement.{statement}
+use Rattle.values.proofs.keyframes.read_interpolations.Tie as tie
+use Rattle.values.proofs.keyframes.read_interpolations.Reads as reads
+use Rattle.values.proofs.keyframes.read_interpolations.Lts as lts
+use Rattle.bits.proofs.align.Reads as align-reads
+use Rattle.table.proofs.fields.read_fields.Reads as read-fields-reads
+
+-- src/keyframes.rt:31:9
+align-requires : tie.Need-align-requires
+align-requires c κs = search needs
+
+-- src/keyframes.rt:32:27
+enum-known-a : tie.Need-enum-known-a
+enum-known-a c = search needs
+
+-- src/keyframes.rt:33:33
+enum-told : tie.Need-enum-told
+enum-told c = search needs
+
+-- src/keyframes.rt:33:9
+returns : tie.Need-returns
+returns c = let a = c .before .before .before .before .before .args in frames-never (now (a .s)) (now (a .t)) (a .k) (a .n) (a .at .0) (kindOf (a .kind)) (align-never (now (a .s)) (a .at .0) (sym (c .before .before .align .ensures) ∙ c .enum-told .given .1))
+
+-- src/keyframes.rt:36:52
+enum-told-2 : tie.Need-enum-told-2
+enum-told-2 c = search needs
+
+-- src/keyframes.rt:36:25
+read-fields-requires : tie.Need-read-fields-requires
+read-fields-requires c κs = let a = c .before .before .before .before .before .before .before .before .before .args in (align-fits (now (a .s)) (a .at .0) (sym (c .before .before .before .before .before .before .align .ensures) ∙ c .before .before .before .before .a .given .1) (c .before .before .before .before .before .before .before .before .before .pre .0), lit≤ tt, lit≤ tt, omega (arith, c .before .before .before .before .before .before .before .before .before .pre .1))
+
+-- src/keyframes.rt:37:41
+enum-told-3 : tie.Need-enum-told-3
+enum-told-3 c = search needs
+
+-- src/keyframes.rt:38:41
+enum-told-4 : tie.Need-enum-told-4
+enum-told-4 c = search needs
+
+-- src/keyframes.rt:39:43
+enum-told-5 : tie.Need-enum-told-5
+enum-told-5 c = search needs
+
+-- src/keyframes.rt:40:44
+enum-told-6 : tie.Need-enum-told-6
+enum-told-6 c = search needs
+
+-- src/keyframes.rt:26:1
+same-length : tie.Need-same-length
+same-length c = search needs
+
+-- src/keyframes.rt:26:1
+returns-2 : tie.Need-returns-2
+returns-2 c = let a = c .before .before .before .before .before .before .before .before .before .before .before .before .args in frames-of (now (a .s)) (now (a .t)) (a .k) (a .n) (a .at .0) Simple (c .before .before .before .before .enum-told2 .given .1)
+    (frames-some (now (a .s)) (now (a .t)) (a .k) (a .n) (a .at .0) (align-none (now (a .s)) (a .at .0) (sym (c .before .before .before .before .before .before .before .before .before .align .ensures) ∙ c .before .before .before .before .before .before .before .a .given .1)) (c .before .before .read-fields .ensures .0) (c .before .before .read-fields .ensures .1))
+
+-- src/keyframes.rt:26:1
+returns-3 : tie.Need-returns-3
+returns-3 c = let a = c .before .before .before .before .before .before .before .before .args in frames-of (now (a .s)) (now (a .t)) (a .k) (a .n) (a .at .0) Value (c .enum-told3 .given .1)
+    (frames-none (now (a .s)) (now (a .t)) (a .k) (a .n) (a .at .0) (kindOf Value) refl (align-none (now (a .s)) (a .at .0) (sym (c .before .before .before .before .before .align .ensures) ∙ c .before .before .before .a .given .1)))
+
+-- src/keyframes.rt:26:1
+returns-4 : tie.Need-returns-4
+returns-4 c = let a = c .before .before .before .before .before .before .before .before .args in frames-of (now (a .s)) (now (a .t)) (a .k) (a .n) (a .at .0) Fixed (c .enum-told4 .given .1)
+    (frames-none (now (a .s)) (now (a .t)) (a .k) (a .n) (a .at .0) (kindOf Fixed) refl (align-none (now (a .s)) (a .at .0) (sym (c .before .before .before .before .before .align .ensures) ∙ c .before .before .before .a .given .1)))
+
+-- src/keyframes.rt:26:1
+returns-5 : tie.Need-returns-5
+returns-5 c = let a = c .before .before .before .before .before .before .before .before .args in frames-of (now (a .s)) (now (a .t)) (a .k) (a .n) (a .at .0) BitFlag (c .enum-told5 .given .1)
+    (frames-none (now (a .s)) (now (a .t)) (a .k) (a .n) (a .at .0) (kindOf BitFlag) refl (align-none (now (a .s)) (a .at .0) (sym (c .before .before .before .before .before .align .ensures) ∙ c .before .before .before .a .given .1)))
+
+-- src/keyframes.rt:26:1
+returns-6 : tie.Need-returns-6
+returns-6 c = let a = c .before .before .before .before .before .before .before .before .args in frames-of (now (a .s)) (now (a .t)) (a .k) (a .n) (a .at .0) Discrete (c .enum-told6 .given .1)
+    (frames-none (now (a .s)) (now (a .t)) (a .k) (a .n) (a .at .0) (kindOf Discrete) refl (align-none (now (a .s)) (a .at .0) (sym (c .before .before .before .before .before .align .ensures) ∙ c .before .before .before .a .given .1)))
+
+pub read-interpolations-spec : {M : Type 1} → statement M
+read-interpolations-spec =
+    tie.close
+    (tie.spec
+    align-requires
+    enum-known-a
+    enum-told
+    returns
+    enum-told-2
+    read-fields-requires
+    enum-told-3
+    enum-told-4
+    enum-told-5
+    enum-told-6
+    same-length
+    returns-2
+    returns-3
+    returns-4
+    returns-5
+    returns-6)
