@@ -26,8 +26,9 @@ use Rattle.bits.specs.declared.Got.{Got}
 use Rattle.bits.specs.declared.Got.the-variants.{Value as GotValue, Fault as GotFault}
 use Rattle.table.specs.State.{State, after}
 use Rattle.table.proofs.EngineLaws.{state, after-none, then-one, then-never}
-use Rattle.attributes.specs.Rows.{kindOf, attributeOf, allAttributes, noAttribute, rowsFrom, AreRows}
+use Rattle.attributes.specs.Rows.{kindOf, typeOf, attributeOf, allAttributes, noAttribute, attributesOf, rowsAt, rowsFrom, AreRows}
 use Rattle.attributes.specs.declared.Attribute.{Attribute}
+use Rattle.attributes.specs.declared.Rows.{Rows}
 use Rattle.attributes.specs.declared.Kind.{Kind}
 use Rattle.attributes.specs.declared.Kind.the-variants.{Value, Fixed, BitFlag, Simple, Discrete}
 use Rattle.attributes.specs.declared.DataType.{DataType}
@@ -64,6 +65,32 @@ codeType bodies.Paths = Path
 abbrev codeRow : bodies.Attribute → Attribute
 codeRow a = record { kind = codeKind (a .kind); data_type = codeType (a .dataType) }
 
+kind-back : (k : Kind) → codeKind (kindOf k) ≡ k
+kind-back Value = refl
+kind-back Fixed = refl
+kind-back BitFlag = refl
+kind-back Simple = refl
+kind-back Discrete = refl
+
+type-back : (d : DataType) → codeType (typeOf d) ≡ d
+type-back U32 = refl
+type-back Time = refl
+type-back Float = refl
+type-back Ratio = refl
+type-back Bool = refl
+type-back Byte = refl
+type-back BlendMode = refl
+type-back TrackMatteType = refl
+type-back MaskMode = refl
+type-back Path = refl
+
+row-back : (a : Attribute) → codeRow (attributeOf a) ≡ a
+row-back a = λ i. record { kind = kind-back (a .kind) i; data_type = type-back (a .data_type) i }
+
+-- no second row fits
+pub row-one : (a b : Attribute) → attributeOf a ≡ attributeOf b → a ≡ b
+row-one a b e = sym (row-back a) ∙ ap codeRow e ∙ row-back b
+
 -- THE table: its rows, read back, compute to the lists, and so at each place
 pub row-is : (d : Attribute) (i : ℕ) → i < 21 → attributeOf (getD (map codeRow allAttributes) i d) ≡ getD allAttributes i noAttribute
 row-is d i h = sym (List·getD-map attributeOf (map codeRow allAttributes) i d) ∙ getD-any allAttributes i (attributeOf d) noAttribute h
@@ -72,6 +99,21 @@ row-is d i h = sym (List·getD-map attributeOf (map codeRow allAttributes) i d) 
 pub rows-next : {row end : ℕ} (x : Attribute) → row < end → end ≤ 21 → attributeOf x ≡ getD allAttributes row noAttribute
     → rowsFrom row end ≡ attributeOf x ∷ rowsFrom (row + 1) end
 rows-next {row} {end} x h l e = slice-cons row end allAttributes noAttribute h l ∙ rw (e, add-one row)
+
+-- the rows of a code are its list
+pub rows-are : (code : ℕ) (r : Rows) → r ≡ rowsAt code → AreRows (r .start) (r .end) × (rowsFrom (r .start) (r .end) ≡ attributesOf code)
+unfolding attributesOf
+rows-are code r e = rw e (go (eqb code 6) (eqb code 9) (eqb code 14))
+  where
+    at : (a b c : truth.Bool) → Rows
+    at a b c = pick a (record { start = 0; end = 9 }) (pick b (record { start = 9; end = 15 }) (pick c (record { start = 15; end = 21 }) (record { start = 0; end = 0 })))
+
+    go : (a b c : truth.Bool) → AreRows (at a b c .start) (at a b c .end)
+        × (rowsFrom (at a b c .start) (at a b c .end) ≡ pick a bodies.layerAttributes (pick b bodies.textPathOption (pick c bodies.maskBlock [])))
+    go true b c = (record { up = omega arith; few = omega arith; inside = omega arith }, refl)
+    go false true c = (record { up = omega arith; few = omega arith; inside = omega arith }, refl)
+    go false false true = (record { up = omega arith; few = omega arith; inside = omega arith }, refl)
+    go false false false = (record { up = omega arith; few = omega arith; inside = omega arith }, refl)
 
 pub rows-many : {start end : ℕ} → AreRows start end → length (rowsFrom start end) ≡ end - start
 rows-many {start} {end} a = length-slice start end allAttributes (a .inside)

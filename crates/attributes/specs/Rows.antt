@@ -52,6 +52,14 @@ rowsFrom start end = slice start end allAttributes
 unfoldable pub attributesOf : ℕ → List bodies.Attribute
 attributesOf code = pick (eqb code 6) layerAttributes (pick (eqb code 9) textPathOption (pick (eqb code 14) maskBlock []))
 
+-- its rows in the table: the first, and the one after the last
+abbrev pub rowsAt : ℕ → Rows
+rowsAt code =
+    pick (eqb code 6) (record { start = 0; end = 9 })
+    (pick (eqb code 9) (record { start = 9; end = 15 })
+    (pick (eqb code 14) (record { start = 15; end = 21 })
+    (record { start = 0; end = 0 })))
+
 -- rows of the table, at most nine of them
 pub record AreRows (start end : ℕ) : Type 0 where
   pub up : start ≤ end

@@ -9,7 +9,7 @@ ghost use Rattle.format.specs.Bodies.{flagsOf, allFlags};
 ghost use Rattle.bits.specs.Places.{Inside, seen};
 ghost use Rattle.table.specs.State.{after};
 ghost use Rattle.table.specs.Run.{left};
-ghost use Rattle.attributes.specs.Rows.{kindOf, attributeOf, allAttributes, noAttribute, attributesOf, rowsFrom, AreRows};
+ghost use Rattle.attributes.specs.Rows.{kindOf, attributeOf, allAttributes, noAttribute, rowsAt, rowsFrom, AreRows};
 use bits::BitPlace;
 use bits::Got;
 use table::Run;
@@ -145,7 +145,7 @@ pub fn attribute_at(i: usize) -> Attribute
 
 // The rows of a tag that is an attribute block; the others have none.
 pub fn rows_of(code: u32) -> Rows
-    ensures { λ r. ⌜ AreRows (r .start) (r .end) × (rowsFrom (r .start) (r .end) ≡ attributesOf code) ⌝ }
+    ensures { λ r. ⌜ r ≡ rowsAt code ⌝ }
 {
     match code {
         6 => Rows { start: 0, end: 9 },

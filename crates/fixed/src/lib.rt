@@ -48,23 +48,18 @@ struct Rows {
     end: usize,
 }
 
-fn item_at(i: usize) -> Item
-    requires { ⌜ i < 18 ⌝ }
-    ensures { λ r. ⌜ r ≡ getD allItems i Item.U32 ⌝ }
-{
-    ITEMS[i]
-}
-
 // The items from row start on, up to row end.
 fn read_items(start: usize, end: usize, s: &[u8], at: BitPlace, t: &mut [u64], k: usize) -> Run
     requires { ⌜ (start ≤ end) × (end ≤ 18) × Fits (now s) (at .0) k ⌝ }
     ensures { λ r. ⌜ left (now (t .exit)) r ≡ after (now (t .entry)) k (run high (now (s .entry)) (inOrder (itemsFrom start end)) (at .0)) ⌝ }
 {
+    let rows = ITEMS;
     let mut place = at;
     let mut j = k;
     let mut row = start;
     while row < end {
-        let r = table::read_one(item_at(row), s, place, t, j);
+        let kind = rows[row];
+        let r = table::read_one(kind, s, place, t, j);
         let Run::Done(next, i) = r else {
             return r;
         };

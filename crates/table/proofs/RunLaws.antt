@@ -100,3 +100,13 @@ module _ (b : List ℕ) (p : ℕ) where
 
   pub align-fits : {i : BytePlace} {q : BitPlace} {k : ℕ} → alignedAt b p ≡ Clean i q → Fits b p k → Fits b (q .0) k
   align-fits e h = let f = align-clean b p e in ((omega (arith, f .1, f .2, f .3, h .0 .0), h .0 .1), omega (arith, f .2, h .1))
+
+-- ---- no second answer fits an engine's promise: what a run left, seen as a state, tells the table and the answer
+pub one-run : (t u : List ℕ) (a b : Run) → left t a ≡ left u b → (t ≡ u) × (a ≡ b)
+one-run t u a b e = (ap (λ (s : State). s .table) e, go a b (ap (λ (s : State). s .count) e) (ap (λ (s : State). s .ended) e))
+  where
+    go : (a b : Run) → left t a .count ≡ left u b .count → left t a .ended ≡ left u b .ended → a ≡ b
+    go (Done p k) (Done q j) c z = let d : p .0 ≡ q .0 = cc in λ i. Done (record { 0 = d i }) (c i)
+    go (Done p k) (Stop r j) c z = absurd (let w : _≡_ {A = ℕ} 0 1 = cc in omega arith)
+    go (Stop r k) (Done q j) c z = absurd (let w : _≡_ {A = ℕ} 0 1 = cc in omega arith)
+    go (Stop r k) (Stop z′ j) c z = let d : r ≡ z′ = cc in λ i. Stop (d i) (c i)

@@ -1,7 +1,7 @@
 use denote.Ref.{now}
 use mathlib.Core.Path.{refl}
 use Rattle.attributes.specs.Rows.{typeOf}
-use Rattle.attributes.specs.declared.Kind.the-variants.{Value, Fixed, BitFlag, Simple, Discrete}
+use Rattle.attributes.specs.declared.Kind.the-variants.{Simple, Discrete}
 use Rattle.bodies.proofs.ContentLaws.{content-none, value-none, value-some, content-of, animatable-of}
 use borrow.Author.Needs.{needs}
 use Rattle.bodies.proofs.blocks.read_content.Statement.{statement}
@@ -10,6 +10,7 @@ use Rattle.bodies.proofs.blocks.read_content.Reads as reads
 use Rattle.bodies.proofs.blocks.read_content.Lts as lts
 use Rattle.bodies.proofs.blocks.read_animatable.Reads as read-animatable-reads
 use Rattle.values.proofs.read_value.Reads as read-value-reads
+
 
 -- src/blocks.rt:57:27
 enum-told : tie.Need-enum-told
@@ -49,7 +50,7 @@ read-animatable-requires-2 c κs = search needs
 
 -- src/blocks.rt:44:1
 returns : tie.Need-returns
-returns c = let a = c .before .before .before .before .before .args in content-of (now (a .s)) (now (a .t)) (a .k) (a .at .0) (typeOf (a .what)) (a .flag) Value (c .before .enum-told .given .1) (value-none (now (a .s)) (now (a .t)) (a .k) (a .at .0) (typeOf (a .what)) (a .flag) (c .if1 .taken))
+returns c = let a = c .before .before .before .before .before .args in content-of (now (a .s)) (now (a .t)) (a .k) (a .at .0) (typeOf (a .what)) (a .flag) _ (c .before .enum-told .given .1) (value-none (now (a .s)) (now (a .t)) (a .k) (a .at .0) (typeOf (a .what)) (a .flag) (c .if1 .taken))
 
 -- src/blocks.rt:44:1
 same-length : tie.Need-same-length
@@ -57,7 +58,7 @@ same-length c = search needs
 
 -- src/blocks.rt:44:1
 returns-2 : tie.Need-returns-2
-returns-2 c = let a = c .before .before .before .before .before .before .before .before .before .args in content-of (now (a .s)) (now (a .t)) (a .k) (a .at .0) (typeOf (a .what)) (a .flag) Value (c .before .before .before .before .before .enum-told .given .1) (value-some (now (a .s)) (now (a .t)) (a .k) (a .at .0) (typeOf (a .what)) (a .flag) (c .before .before .before .before .if1 .left) (c .before .before .read-value .ensures))
+returns-2 c = let a = c .before .before .before .before .before .before .before .before .before .args in content-of (now (a .s)) (now (a .t)) (a .k) (a .at .0) (typeOf (a .what)) (a .flag) _ (c .before .before .before .before .before .enum-told .given .1) (value-some (now (a .s)) (now (a .t)) (a .k) (a .at .0) (typeOf (a .what)) (a .flag) (c .before .before .before .before .if1 .left) (c .before .before .read-value .ensures))
 
 -- src/blocks.rt:44:1
 same-length-2 : tie.Need-same-length-2
@@ -65,11 +66,11 @@ same-length-2 c = search needs
 
 -- src/blocks.rt:44:1
 returns-3 : tie.Need-returns-3
-returns-3 c = let a = c .before .before .before .before .before .before .before .before .args in content-of (now (a .s)) (now (a .t)) (a .k) (a .at .0) (typeOf (a .what)) (a .flag) Fixed (c .before .before .before .before .enum-told2 .given .1) (c .before .before .read-value2 .ensures)
+returns-3 c = let a = c .before .before .before .before .before .before .before .before .args in content-of (now (a .s)) (now (a .t)) (a .k) (a .at .0) (typeOf (a .what)) (a .flag) _ (c .before .before .before .before .enum-told2 .given .1) (c .before .before .read-value2 .ensures)
 
 -- src/blocks.rt:44:1
 returns-4 : tie.Need-returns-4
-returns-4 c = let a = c .before .before .before .before .args in content-of (now (a .s)) (now (a .t)) (a .k) (a .at .0) (typeOf (a .what)) (a .flag) BitFlag (c .enum-told3 .given .1) (content-none (now (a .s)) (now (a .t)) (a .k) (a .at .0))
+returns-4 c = let a = c .before .before .before .before .args in content-of (now (a .s)) (now (a .t)) (a .k) (a .at .0) (typeOf (a .what)) (a .flag) _ (c .enum-told3 .given .1) (content-none (now (a .s)) (now (a .t)) (a .k) (a .at .0))
 
 -- src/blocks.rt:44:1
 same-length-3 : tie.Need-same-length-3
