@@ -13,7 +13,6 @@ use Rattle.bodies.proofs.blocks.read_block.Reads as read-block-reads
 use Rattle.bodies.proofs.is_block.Reads as is-block-reads
 use Rattle.fixed.proofs.read_fixed.Reads as read-fixed-reads
 
-
 -- src/lib.rt:35:8
 is-block-requires : tie.Need-is-block-requires
 is-block-requires c κs = search needs

@@ -11,7 +11,6 @@ use Rattle.bodies.proofs.blocks.read_content.Lts as lts
 use Rattle.bodies.proofs.blocks.read_animatable.Reads as read-animatable-reads
 use Rattle.values.proofs.read_value.Reads as read-value-reads
 
-
 -- src/blocks.rt:57:27
 enum-told : tie.Need-enum-told
 enum-told c = search needs
