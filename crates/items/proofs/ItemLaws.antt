@@ -11,11 +11,10 @@ use Rattle.format.specs.Tests.{pick, _and_}
 use Rattle.format.specs.Bits.{high, ub}
 use Rattle.format.specs.Reading.{Reading, Ending, At, shows, stop}
 use Rattle.format.specs.Formats as formats
-use Rattle.format.specs.Formats.{Format, only}
+use Rattle.format.specs.Formats.{only}
 use Rattle.format.specs.Items.{Num, num, bad, room, skipped, above, readLE, readU32, readUB, mapNum, notOne, sign, byteItem, readItem, readAlign, judge, showNum, run}
 use Rattle.format.proofs.BitLaws.{ub-lt}
-use Rattle.format.proofs.WalkLaws.{run-le}
-use Rattle.bits.specs.Places.{Inside, seen}
+use Rattle.bits.specs.Places.{seen}
 use Rattle.bits.specs.declared.BitPlace.{BitPlace}
 use Rattle.bits.specs.declared.Got.{Got}
 use Rattle.bits.specs.declared.Got.the-variants.{Value, Fault}
@@ -31,10 +30,6 @@ module _ {r : Got} {w : Reading} (so : showNum (seen r) ≡ w) where
 
   pub got-fault : {e : ℕ} → r ≡ Fault e → w ≡ stop e
   got-fault e = sym so ∙ ap (λ (g : Got). showNum (seen g)) e
-
--- the next place is in the bytes too
-pub got-inside : (b : List ℕ) (f : Format) (p : ℕ) {r : Got} {v : ℕ} {q : BitPlace} → Inside b p → showNum (seen r) ≡ run high b f p → r ≡ Value v q → Inside b (q .0)
-got-inside b f p {q = q} h so e = (run-le high b f p (q .0) (h .0) (ap (λ (w : Reading). w .ended) (got-value so e)) .1, h .1)
 
 -- ---- a Float: bytes, lowest first
 module _ (s : List ℕ) where
@@ -199,9 +194,6 @@ item-fine b p k = go (eqb (ub high b p (skipped p)) 0) refl
 module _ (b : List ℕ) (p : ℕ) {v q : ℕ} where
   value-fine : (k : Item) → run high b (formatOf k) p ≡ shows (v ∷ []) q → (v < 2 ^ 64) × (rangeFault k v ≡ 0)
   value-fine k e = rw e at (item-fine b p k)
-
-  pub value-lt : (k : Item) → run high b (formatOf k) p ≡ shows (v ∷ []) q → v < 2 ^ 64
-  value-lt k e = value-fine k e .0
 
   pub count-range : (lo : ℕ) → run high b (formatOf (Count lo)) p ≡ shows (v ∷ []) q → (lo ≤ v) × (v ≤ 4096)
   unfolding rangeFault

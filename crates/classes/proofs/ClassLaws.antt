@@ -1,0 +1,115 @@
+-- What the name of a class says of the class, by itself and with the code it was asked for.
+use Prim.Native.Nat.{ℕ, _<_, _≤_}
+use mathlib.Core.Bool.{Bool, true, false}
+use mathlib.Core.Path.{_≡_, _∙_, refl, ap}
+use lib.ListN.{getD, List·getD-eq-default}
+use lib.Dec.{ltb}
+use borrow.Author.Tests.{lt-ltb, le-ltb, ltb-true, ltb-false}
+use Rattle.format.specs.Bodies.{Body, fixed, attributes}
+use Rattle.format.specs.FileAndTags as paper
+use Rattle.format.specs.FileAndTags.{opaque, end, container, known, codes, classOf, isEnd, isContainer}
+use Rattle.classes.specs.declared.Class.{Class}
+use Rattle.classes.specs.declared.Class.the-variants.{Opaque, End, Container, Fixed, Attributes}
+use Rattle.classes.specs.Classes.{named, classAt}
+use Rattle.classes.proofs.Table.{tab, at}
+
+-- ---- By its name alone.
+
+pub is-end : (c : paper.Class) → named c ≡ End → c ≡ end
+is-end opaque e = cc
+is-end end e = refl
+is-end (container f) e = cc
+is-end (known (fixed f)) e = cc
+is-end (known (attributes rows)) e = cc
+
+pub is-opaque : (c : paper.Class) → named c ≡ Opaque → c ≡ opaque
+is-opaque opaque e = refl
+is-opaque end e = cc
+is-opaque (container f) e = cc
+is-opaque (known (fixed f)) e = cc
+is-opaque (known (attributes rows)) e = cc
+
+-- the two tests of a header look at the name only
+abbrev pub ends : Class → Bool
+ends Opaque = false
+ends End = true
+ends Container = false
+ends Fixed = false
+ends Attributes = false
+
+abbrev pub contains : Class → Bool
+contains Opaque = false
+contains End = false
+contains Container = true
+contains Fixed = false
+contains Attributes = false
+
+pub ends-named : (c : paper.Class) → isEnd c ≡ ends (named c)
+ends-named opaque = refl
+ends-named end = refl
+ends-named (container f) = refl
+ends-named (known (fixed f)) = refl
+ends-named (known (attributes rows)) = refl
+
+pub contains-named : (c : paper.Class) → isContainer c ≡ contains (named c)
+contains-named opaque = refl
+contains-named end = refl
+contains-named (container f) = refl
+contains-named (known (fixed f)) = refl
+contains-named (known (attributes rows)) = refl
+
+pub is-container : (c : paper.Class) → named c ≡ Container → isContainer c ≡ true
+is-container c e = contains-named c ∙ ap contains e
+
+-- ---- The level.
+
+pub above-level : (level code : ℕ) → level < code → classOf level code ≡ opaque
+unfolding classOf
+above-level level code h = rw (lt-ltb level code h)
+
+pub up-to-level : (level code : ℕ) → code ≤ level → classOf level code ≡ getD codes code opaque
+unfolding classOf
+up-to-level level code h = rw (le-ltb level code h)
+
+-- no code past the listed ones has another class
+pub past-codes : (level code : ℕ) → 15 ≤ code → classOf level code ≡ opaque
+past-codes level code h = go (ltb level code) refl
+  where
+    go : (z : Bool) → ltb level code ≡ z → classOf level code ≡ opaque
+    go true e = above-level level code (ltb-true level code e)
+    go false e = up-to-level level code (ltb-false level code e) ∙ List·getD-eq-default codes opaque {n = code} h
+
+-- ---- By its name and the code: one test over the listed codes, which antt computes, serves every level.
+
+-- the class with this name, if y has the bodies and l the containers of the codes
+abbrev pub spelt : (ℕ → Body) → (ℕ → paper.Class) → Class → ℕ → paper.Class
+spelt y l Opaque code = opaque
+spelt y l End code = end
+spelt y l Container code = l code
+spelt y l Fixed code = known (y code)
+spelt y l Attributes code = known (y code)
+
+-- y and l are right at each listed code
+abbrev pub Right : (ℕ → Body) → (ℕ → paper.Class) → Type 0
+Right y l = codes ≡ tab (λ k. spelt y l (named (getD codes k opaque)) k) 0 15
+
+pub by-code : (y : ℕ → Body) (l : ℕ → paper.Class) → Right y l → (level code : ℕ) → classOf level code ≡ spelt y l (classAt level code) code
+by-code y l r level code = go (ltb level code) refl (ltb code 15) refl
+  where
+    go : (z : Bool) → ltb level code ≡ z → (z′ : Bool) → ltb code 15 ≡ z′ → classOf level code ≡ spelt y l (classAt level code) code
+    go true e z′ e′ = rw (above-level level code (ltb-true level code e))
+    go false e false e′ = rw (past-codes level code (ltb-false code 15 e′))
+    go false e true e′ =
+        rw (up-to-level level code (ltb-false level code e))
+        (at (λ k. spelt y l (named (getD codes k opaque)) k) opaque 15 codes r code (ltb-true code 15 e′))
+
+-- as a caller has it: any y and l that pass the test
+module _ (y : ℕ → Body) (l : ℕ → paper.Class) (r : Right y l) (level code : ℕ) where
+  pub fixed-by : classAt level code ≡ Fixed → classOf level code ≡ known (y code)
+  fixed-by e = by-code y l r level code ∙ ap (λ c. spelt y l c code) e
+
+  pub attributes-by : classAt level code ≡ Attributes → classOf level code ≡ known (y code)
+  attributes-by e = by-code y l r level code ∙ ap (λ c. spelt y l c code) e
+
+  pub container-by : classAt level code ≡ Container → classOf level code ≡ l code
+  container-by e = by-code y l r level code ∙ ap (λ c. spelt y l c code) e

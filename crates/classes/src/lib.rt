@@ -1,0 +1,100 @@
+// The class of each of the 1,024 codes, from one table.
+ghost use mathlib.Core.Path.{_≡_};
+ghost use Prim.Native.Nat.{_<_};
+ghost use Rattle.classes.specs.Classes.{classAt};
+
+pub enum Class {
+    Opaque,
+    End,
+    Container,
+    Fixed,
+    Attributes,
+}
+
+// The codes 0 to 31; the others are opaque.
+const FIRST: [Class; 32] = [
+    Class::End,
+    Class::Fixed,
+    Class::Container,
+    Class::Fixed,
+    Class::Opaque,
+    Class::Container,
+    Class::Attributes,
+    Class::Fixed,
+    Class::Opaque,
+    Class::Attributes,
+    Class::Opaque,
+    Class::Fixed,
+    Class::Fixed,
+    Class::Opaque,
+    Class::Attributes,
+    Class::Opaque,
+    Class::Opaque,
+    Class::Opaque,
+    Class::Opaque,
+    Class::Opaque,
+    Class::Opaque,
+    Class::Opaque,
+    Class::Opaque,
+    Class::Opaque,
+    Class::Opaque,
+    Class::Opaque,
+    Class::Opaque,
+    Class::Opaque,
+    Class::Opaque,
+    Class::Opaque,
+    Class::Opaque,
+    Class::Opaque,
+];
+
+const OTHERS: [Class; 32] = [Class::Opaque; 32];
+
+const CLASSES: [[Class; 32]; 32] = [
+    FIRST,
+    OTHERS,
+    OTHERS,
+    OTHERS,
+    OTHERS,
+    OTHERS,
+    OTHERS,
+    OTHERS,
+    OTHERS,
+    OTHERS,
+    OTHERS,
+    OTHERS,
+    OTHERS,
+    OTHERS,
+    OTHERS,
+    OTHERS,
+    OTHERS,
+    OTHERS,
+    OTHERS,
+    OTHERS,
+    OTHERS,
+    OTHERS,
+    OTHERS,
+    OTHERS,
+    OTHERS,
+    OTHERS,
+    OTHERS,
+    OTHERS,
+    OTHERS,
+    OTHERS,
+    OTHERS,
+    OTHERS,
+];
+
+// The class of a code at a level: a code above the level is opaque, and so is one that no file can have.
+pub fn class_of(level: u32, code: u32) -> Class
+    ensures { λ r. ⌜ r ≡ classAt level code ⌝ }
+{
+    if level < code {
+        return Class::Opaque;
+    }
+    if 1024 <= code {
+        return Class::Opaque;
+    }
+    let i = (code / 32) as usize;
+    let j = (code % 32) as usize;
+    CLASSES[i][j]
+}

@@ -1,0 +1,95 @@
+-- The little-endian numbers and the header at a place of a list, case by case. Each number that the code computes is tied by an equation.
+use Prim.Native.Nat.{ℕ, _+_, _*_, _/_, _%_, _<_, _≤_}
+use mathlib.Core.List.{List}
+use mathlib.Core.Bool.{Bool, true, false}
+use mathlib.Core.Path.{_≡_, _∙_, refl, ap, sym}
+use native.Mathlib.Omega.{arith}
+use native.Mathlib.Nat.{add-zero}
+use lib.ListN.{length, getD, drop, length-drop}
+use lib.Seq.{getD-drop, drop-drop}
+use lib.Dec.{ltb, eqb}
+use borrow.Author.Tests.{ltb-false, lt-ltb, le-ltb, eq-eqb, ne-eqb}
+use Rattle.format.specs.Tests.{pick}
+use Rattle.format.specs.FileAndTags as paper
+use Rattle.format.specs.FileAndTags.{head, noHead, le16, le32, rawHead}
+use Rattle.headers.specs.declared.Head.{Head}
+use Rattle.headers.specs.declared.Head.the-variants.{Tag, Fault}
+use Rattle.headers.specs.Heads.{seenHead}
+
+-- ---- Numbers.
+
+pub two-bytes : (s : List ℕ) (i j a b : ℕ) → i + 1 ≡ j → a ≡ getD s i 0 → b ≡ getD s j 0 → a + 256 * b ≡ le16 (drop i s)
+two-bytes s i j a b q x y = rw (getD-drop i s 0 0, getD-drop i s 1 0, add-zero, q, x, y)
+
+later : (s : List ℕ) (i j : ℕ) → i + 2 ≡ j → drop j s ≡ drop 2 (drop i s)
+later s i j q = ap (λ k. drop k s) (sym q) ∙ sym (drop-drop 2 i s)
+
+pub four-bytes : (s : List ℕ) (i j a b : ℕ) → i + 2 ≡ j → a ≡ le16 (drop i s) → b ≡ le16 (drop j s) → a + 65536 * b ≡ le32 (drop i s)
+four-bytes s i j a b q x y = rw (x, y, later s i j q, getD-drop 2 (drop i s) 0 0, getD-drop 2 (drop i s) 1 0)
+
+-- ---- The header.
+
+-- it depends on three numbers
+abbrev headOf : ℕ → ℕ → ℕ → paper.Head
+headOf rest n long =
+    pick (ltb rest 2) (noHead 6)
+    (pick (eqb (n % 64) 63) (pick (ltb rest 6) (noHead 6) (pick (ltb long 63) (noHead 8) (head (n / 64) long 6))) (head (n / 64) (n % 64) 2))
+
+tied : (r : List ℕ) (rest n long : ℕ) → rest ≡ length r → n ≡ le16 r → long ≡ le32 (drop 2 r) → headOf rest n long ≡ rawHead r
+tied r rest n long p q w = rw (p, q, w)
+
+-- rest: the bytes of s from i on
+module _ (s : List ℕ) (i rest : ℕ) (fits : i + rest ≡ length s) where
+  room : rest ≡ length (drop i s)
+  room = simp length-drop (omega arith)
+
+  pub head-cut : rest < 2 → noHead 6 ≡ rawHead (drop i s)
+  head-cut h = rw (lt-ltb rest 2 h) at (tied (drop i s) rest (le16 (drop i s)) (le32 (drop 2 (drop i s))) room refl refl)
+
+  module _ (n : ℕ) (two : 2 ≤ rest) (number : n ≡ le16 (drop i s)) where
+    pub head-short : (code len : ℕ) → code ≡ n / 64 → len ≡ n % 64 → (len ≡ 63 → ⊥) → head code len 2 ≡ rawHead (drop i s)
+    head-short code len p q h =
+        rw (p, q)
+        (rw (le-ltb rest 2 two, ne-eqb (n % 64) 63 (λ e. h (q ∙ e))) at (tied (drop i s) rest n (le32 (drop 2 (drop i s))) room number refl))
+
+    pub head-cut-long : n % 64 ≡ 63 → rest < 6 → noHead 6 ≡ rawHead (drop i s)
+    head-cut-long e h =
+        rw (le-ltb rest 2 two, eq-eqb (n % 64) 63 e, lt-ltb rest 6 h) at (tied (drop i s) rest n (le32 (drop 2 (drop i s))) room number refl)
+
+    module _ (j long : ℕ) (after : i + 2 ≡ j) (six : 6 ≤ rest) (full : n % 64 ≡ 63) (length₄ : long ≡ le32 (drop j s)) where
+      next : long ≡ le32 (drop 2 (drop i s))
+      next = length₄ ∙ ap le32 (later s i j after)
+
+      pub head-low : long < 63 → noHead 8 ≡ rawHead (drop i s)
+      head-low h =
+          rw (le-ltb rest 2 two, eq-eqb (n % 64) 63 full, le-ltb rest 6 six, lt-ltb long 63 h) at (tied (drop i s) rest n long room number next)
+
+      pub head-long : (code : ℕ) → code ≡ n / 64 → 63 ≤ long → head code long 6 ≡ rawHead (drop i s)
+      head-long code p h =
+          rw p
+          (rw (le-ltb rest 2 two, eq-eqb (n % 64) 63 full, le-ltb rest 6 six, le-ltb long 63 h) at (tied (drop i s) rest n long room number next))
+
+-- ---- A header that is read stands in the room.
+
+abbrev pub StandsIf : List ℕ → paper.Head → Type 0
+StandsIf r (head code len size) = (2 ≤ size) × (size ≤ 6) × (size ≤ length r)
+StandsIf r (noHead e) = Unit {0}
+
+pub head-stands : (r : List ℕ) → StandsIf r (rawHead r)
+head-stands r = go (ltb (length r) 2) refl (eqb (le16 r % 64) 63) refl (ltb (length r) 6) refl (ltb (le32 (drop 2 r)) 63) refl
+  where
+    go : (z : Bool) → ltb (length r) 2 ≡ z → (y : Bool) → eqb (le16 r % 64) 63 ≡ y → (x : Bool) → ltb (length r) 6 ≡ x → (w : Bool) → ltb (le32 (drop 2 r)) 63 ≡ w
+        → StandsIf r (rawHead r)
+    go true e y f x g w h = rw e tt
+    go false e false f x g w h = rw (e, f) (omega arith, omega arith, ltb-false (length r) 2 e)
+    go false e true f true g w h = rw (e, f, g) tt
+    go false e true f false g true h = rw (e, f, g, h) tt
+    go false e true f false g false h = rw (e, f, g, h) (omega arith, omega arith, ltb-false (length r) 6 g)
+
+-- ---- No second answer fits.
+
+pub seen-one : (a b : Head) → seenHead a ≡ seenHead b → a ≡ b
+seen-one (Tag c l z) (Tag c′ l′ z′) e = cc
+seen-one (Tag c l z) (Fault r) e = cc
+seen-one (Fault r) (Tag c l z) e = cc
+seen-one (Fault r) (Fault r′) e = cc
