@@ -1,8 +1,8 @@
 -- The little-endian numbers and the header at a place of a list, case by case. Each number that the code computes is tied by an equation.
-use Prim.Native.Nat.{ℕ, _+_, _*_, _/_, _%_, _<_, _≤_}
+use Prim.Native.Nat.{ℕ, _+_, _-_, _*_, _/_, _%_, _<_, _≤_}
 use mathlib.Core.List.{List}
 use mathlib.Core.Bool.{Bool, true, false}
-use mathlib.Core.Path.{_≡_, _∙_, refl, ap, sym}
+use mathlib.Core.Path.{_≡_, _∙_, refl, ap, sym, subst}
 use native.Mathlib.Omega.{arith}
 use native.Mathlib.Nat.{add-zero}
 use lib.ListN.{length, getD, drop, length-drop}
@@ -11,7 +11,11 @@ use lib.Dec.{ltb, eqb}
 use borrow.Author.Tests.{ltb-false, lt-ltb, le-ltb, eq-eqb, ne-eqb}
 use Rattle.format.specs.Tests.{pick}
 use Rattle.format.specs.FileAndTags as paper
-use Rattle.format.specs.FileAndTags.{head, noHead, le16, le32, rawHead}
+use Rattle.format.specs.FileAndTags.{head, noHead, le16, le32, rawHead, classOf, readHead}
+use Rattle.classes.specs.Classes.{classAt}
+use Rattle.classes.specs.declared.Class.{Class}
+use Rattle.classes.specs.declared.Class.the-variants.{End, Container}
+use Rattle.classes.proofs.ClassLaws.{ends, contains, ends-named, contains-named}
 use Rattle.headers.specs.declared.Head.{Head}
 use Rattle.headers.specs.declared.Head.the-variants.{Tag, Fault}
 use Rattle.headers.specs.Heads.{seenHead}
@@ -93,3 +97,42 @@ seen-one (Tag c l z) (Tag c′ l′ z′) e = cc
 seen-one (Tag c l z) (Fault r) e = cc
 seen-one (Fault r) (Tag c l z) e = cc
 seen-one (Fault r) (Fault r′) e = cc
+
+-- ---- whether a header passes, by the name of its class
+
+-- what follows the header at i
+pub rest-is : (s : List ℕ) (i size : ℕ) → length (drop size (drop i s)) ≡ length s - i - size
+rest-is s i size = rw (length-drop, length-drop)
+
+pub size-fits : (s : List ℕ) (i : ℕ) {h : Head} {code len size : ℕ} → seenHead h ≡ rawHead (drop i s) → h ≡ Tag code len size → size ≤ length s - i
+size-fits s i {size = size} at is =
+    let u : (2 ≤ size) × (size ≤ 6) × (size ≤ length (drop i s)) = subst (StandsIf (drop i s)) (sym at ∙ ap seenHead is) (head-stands (drop i s)) in
+    omega (arith, u .2, length-drop i s)
+
+-- the header that stands at r is code, len and size; rest bytes follow it
+module _ (level left : ℕ) (r : List ℕ) {h : Head} {code len size rest : ℕ} (at : seenHead h ≡ rawHead r) (is : h ≡ Tag code len size) (follow : length (drop size r) ≡ rest) where
+  stands : rawHead r ≡ head code len size
+  stands = sym at ∙ ap seenHead is
+
+  pub head-over : rest < len → noHead 9 ≡ readHead (classOf level) left r
+  head-over h = rw (stands, follow, lt-ltb rest len h)
+
+  module _ {class : Class} (fits : len ≤ rest) (named : class ≡ classAt level code) where
+    pub head-end-body : class ≡ End → 0 < len → noHead 10 ≡ readHead (classOf level) left r
+    head-end-body e h = rw (stands, follow, le-ltb rest len fits, ends-named (classOf level code), ← named, e, lt-ltb 0 len h)
+
+    pub head-deep : class ≡ Container → left ≡ 0 → noHead 12 ≡ readHead (classOf level) left r
+    head-deep e h = rw (stands, follow, le-ltb rest len fits, ends-named (classOf level code), contains-named (classOf level code), ← named, e, h)
+
+    pub head-end : class ≡ End → len ≤ 0 → head code len size ≡ readHead (classOf level) left r
+    head-end e h = rw (stands, follow, le-ltb rest len fits, ends-named (classOf level code), contains-named (classOf level code), ← named, e, le-ltb 0 len h)
+
+    pub head-container : class ≡ Container → (left ≡ 0 → ⊥) → head code len size ≡ readHead (classOf level) left r
+    head-container e h = rw (stands, follow, le-ltb rest len fits, ends-named (classOf level code), contains-named (classOf level code), ← named, e, ne-eqb left 0 h)
+
+    -- a class that is neither passes
+    pub head-other : ends class ≡ false → contains class ≡ false → head code len size ≡ readHead (classOf level) left r
+    head-other e f = rw (stands, follow, le-ltb rest len fits, ends-named (classOf level code), contains-named (classOf level code), ← named, e, f)
+
+pub head-none : (level left : ℕ) (r : List ℕ) {h : Head} {e : ℕ} → seenHead h ≡ rawHead r → h ≡ Fault e → seenHead h ≡ readHead (classOf level) left r
+head-none level left r at is = ap seenHead is ∙ rw (sym at ∙ ap seenHead is)

@@ -1,0 +1,81 @@
+-- One tag: its bytes copied one by one, its values by its class, and its code, state and count stored before them last.
+use Prim.Native.Nat.{ℕ, suc, _+_, _-_, _≤_, _<_}
+use mathlib.Core.List.{List, [], _∷_, _++_}
+use mathlib.Core.Path.{_≡_, refl, ap, sym, _∙_}
+use native.Mathlib.Numerals.{add-one}
+use native.Mathlib.Omega.{arith}
+use lib.ListN.{length, set, getD, take}
+use lib.Seq.{sets, take-suc, take-all, length-take-le}
+use Rattle.format.specs.Bits.{high}
+use Rattle.format.specs.Reading.{At, Fault, Reading, shows, stop}
+use Rattle.format.specs.Formats.{_▸_}
+use Rattle.format.specs.Items.{run}
+use Rattle.format.specs.Bodies.{aligned}
+use Rattle.table.specs.State.{State, after}
+use Rattle.table.specs.Run.{left, indexOf}
+use Rattle.table.specs.declared.Run.{Run}
+use Rattle.table.proofs.EngineLaws.{state, state-eq, sets-append, after-none}
+use Rattle.table.proofs.TextLaws.{set-sets}
+use Rattle.classes.specs.declared.Class.{Class}
+use Rattle.tags.specs.Shown.{stateOf, valuesOf, headed}
+
+-- ---- bytes, one by one
+pub copy-next : (t b : List ℕ) (k i : ℕ) {x : ℕ} {u v : List ℕ} → i < length b → x ≡ getD b i 0 → u ≡ sets t k (take i b) → v ≡ set u (k + i) x → v ≡ sets t k (take (i + 1) b)
+copy-next t b k i h e d f =
+    let n : length (take i b) ≡ i = length-take-le i b (omega arith) in
+    f ∙ rw (d, e, add-one i, take-suc b i 0 h, sets-append t k (take i b), n)
+
+pub copy-done : (t b : List ℕ) (k i : ℕ) {u : List ℕ} → length b ≤ i → u ≡ sets t k (take i b) → state u (k + length b) (At 0) ≡ after t k (shows b 0)
+unfolding after
+copy-done t b k i h d = rw (d, take-all i b h)
+
+-- ---- a reading that showed nothing more
+pub none-left : (t : List ℕ) (k : ℕ) {q : ℕ} {r : Reading} → r ≡ shows [] q → state t k (At q) ≡ after t k r
+none-left t k {q} e = rw e (sym (after-none t k q))
+
+-- ---- the class that a `match` tells
+pub values-of : (body t : List ℕ) (k code : ℕ) {class : Class} {x : State} (told : Class) → class ≡ told → x ≡ after t k (valuesOf told code body) → x ≡ after t k (valuesOf class code body)
+values-of body t k code told e f = f ∙ ap (λ (z : Class). after t k (valuesOf z code body)) (sym e)
+
+-- ---- an index never falls
+pub index-le : (t : List ℕ) (k : ℕ) (r : Reading) {u : List ℕ} (R : Run) → left u R ≡ after t k r → k ≤ indexOf R
+unfolding after
+index-le t k r R e = omega (arith, ap (λ (z : State). z .count) e)
+
+-- ---- three numbers before the values
+pub headed-stored : (t : List ℕ) (k code : ℕ) (s : ℕ) (r : Reading) {u u₁ u₂ u₃ : List ℕ} {n : ℕ} (R : Run) → left u R ≡ after t (k + 3) r
+    → u₁ ≡ set u k code → u₂ ≡ set u₁ (k + 1) s → n ≡ indexOf R - (k + 3) → u₃ ≡ set u₂ (k + 2) n → left u₃ R ≡ after t k (headed code s r)
+unfolding after
+headed-stored t k code s r R e a b c d =
+    let v : List ℕ = r .shown in
+    let m : indexOf R ≡ k + 3 + length v = ap (λ (z : State). z .count) e in
+    let n : indexOf R - (k + 3) ≡ length v = omega arith in
+    let i1 : k + 1 ≡ suc k = omega arith in
+    let i2 : k + 2 ≡ suc (suc k) = omega arith in
+    let i3 : k + 3 ≡ suc (suc (suc k)) = omega arith in
+    let t3 : left _ R .table ≡ sets t (suc (suc (suc k))) v = ap (λ (z : State). z .table) e ∙ ap (λ (j : ℕ). sets t j v) i3 in
+    state-eq
+    (d ∙ rw (
+      c,
+      n,
+      b,
+      a,
+      i1,
+      i2,
+      t3,
+      set-sets t k (suc (suc (suc k))) code v (omega arith),
+      set-sets (set t k code) (suc k) (suc (suc (suc k))) s v (omega arith),
+      set-sets (set (set t k code) (suc k) s) (suc (suc k)) (suc (suc (suc k))) (length v) v (omega arith),
+    ))
+    (m ∙ omega arith)
+    (ap (λ (z : State). z .ended) e)
+
+-- ---- five numbers in a row
+pub row-stored : (g : List ℕ) (m a b c d e : ℕ) {g₁ g₂ g₃ g₄ g₅ : List ℕ} → g₁ ≡ set g m a → g₂ ≡ set g₁ (m + 1) b → g₃ ≡ set g₂ (m + 2) c → g₄ ≡ set g₃ (m + 3) d
+    → g₅ ≡ set g₄ (m + 4) e → g₅ ≡ sets g m (a ∷ b ∷ c ∷ d ∷ e ∷ [])
+row-stored g m a b c d e p q r s t =
+    let i1 : m + 1 ≡ suc m = omega arith in
+    let i2 : m + 2 ≡ suc (suc m) = omega arith in
+    let i3 : m + 3 ≡ suc (suc (suc m)) = omega arith in
+    let i4 : m + 4 ≡ suc (suc (suc (suc m))) = omega arith in
+    t ∙ rw (s, r, q, p, i1, i2, i3, i4)

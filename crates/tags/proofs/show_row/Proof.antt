@@ -1,0 +1,68 @@
+use denote.Ref.{now}
+use Rattle.tags.proofs.TagLaws.{row-stored}
+use borrow.Author.Needs.{needs}
+use Rattle.tags.proofs.show_row.Statement.{statement}
+use Rattle.tags.proofs.show_row.Tie as tie
+use Rattle.tags.proofs.show_row.Reads as reads
+use Rattle.tags.proofs.show_row.Lts as lts
+use Rattle.tags.proofs.put_row.Reads as put-row-reads
+
+-- src/lib.rt:113:5
+put-row-requires : tie.Need-put-row-requires
+put-row-requires c κs = search needs
+
+-- src/lib.rt:114:16
+add-put-row : tie.Need-add-put-row
+add-put-row c = search needs
+
+-- src/lib.rt:114:5
+put-row-requires-2 : tie.Need-put-row-requires-2
+put-row-requires-2 c κs = search needs
+
+-- src/lib.rt:115:16
+add-put-row-2 : tie.Need-add-put-row-2
+add-put-row-2 c = search needs
+
+-- src/lib.rt:115:5
+put-row-requires-3 : tie.Need-put-row-requires-3
+put-row-requires-3 c κs = search needs
+
+-- src/lib.rt:116:16
+add-put-row-3 : tie.Need-add-put-row-3
+add-put-row-3 c = search needs
+
+-- src/lib.rt:116:5
+put-row-requires-4 : tie.Need-put-row-requires-4
+put-row-requires-4 c κs = search needs
+
+-- src/lib.rt:117:16
+add-put-row-4 : tie.Need-add-put-row-4
+add-put-row-4 c = search needs
+
+-- src/lib.rt:117:5
+put-row-requires-5 : tie.Need-put-row-requires-5
+put-row-requires-5 c κs = search needs
+
+-- src/lib.rt:109:1
+same-length : tie.Need-same-length
+same-length c = search needs
+
+-- src/lib.rt:109:1
+returns : tie.Need-returns
+returns c = let a = c .before .before .before .before .before .before .before .before .before .before .before .before .before .before .before .before .before .before .before .before .before .args in row-stored (now (a .g)) (a .m) (a .depth) (a .code) (a .place) (a .size) (a .len) (c .before .before .before .before .before .before .before .before .before .before .before .before .before .before .before .before .before .before .put-row .ensures) (c .before .before .before .before .before .before .before .before .before .before .before .before .before .before .put-row2 .ensures) (c .before .before .before .before .before .before .before .before .before .before .put-row3 .ensures) (c .before .before .before .before .before .before .put-row4 .ensures) (c .before .before .put-row5 .ensures)
+
+pub show-row-spec : {M : Type 1} → statement M
+show-row-spec =
+    tie.close
+    (tie.spec
+    put-row-requires
+    add-put-row
+    put-row-requires-2
+    add-put-row-2
+    put-row-requires-3
+    add-put-row-3
+    put-row-requires-4
+    add-put-row-4
+    put-row-requires-5
+    same-length
+    returns)

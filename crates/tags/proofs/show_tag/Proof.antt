@@ -1,0 +1,88 @@
+use Prim.Native.Nat.{ℕ, _+_, _-_}
+use Rattle.table.specs.State.{after}
+use denote.Ref.{now}
+use mathlib.Core.Path.{ap, _∙_}
+use native.Mathlib.Omega.{arith}
+use Rattle.tags.specs.Shown.{valuesOf, headed}
+use Rattle.tags.proofs.TagLaws.{index-le, headed-stored}
+use borrow.Author.Needs.{needs}
+use Rattle.tags.proofs.show_tag.Statement.{statement}
+use Rattle.tags.proofs.show_tag.Tie as tie
+use Rattle.tags.proofs.show_tag.Reads as reads
+use Rattle.tags.proofs.show_tag.Lts as lts
+use Rattle.table.proofs.put.Reads as put-reads
+use Rattle.tags.proofs.index.Reads as index-reads
+use Rattle.tags.proofs.read_values.Reads as read-values-reads
+use Rattle.tags.proofs.state.Reads as state-reads
+
+-- src/lib.rt:92:47
+add-read-values : tie.Need-add-read-values
+add-read-values c = search needs
+
+-- src/lib.rt:92:9
+read-values-requires : tie.Need-read-values-requires
+read-values-requires c κs = search needs
+
+-- src/lib.rt:93:5
+put-requires : tie.Need-put-requires
+put-requires c κs = search needs
+
+-- src/lib.rt:94:19
+add-put : tie.Need-add-put
+add-put c = search needs
+
+-- src/lib.rt:94:26
+state-requires : tie.Need-state-requires
+state-requires c κs = search needs
+
+-- src/lib.rt:94:5
+put-requires-2 : tie.Need-put-requires-2
+put-requires-2 c κs = search needs
+
+-- src/lib.rt:95:19
+add-put-2 : tie.Need-add-put-2
+add-put-2 c = search needs
+
+-- src/lib.rt:95:27
+index-requires : tie.Need-index-requires
+index-requires c κs = search needs
+
+-- src/lib.rt:95:39
+add-put-3 : tie.Need-add-put-3
+add-put-3 c = search needs
+
+-- src/lib.rt:95:27
+sub-put : tie.Need-sub-put
+sub-put c = let a = c .before .before .before .before .before .before .before .before .before .before .before .before .before .before .before .before .before .args in omega (arith, c .index .ensures, index-le (now (a .t)) (a .k + 3) (valuesOf (a .class) (a .code) (now (a .body))) (c .before .before .before .before .before .before .before .before .before .before .before .before .before .read-values .result) (c .before .before .before .before .before .before .before .before .before .before .before .before .before .read-values .ensures))
+
+-- src/lib.rt:95:5
+put-requires-3 : tie.Need-put-requires-3
+put-requires-3 c κs = search needs
+
+-- src/lib.rt:88:1
+same-length : tie.Need-same-length
+same-length c = search needs
+
+-- src/lib.rt:88:1
+returns : tie.Need-returns
+returns c = let a = c .before .before .before .before .before .before .before .before .before .before .before .before .before .before .before .before .before .before .before .before .args in let v = valuesOf (a .class) (a .code) (now (a .body)) in
+    headed-stored (now (a .t)) (a .k) (a .code) (c .before .before .before .before .before .before .before .before .state .result) v (c .before .before .before .before .before .before .before .before .before .before .before .before .before .before .before .before .read-values .result) (c .before .before .before .before .before .before .before .before .before .before .before .before .before .before .before .before .read-values .ensures) (c .before .before .before .before .before .before .before .before .before .before .before .before .put .ensures) (c .before .before .before .before .before .before .before .put2 .ensures) (ap (λ (z : ℕ). z - (a .k + 3)) (c .before .before .before .index .ensures)) (c .before .before .put3 .ensures)
+    ∙ ap (λ (s : ℕ). after (now (a .t)) (a .k) (headed (a .code) s v)) (c .before .before .before .before .before .before .before .before .state .ensures)
+
+pub show-tag-spec : {M : Type 1} → statement M
+show-tag-spec =
+    tie.close
+    (tie.spec
+    add-read-values
+    read-values-requires
+    put-requires
+    add-put
+    state-requires
+    put-requires-2
+    add-put-2
+    index-requires
+    add-put-3
+    sub-put
+    put-requires-3
+    same-length
+    returns)

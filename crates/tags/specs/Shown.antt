@@ -1,0 +1,33 @@
+-- What is shown of one tag: its code, its state, the count of its values, and the values.
+use Prim.Native.Nat.{ℕ}
+use mathlib.Core.List.{List, [], _∷_}
+use lib.ListN.{length}
+use Rattle.format.specs.Bits.{high}
+use Rattle.format.specs.Reading.{Reading, shows}
+use Rattle.format.specs.Items.{run}
+use Rattle.format.specs.Bodies.{readBody}
+use Rattle.format.specs.FileAndTags.{front}
+use Rattle.classes.specs.declared.Class.{Class}
+use Rattle.classes.specs.declared.Class.the-variants.{Opaque, End, Container, Fixed, Attributes}
+use Rattle.fixed.specs.Fixed.{fixedOf}
+use Rattle.bodies.specs.Leaf.{leafBody}
+
+-- 1 read, 0 opaque
+abbrev pub stateOf : Class → ℕ
+stateOf Opaque = 0
+stateOf End = 1
+stateOf Container = 1
+stateOf Fixed = 1
+stateOf Attributes = 1
+
+-- the values, and how their reading ended: an opaque tag's are its body's bytes, End has none, a container's stand before its list
+abbrev pub valuesOf : Class → ℕ → List ℕ → Reading
+valuesOf Opaque code body = shows body 0
+valuesOf End code body = shows [] 0
+valuesOf Container code body = run high body (front (fixedOf code)) 0
+valuesOf Fixed code body = readBody high (leafBody code) body
+valuesOf Attributes code body = readBody high (leafBody code) body
+
+-- code, state and count before the values
+abbrev pub headed : ℕ → ℕ → Reading → Reading
+headed code state r = record { shown = code ∷ state ∷ length (r .shown) ∷ r .shown; ended = r .ended }
