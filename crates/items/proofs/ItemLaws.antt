@@ -15,6 +15,7 @@ use Rattle.format.specs.Formats.{only}
 use Rattle.format.specs.Items.{Num, num, bad, room, skipped, above, readLE, readU32, readUB, mapNum, notOne, sign, byteItem, readItem, readAlign, judge, showNum, run}
 use Rattle.format.proofs.BitLaws.{ub-lt}
 use Rattle.bits.specs.Places.{seen}
+use Rattle.bits.proofs.FieldLaws.{seen-one}
 use Rattle.bits.specs.declared.BitPlace.{BitPlace}
 use Rattle.bits.specs.declared.Got.{Got}
 use Rattle.bits.specs.declared.Got.the-variants.{Value, Fault}
@@ -30,6 +31,16 @@ module _ {r : Got} {w : Reading} (so : showNum (seen r) ≡ w) where
 
   pub got-fault : {e : ℕ} → r ≡ Fault e → w ≡ stop e
   got-fault e = sym so ∙ ap (λ (g : Got). showNum (seen g)) e
+
+-- no second answer fits a promise that shows a number or a reason
+pub shown-one : (a b : Got) → showNum (seen a) ≡ showNum (seen b) → a ≡ b
+shown-one a b e = seen-one a b (go (seen a) (seen b) (ap (λ (r : Reading). r .shown) e) (ap (λ (r : Reading). r .ended) e))
+  where
+    go : (m n : Num) → showNum m .shown ≡ showNum n .shown → showNum m .ended ≡ showNum n .ended → m ≡ n
+    go (num v p) (num w q) c z = let d : v ≡ w = cc in let f : p ≡ q = cc in λ i. num (d i) (f i)
+    go (num v p) (bad e) c z = absurd (let w : _≡_ {A = ℕ} 0 1 = cc in omega arith)
+    go (bad e) (num v p) c z = absurd (let w : _≡_ {A = ℕ} 0 1 = cc in omega arith)
+    go (bad e) (bad f) c z = let d : e ≡ f = cc in ap bad d
 
 -- ---- a Float: bytes, lowest first
 module _ (s : List ℕ) where
