@@ -42,13 +42,13 @@ use Rattle.lists.specs.declared.Walked.the-variants as walked
 
 -- ---- parts of a list
 -- from f up to t, as the code takes it
-abbrev piece : ℕ → ℕ → List ℕ → List ℕ
+abbrev pub piece : ℕ → ℕ → List ℕ → List ℕ
 piece f t r = take (t - f) (drop f r)
 
-length-piece : (f t : ℕ) (r : List ℕ) → t ≤ length r → length (piece f t r) ≡ t - f
+pub length-piece : (f t : ℕ) (r : List ℕ) → t ≤ length r → length (piece f t r) ≡ t - f
 length-piece f t r h = length-take-le (t - f) (drop f r) (rw length-drop (omega arith))
 
-piece-rest : (f : ℕ) (r : List ℕ) → piece f (length r) r ≡ drop f r
+pub piece-rest : (f : ℕ) (r : List ℕ) → piece f (length r) r ≡ drop f r
 piece-rest f r = take-all (length r - f) (drop f r) (rw length-drop (omega arith))
 
 pred-is : (n : ℕ) → pred n ≡ n - 1
