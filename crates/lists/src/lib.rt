@@ -94,19 +94,20 @@ pub fn read_list(
     let mut j = k;
     let mut w = m;
     while i < n {
+        let place = a + i;
         match headers::read_head(level, left, r, i) {
             Head::Fault(why) => {
-                return Walked::Fault(why, a + i);
+                return Walked::Fault(why, place);
             }
             Head::Tag(code, len, size) => {
                 let start = i + size as usize;
                 let stop = start + len as usize;
                 let body = &r[start..stop];
-                tags::show_row(8 - left, code, (a + i) as u32, size, len, g, w);
+                tags::show_row(8 - left, code, place as u32, size, len, g, w);
                 w += 5;
                 match show(level, code, body, t, j) {
                     Step::Fault(why) => {
-                        return Walked::Fault(why, a + i);
+                        return Walked::Fault(why, place);
                     }
                     Step::Last(next) => {
                         return last(own, a, stop, n, next, w);
@@ -118,7 +119,7 @@ pub fn read_list(
                         let x = read_list(
                             level,
                             left - 1,
-                            Owner::Inside(a + i),
+                            Owner::Inside(place),
                             a + start + p,
                             &body[p..],
                             t,
