@@ -1,3 +1,5 @@
 pub mod TextLaws
 pub mod StepLaws
+pub mod Parts
+pub mod Listed
 pub mod Examples

@@ -30,15 +30,15 @@ head-laid b t g k i m a c d e f s q l a′ c′ d′ e′ f′ h s′ l′ q′ 
 
 -- ---- a cursor's step, by what the code's tests tell
 module _ (n : ℕ) (t g : List ℕ) (c : Cursor) where
-  step-first : c .number ≡ 0 → step n t g c ≡ firstStep n t
+  pub step-first : c .number ≡ 0 → step n t g c ≡ firstStep n t
   unfolding step
   step-first e = rw (eq-eqb (c .number) 0 e)
 
-  step-head : (c .number ≡ 0 → ⊥) → c .left ≡ 0 → step n t g c ≡ headStep t g (c .number) (c .row)
+  pub step-head : (c .number ≡ 0 → ⊥) → c .left ≡ 0 → step n t g c ≡ headStep t g (c .number) (c .row)
   unfolding step
   step-head h e = rw (ne-eqb (c .number) 0 h, eq-eqb (c .left) 0 e)
 
-  step-value : (c .number ≡ 0 → ⊥) → (c .left ≡ 0 → ⊥) → step n t g c ≡ valueStep t (c .number) (c .row) (c .left)
+  pub step-value : (c .number ≡ 0 → ⊥) → (c .left ≡ 0 → ⊥) → step n t g c ≡ valueStep t (c .number) (c .row) (c .left)
   unfolding step
   step-value h i = rw (ne-eqb (c .number) 0 h, ne-eqb (c .left) 0 i)
 
