@@ -11,8 +11,9 @@ use borrow.Author.Tests.{ne-eqb}
 use Rattle.format.specs.FileAndTags.{compression, Tag, Walk}
 use Rattle.format.specs.TableOfNumbers.{numbers, table, tagTable}
 use Rattle.listing.specs.Decimal.{decimal}
-use Rattle.listing.specs.Listing.{line, firstLine, tagLine, tagLines, listing}
-use Rattle.listing.specs.Steps.{field, tabbed, ender, Step, cursor, start, firstStep, headStep, valueStep, step, tableListing}
+use Rattle.listing.specs.Listing.{line, firstLine, tagLine, tagLines, listing, refusal}
+use Rattle.listing.specs.Steps.{Laid, laid, lays, field, tabbed, ender, Step, cursor, start, firstStep, headStep, valueStep, step, tableListing}
+use Rattle.listing.proofs.TextLaws.{lays-then}
 use Rattle.listing.proofs.StepLaws.{step-first, step-head, step-value, more-yes, more-none}
 use Rattle.listing.proofs.Parts.{rest, rest-step, rest-end}
 
@@ -44,6 +45,15 @@ line-values n [] = line-end n ∙ sym (append-nil (field n 10))
 line-values n (v ∷ vs) =
     rw (ne-eqb (suc (length vs)) 0 (λ e. omega arith))
     (ap (λ (x : List ℕ). decimal n ++ 9 ∷ x) (line-values v vs) ∙ before-tabbed (n ∷ []) (values (v ∷ vs)) ∙ rw (append-nil (field n 9)))
+
+-- a refusal, as the code lays it: `refused` and a tab, the reason and a tab, the number and a newline
+pub refusal-laid : (b : List ℕ) (k e n : ℕ) {u v : List ℕ} {i j : ℕ} {z : Laid} → laid u j ≡ lays b k (0x72 ∷ 0x65 ∷ 0x66 ∷ 0x75 ∷ 0x73 ∷ 0x65 ∷ 0x64 ∷ 9 ∷ [])
+    → laid v i ≡ lays u j (field e 9) → z ≡ lays v i (field n 10) → z ≡ lays b k (refusal e n)
+unfolding refusal
+refusal-laid b k e n {u} {v} {i} {j} c d f =
+    lays-then b k (0x72 ∷ 0x65 ∷ 0x66 ∷ 0x75 ∷ 0x73 ∷ 0x65 ∷ 0x64 ∷ 9 ∷ []) (before (e ∷ []) (decimal n ++ 10 ∷ [])) c
+    (lays-then u j (field e 9) (field n 10) d f
+    ∙ ap (lays u j) (rw (append-nil (field e 9)) at (sym (before-tabbed (e ∷ []) (field n 10))) ∙ ap (λ (x : List ℕ). before (e ∷ []) x) (sym (line-end n))))
 
 -- a tag's record: five fields and a tab after each, its state, its values
 tag-line : (t : Tag) → tagLine t

@@ -115,7 +115,7 @@ fn put_step(n: u64, t: &[u64], g: &[u32], c: Cursor, out: &mut [u8], k: usize) -
 
 // The part of the listing that starts at a cursor, of a file of n bytes: as many steps as the lent bytes have room for.
 pub fn put_part(n: u64, t: &[u64], g: &[u32], from: Cursor, out: &mut [u8]) -> Part
-    ensures { λ r. ⌜ left (now (out .exit)) r ≡ after (now (out .entry)) 0 (partOf (length (now (out .entry))) n (now (t .entry)) (now (g .entry)) from) ⌝ }
+    ensures { λ r. ⌜ (left (now (out .exit)) r ≡ after (now (out .entry)) 0 (partOf (length (now (out .entry))) n (now (t .entry)) (now (g .entry)) from)) × (r .used ≤ length (now (out .entry))) ⌝ }
 {
     let mut c = from;
     let mut used = 0;
@@ -125,4 +125,20 @@ pub fn put_part(n: u64, t: &[u64], g: &[u32], from: Cursor, out: &mut [u8]) -> P
         used = p.used;
     }
     Part { used: used, to: c }
+}
+
+// The line of a refusal.
+pub fn put_refusal(reason: u32, number: u64, out: &mut [u8; 64]) -> usize
+    ensures { λ r. ⌜ (laid (now (out .exit)) r ≡ lays (now (out .entry)) 0 (refusal reason number)) × (r ≤ 64) ⌝ }
+{
+    let a = put_word(out, 0, b"refused\t");
+    let b = put_field(out, a, reason as u64, 9);
+    put_field(out, b, number, 10)
+}
+
+// The line for input that is too long.
+pub fn put_too_long(out: &mut [u8; 64]) -> usize
+    ensures { λ r. ⌜ (laid (now (out .exit)) r ≡ lays (now (out .entry)) 0 tooLong) × (r ≤ 64) ⌝ }
+{
+    put_word(out, 0, b"too long\n")
 }

@@ -44,7 +44,7 @@ same-length c = c .before .before .before .before .before .loop .inv .0
 
 -- src/lib.rt:90:1
 returns : tie.Need-returns Inv-loop μ-loop
-returns c = part-end (c .before .before .before .before .before .before .before .before .before .args .n) (now (c .before .before .before .before .before .before .before .before .before .args .t)) (now (c .before .before .before .before .before .before .before .before .before .args .g)) (c .before .before .before .before .before .loop .out) (length (now (c .before .before .before .before .before .before .before .before .before .args .out)) - c .before .before .before .before .before .loop .used) (c .before .before .before .before .before .loop .used) (c .before .before .before .before .before .loop .c) (no-room (c .before .before .before .before .before .before .before .before .before .args .n) (now (c .before .before .before .before .before .before .before .before .before .args .t)) (now (c .before .before .before .before .before .before .before .before .before .args .g)) (length (now (c .before .before .before .before .before .before .before .before .before .args .out)) - c .before .before .before .before .before .loop .used) (c .before .before .before .before .before .loop .c) (omega (arith, c .before .before .before .before .before .loop .inv, leb-false, c .if3 .left))) (c .before .before .before .before .before .loop .inv .2)
+returns c = (part-end (c .before .before .before .before .before .before .before .before .before .args .n) (now (c .before .before .before .before .before .before .before .before .before .args .t)) (now (c .before .before .before .before .before .before .before .before .before .args .g)) (c .before .before .before .before .before .loop .out) (length (now (c .before .before .before .before .before .before .before .before .before .args .out)) - c .before .before .before .before .before .loop .used) (c .before .before .before .before .before .loop .used) (c .before .before .before .before .before .loop .c) (no-room (c .before .before .before .before .before .before .before .before .before .args .n) (now (c .before .before .before .before .before .before .before .before .before .args .t)) (now (c .before .before .before .before .before .before .before .before .before .args .g)) (length (now (c .before .before .before .before .before .before .before .before .before .args .out)) - c .before .before .before .before .before .loop .used) (c .before .before .before .before .before .loop .c) (omega (arith, c .before .before .before .before .before .loop .inv, leb-false, c .if3 .left))) (c .before .before .before .before .before .loop .inv .2), c .before .before .before .before .before .loop .inv .1)
 
 -- src/lib.rt:90:1
 same-length-2 : tie.Need-same-length-2 Inv-loop μ-loop
@@ -52,7 +52,7 @@ same-length-2 c = c .before .before .before .before .loop .inv .0
 
 -- src/lib.rt:90:1
 returns-2 : tie.Need-returns-2 Inv-loop μ-loop
-returns-2 c = part-end (c .before .before .before .before .before .before .before .before .args .n) (now (c .before .before .before .before .before .before .before .before .args .t)) (now (c .before .before .before .before .before .before .before .before .args .g)) (c .before .before .before .before .loop .out) (length (now (c .before .before .before .before .before .before .before .before .args .out)) - c .before .before .before .before .loop .used) (c .before .before .before .before .loop .used) (c .before .before .before .before .loop .c) (no-row (c .before .before .before .before .before .before .before .before .args .n) (now (c .before .before .before .before .before .before .before .before .args .t)) (now (c .before .before .before .before .before .before .before .before .args .g)) (length (now (c .before .before .before .before .before .before .before .before .args .out)) - c .before .before .before .before .loop .used) (c .before .before .before .before .loop .c) (leb-false _ _ (c .if2 .left))) (c .before .before .before .before .loop .inv .2)
+returns-2 c = (part-end (c .before .before .before .before .before .before .before .before .args .n) (now (c .before .before .before .before .before .before .before .before .args .t)) (now (c .before .before .before .before .before .before .before .before .args .g)) (c .before .before .before .before .loop .out) (length (now (c .before .before .before .before .before .before .before .before .args .out)) - c .before .before .before .before .loop .used) (c .before .before .before .before .loop .used) (c .before .before .before .before .loop .c) (no-row (c .before .before .before .before .before .before .before .before .args .n) (now (c .before .before .before .before .before .before .before .before .args .t)) (now (c .before .before .before .before .before .before .before .before .args .g)) (length (now (c .before .before .before .before .before .before .before .before .args .out)) - c .before .before .before .before .loop .used) (c .before .before .before .before .loop .c) (leb-false _ _ (c .if2 .left))) (c .before .before .before .before .loop .inv .2), c .before .before .before .before .loop .inv .1)
 
 -- src/lib.rt:90:1
 same-length-3 : tie.Need-same-length-3 Inv-loop μ-loop
@@ -60,7 +60,7 @@ same-length-3 c = c .before .before .loop .inv .0
 
 -- src/lib.rt:90:1
 returns-3 : tie.Need-returns-3 Inv-loop μ-loop
-returns-3 c = part-end (c .before .before .before .before .before .before .args .n) (now (c .before .before .before .before .before .before .args .t)) (now (c .before .before .before .before .before .before .args .g)) (c .before .before .loop .out) (length (now (c .before .before .before .before .before .before .args .out)) - c .before .before .loop .used) (c .before .before .loop .used) (c .before .before .loop .c) (no-number (c .before .before .before .before .before .before .args .n) (now (c .before .before .before .before .before .before .args .t)) (now (c .before .before .before .before .before .before .args .g)) (length (now (c .before .before .before .before .before .before .args .out)) - c .before .before .loop .used) (c .before .before .loop .c) (c .if1 .left)) (c .before .before .loop .inv .2)
+returns-3 c = (part-end (c .before .before .before .before .before .before .args .n) (now (c .before .before .before .before .before .before .args .t)) (now (c .before .before .before .before .before .before .args .g)) (c .before .before .loop .out) (length (now (c .before .before .before .before .before .before .args .out)) - c .before .before .loop .used) (c .before .before .loop .used) (c .before .before .loop .c) (no-number (c .before .before .before .before .before .before .args .n) (now (c .before .before .before .before .before .before .args .t)) (now (c .before .before .before .before .before .before .args .g)) (length (now (c .before .before .before .before .before .before .args .out)) - c .before .before .loop .used) (c .before .before .loop .c) (c .if1 .left)) (c .before .before .loop .inv .2), c .before .before .loop .inv .1)
 
 pub put-part-spec : {M : Type 1} → statement M
 put-part-spec =
