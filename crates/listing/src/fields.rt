@@ -21,7 +21,7 @@ fn put_decimal(out: &mut [u8], k: usize, n: u64) -> usize
 }
 
 // A number, and the byte that ends its field.
-pub fn put_field(out: &mut [u8], k: usize, n: u64, end: u8) -> usize
+pub(crate) fn put_field(out: &mut [u8], k: usize, n: u64, end: u8) -> usize
     requires { ⌜ k + 21 ≤ length (now out) ⌝ }
     ensures { λ r. ⌜ (laid (now (out .exit)) r ≡ lays (now (out .entry)) k (field n end)) × (r ≤ k + 21) ⌝ }
 {
@@ -31,7 +31,7 @@ pub fn put_field(out: &mut [u8], k: usize, n: u64, end: u8) -> usize
 }
 
 // Numbers, each ended by a tab.
-pub fn put_tabbed(out: &mut [u8], k: usize, ns: &[u64]) -> usize
+pub(crate) fn put_tabbed(out: &mut [u8], k: usize, ns: &[u64]) -> usize
     requires { ⌜ k + 21 * length (now ns) ≤ length (now out) ⌝ }
     ensures { λ r. ⌜ (laid (now (out .exit)) r ≡ lays (now (out .entry)) k (tabbed (now (ns .entry)))) × (r ≤ k + 21 * length (now (ns .entry))) ⌝ }
 {
@@ -45,7 +45,7 @@ pub fn put_tabbed(out: &mut [u8], k: usize, ns: &[u64]) -> usize
 }
 
 // Bytes as they are.
-pub fn put_word(out: &mut [u8], k: usize, word: &[u8]) -> usize
+pub(crate) fn put_word(out: &mut [u8], k: usize, word: &[u8]) -> usize
     requires { ⌜ k + length (now word) ≤ length (now out) ⌝ }
     ensures { λ r. ⌜ laid (now (out .exit)) r ≡ lays (now (out .entry)) k (now (word .entry)) ⌝ }
 {
