@@ -6,11 +6,11 @@ use mathlib.Core.Path.{_≡_, refl, ap, sym, _∙_}
 use native.Mathlib.Omega.{arith}
 use lib.ListN.{length}
 use lib.Dec.{leb}
-use borrow.Author.Tests.{le-leb}
+use borrow.Author.Tests.{le-leb, leb-true}
 use Rattle.format.specs.Tests.{pick, _and_}
 use Rattle.listing.specs.declared.Cursor.{Cursor}
-use Rattle.listing.specs.Steps.{Step, start, step, more, textFrom, tableListing, stay, joined, fill, partOf}
-use Rattle.listing.proofs.StepLaws.{step-further, more-none}
+use Rattle.listing.specs.Steps.{Step, start, step, more, textFrom, tableListing, stay, joined, fill, partOf, State, state, after}
+use Rattle.listing.proofs.StepLaws.{step-further, more-none, more-number, part-none}
 
 module _ (n : ℕ) (t g : List ℕ) where
   -- all that is still to come at a cursor
@@ -102,3 +102,19 @@ module _ (n : ℕ) (t g : List ℕ) where
       go : (k : ℕ) → length t ≡ k → c .number < fill k room n t g c .to .number
       go zero e = absurd (let z : _≡_ {A = ℕ} 0 1 = cc (more-none t g c (omega arith)) in omega arith)
       go (suc k) e = rw (h, le-leb 128 room i) (omega (arith, step-further n t g c, fill-not-back k (room - length (step n t g c .text)) (step n t g c .to)))
+
+  -- for code: a part that used bytes has fewer numbers left
+  pub part-less : (b : List ℕ) (room : ℕ) (c : Cursor) {u : List ℕ} {j : ℕ} {d : Cursor} → state u j d ≡ after b 0 (partOf room n t g c) → 0 < j → length t - d .number < length t - c .number
+  unfolding after
+  part-less b room c {u} {j} {d} e h = go (more t g c) refl (leb 128 room) refl
+    where
+      same : d .number ≡ partOf room n t g c .to .number
+      same = ap (λ (s : State). s .to .number) e
+
+      nothing : partOf room n t g c ≡ stay c → length t - d .number < length t - c .number
+      nothing z = absurd (omega (arith, ap (λ (s : State). s .used) e, ap (λ (s : Step). length (s .text)) z))
+
+      go : (a : Bool) → more t g c ≡ a → (r : Bool) → leb 128 room ≡ r → length t - d .number < length t - c .number
+      go true p true q = omega (arith, same, part-further room c p (leb-true 128 room q), more-number t g c p)
+      go true p false q = nothing (part-none n t g room c (rw (p, q)))
+      go false p r q = nothing (part-none n t g room c (rw p))

@@ -79,6 +79,13 @@ more-yes t g c h i = rw (lt-ltb (c .number) (length t) h, le-leb (c .row) (lengt
 pub more-none : (t g : List ℕ) (c : Cursor) → length t ≤ c .number → more t g c ≡ false
 more-none t g c h = rw (le-ltb (c .number) (length t) h)
 
+pub more-number : (t g : List ℕ) (c : Cursor) → more t g c ≡ true → c .number < length t
+more-number t g c = go (ltb (c .number) (length t)) refl
+  where
+    go : (a : Bool) → ltb (c .number) (length t) ≡ a → (a and leb (c .row) (length g)) ≡ true → c .number < length t
+    go true e h = ltb-true (c .number) (length t) e
+    go false e h = absurd (let z : _≡_ {A = ℕ} 0 1 = cc in omega arith)
+
 pub more-over : (t g : List ℕ) (c : Cursor) → length g < c .row → more t g c ≡ false
 more-over t g c h = go (ltb (c .number) (length t))
   where
@@ -107,7 +114,7 @@ module _ (n : ℕ) (t g : List ℕ) where
           rw (h, le-leb 128 room i)
           (ap (joined (step n t g c)) (fill-bound k (suc k) (room - length (step n t g c .text)) (step n t g c .to) (omega (arith, step-further n t g c)) (omega (arith, step-further n t g c))))
 
-  part-none : (room : ℕ) (c : Cursor) → (more t g c and leb 128 room) ≡ false → partOf room n t g c ≡ stay c
+  pub part-none : (room : ℕ) (c : Cursor) → (more t g c and leb 128 room) ≡ false → partOf room n t g c ≡ stay c
   unfolding fill
   part-none room c h = go (length t)
     where

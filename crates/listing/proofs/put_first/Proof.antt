@@ -1,4 +1,5 @@
 use denote.Ref.{now}
+use mathlib.Core.Path.{refl, _∙_}
 use mathlib.Core.List.{[], _∷_}
 use native.Mathlib.Omega.{arith}
 use Rattle.listing.proofs.TextLaws.{lays-next}
@@ -13,17 +14,18 @@ use Rattle.listing.proofs.fields.put_tabbed.Reads as put-tabbed-reads
 use Rattle.listing.proofs.fields.put_word.Reads as put-word-reads
 use Rattle.listing.proofs.number_at.Reads as number-at-reads
 
+
 -- src/lib.rt:53:30
 slice-aggregate-put-word : tie.Need-slice-aggregate-put-word
-slice-aggregate-put-word c = search needs
+slice-aggregate-put-word c = refl
 
 -- src/lib.rt:53:9
 put-word-requires : tie.Need-put-word-requires
-put-word-requires c κs = search needs
+put-word-requires c κs = omega (arith, c .before .before .before .before .pre)
 
 -- src/lib.rt:55:32
 slice-aggregate-put-tabbed : tie.Need-slice-aggregate-put-tabbed
-slice-aggregate-put-tabbed c = search needs
+slice-aggregate-put-tabbed c = refl
 
 -- src/lib.rt:55:9
 put-tabbed-requires : tie.Need-put-tabbed-requires
@@ -31,7 +33,7 @@ put-tabbed-requires c κs = omega (arith, c .before .before .before .before .bef
 
 -- src/lib.rt:56:23
 number-at-requires : tie.Need-number-at-requires
-number-at-requires c κs = search needs
+number-at-requires c κs = tt
 
 -- src/lib.rt:56:5
 put-field-requires : tie.Need-put-field-requires
@@ -39,14 +41,12 @@ put-field-requires c κs = omega (arith, c .before .before .before .before .befo
 
 -- src/lib.rt:49:1
 same-length : tie.Need-same-length
-same-length c = search needs
+same-length c = c .before .before .put-field .kept .0 ∙ c .before .before .before .before .before .before .before .put-tabbed .kept .0 ∙ c .before .before .before .before .before .before .before .before .before .before .before .before .put-word .kept .0
 
 -- src/lib.rt:49:1
 returns : tie.Need-returns
-returns c = (
-  first-laid (c .before .before .before .before .before .before .before .before .before .before .before .before .before .before .before .before .before .args .n) (now (c .before .before .before .before .before .before .before .before .before .before .before .before .before .before .before .before .before .args .out)) (now (c .before .before .before .before .before .before .before .before .before .before .before .before .before .before .before .before .before .args .t)) (c .before .before .before .before .before .before .before .before .before .before .before .before .before .before .before .before .before .args .k) (c .before .before .before .number-at .result) (c .before .before .before .before .before .before .before .before .before .before .before .before .put-word .ensures) (c .before .before .before .before .before .before .before .put-tabbed .ensures .0) (c .before .before .before .number-at .ensures) (c .before .before .put-field .ensures .0),
-  omega (arith, lays-next (now (c .before .before .before .before .before .before .before .before .before .before .before .before .before .before .before .before .before .args .out)) (c .before .before .before .before .before .before .before .before .before .before .before .before .before .before .before .before .before .args .k) (0x50 ∷ 0x41 ∷ 0x47 ∷ 9 ∷ []) (c .before .before .before .before .before .before .before .before .before .before .before .before .put-word .ensures), c .before .before .before .before .before .before .before .put-tabbed .ensures .1, c .before .before .put-field .ensures .1),
-)
+returns c = (first-laid (c .before .before .before .before .before .before .before .before .before .before .before .before .before .before .before .before .before .args .n) (now (c .before .before .before .before .before .before .before .before .before .before .before .before .before .before .before .before .before .args .out)) (now (c .before .before .before .before .before .before .before .before .before .before .before .before .before .before .before .before .before .args .t)) (c .before .before .before .before .before .before .before .before .before .before .before .before .before .before .before .before .before .args .k) (c .before .before .before .number-at .result) (c .before .before .before .before .before .before .before .before .before .before .before .before .put-word .ensures) (c .before .before .before .before .before .before .before .put-tabbed .ensures .0) (c .before .before .before .number-at .ensures) (c .before .before .put-field .ensures .0),
+    omega (arith, lays-next (now (c .before .before .before .before .before .before .before .before .before .before .before .before .before .before .before .before .before .args .out)) (c .before .before .before .before .before .before .before .before .before .before .before .before .before .before .before .before .before .args .k) (0x50 ∷ 0x41 ∷ 0x47 ∷ 9 ∷ []) (c .before .before .before .before .before .before .before .before .before .before .before .before .put-word .ensures), c .before .before .before .before .before .before .before .put-tabbed .ensures .1, c .before .before .put-field .ensures .1))
 
 pub put-first-spec : {M : Type 1} → statement M
 put-first-spec =
