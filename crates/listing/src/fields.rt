@@ -47,7 +47,7 @@ pub(crate) fn put_tabbed(out: &mut [u8], k: usize, ns: &[u64]) -> usize
 // Bytes as they are.
 pub(crate) fn put_word(out: &mut [u8], k: usize, word: &[u8]) -> usize
     requires { ⌜ k + length (now word) ≤ length (now out) ⌝ }
-    ensures { λ r. ⌜ laid (now (out .exit)) r ≡ lays (now (out .entry)) k (now (word .entry)) ⌝ }
+    ensures { λ r. ⌜ (laid (now (out .exit)) r ≡ lays (now (out .entry)) k (now (word .entry))) × (r ≡ k + length (now (word .entry))) ⌝ }
 {
     let n = word.len();
     let mut i = 0;

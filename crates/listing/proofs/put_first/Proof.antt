@@ -1,8 +1,6 @@
 use denote.Ref.{now}
 use mathlib.Core.Path.{refl, _∙_}
-use mathlib.Core.List.{[], _∷_}
 use native.Mathlib.Omega.{arith}
-use Rattle.listing.proofs.TextLaws.{lays-next}
 use Rattle.listing.proofs.StepLaws.{first-laid}
 use borrow.Author.Needs.{needs}
 use Rattle.listing.proofs.put_first.Statement.{statement}
@@ -13,7 +11,6 @@ use Rattle.listing.proofs.fields.put_field.Reads as put-field-reads
 use Rattle.listing.proofs.fields.put_tabbed.Reads as put-tabbed-reads
 use Rattle.listing.proofs.fields.put_word.Reads as put-word-reads
 use Rattle.listing.proofs.number_at.Reads as number-at-reads
-
 
 -- src/lib.rt:53:30
 slice-aggregate-put-word : tie.Need-slice-aggregate-put-word
@@ -29,7 +26,7 @@ slice-aggregate-put-tabbed c = refl
 
 -- src/lib.rt:55:9
 put-tabbed-requires : tie.Need-put-tabbed-requires
-put-tabbed-requires c κs = omega (arith, c .before .before .before .before .before .before .before .before .before .pre, lays-next (now (c .before .before .before .before .before .before .before .before .before .args .out)) (c .before .before .before .before .before .before .before .before .before .args .k) (0x50 ∷ 0x41 ∷ 0x47 ∷ 9 ∷ []) (c .before .before .before .before .put-word .ensures), c .before .before .before .before .put-word .kept .0)
+put-tabbed-requires c κs = omega (arith, c .before .before .before .before .before .before .before .before .before .pre, c .before .before .before .before .put-word .ensures .1, c .before .before .before .before .put-word .kept .0)
 
 -- src/lib.rt:56:23
 number-at-requires : tie.Need-number-at-requires
@@ -37,7 +34,7 @@ number-at-requires c κs = tt
 
 -- src/lib.rt:56:5
 put-field-requires : tie.Need-put-field-requires
-put-field-requires c κs = omega (arith, c .before .before .before .before .before .before .before .before .before .before .before .before .before .before .pre, lays-next (now (c .before .before .before .before .before .before .before .before .before .before .before .before .before .before .args .out)) (c .before .before .before .before .before .before .before .before .before .before .before .before .before .before .args .k) (0x50 ∷ 0x41 ∷ 0x47 ∷ 9 ∷ []) (c .before .before .before .before .before .before .before .before .before .put-word .ensures), c .before .before .before .before .before .before .before .before .before .put-word .kept .0, c .before .before .before .before .put-tabbed .kept .0, c .before .before .before .before .put-tabbed .ensures .1)
+put-field-requires c κs = omega (arith, c .before .before .before .before .before .before .before .before .before .before .before .before .before .before .pre, c .before .before .before .before .before .before .before .before .before .put-word .ensures .1, c .before .before .before .before .before .before .before .before .before .put-word .kept .0, c .before .before .before .before .put-tabbed .kept .0, c .before .before .before .before .put-tabbed .ensures .1)
 
 -- src/lib.rt:49:1
 same-length : tie.Need-same-length
@@ -45,8 +42,10 @@ same-length c = c .before .before .put-field .kept .0 ∙ c .before .before .bef
 
 -- src/lib.rt:49:1
 returns : tie.Need-returns
-returns c = (first-laid (c .before .before .before .before .before .before .before .before .before .before .before .before .before .before .before .before .before .args .n) (now (c .before .before .before .before .before .before .before .before .before .before .before .before .before .before .before .before .before .args .out)) (now (c .before .before .before .before .before .before .before .before .before .before .before .before .before .before .before .before .before .args .t)) (c .before .before .before .before .before .before .before .before .before .before .before .before .before .before .before .before .before .args .k) (c .before .before .before .number-at .result) (c .before .before .before .before .before .before .before .before .before .before .before .before .put-word .ensures) (c .before .before .before .before .before .before .before .put-tabbed .ensures .0) (c .before .before .before .number-at .ensures) (c .before .before .put-field .ensures .0),
-    omega (arith, lays-next (now (c .before .before .before .before .before .before .before .before .before .before .before .before .before .before .before .before .before .args .out)) (c .before .before .before .before .before .before .before .before .before .before .before .before .before .before .before .before .before .args .k) (0x50 ∷ 0x41 ∷ 0x47 ∷ 9 ∷ []) (c .before .before .before .before .before .before .before .before .before .before .before .before .put-word .ensures), c .before .before .before .before .before .before .before .put-tabbed .ensures .1, c .before .before .put-field .ensures .1))
+returns c = (
+  first-laid (c .before .before .before .before .before .before .before .before .before .before .before .before .before .before .before .before .before .args .n) (now (c .before .before .before .before .before .before .before .before .before .before .before .before .before .before .before .before .before .args .out)) (now (c .before .before .before .before .before .before .before .before .before .before .before .before .before .before .before .before .before .args .t)) (c .before .before .before .before .before .before .before .before .before .before .before .before .before .before .before .before .before .args .k) (c .before .before .before .number-at .result) (c .before .before .before .before .before .before .before .before .before .before .before .before .put-word .ensures .0) (c .before .before .before .before .before .before .before .put-tabbed .ensures .0) (c .before .before .before .number-at .ensures) (c .before .before .put-field .ensures .0),
+  omega (arith, c .before .before .before .before .before .before .before .before .before .before .before .before .put-word .ensures .1, c .before .before .before .before .before .before .before .put-tabbed .ensures .1, c .before .before .put-field .ensures .1),
+)
 
 pub put-first-spec : {M : Type 1} → statement M
 put-first-spec =

@@ -13,7 +13,6 @@ use Rattle.listing.proofs.fields.put_tabbed.Reads as put-tabbed-reads
 use Rattle.listing.proofs.number_at.Reads as number-at-reads
 use Rattle.listing.proofs.row_at.Reads as row-at-reads
 
-
 -- src/lib.rt:64:20
 row-at-requires : tie.Need-row-at-requires
 row-at-requires c κs = tt
@@ -84,10 +83,12 @@ same-length c = c .before .before .put-field .kept .0 ∙ c .before .before .bef
 
 -- src/lib.rt:60:1
 returns : tie.Need-returns
-returns c = (head-laid (now (c .before .before .before .before .before .before .before .before .before .before .before .before .before .before .before .before .before .before .before .before .args .out)) (now (c .before .before .before .before .before .before .before .before .before .before .before .before .before .before .before .before .before .before .before .before .args .t)) (now (c .before .before .before .before .before .before .before .before .before .before .before .before .before .before .before .before .before .before .before .before .args .g)) (c .before .before .before .before .before .before .before .before .before .before .before .before .before .before .before .before .before .before .before .before .args .k) (c .before .before .before .before .before .before .before .before .before .before .before .before .before .before .before .before .before .before .before .before .args .i) (c .before .before .before .before .before .before .before .before .before .before .before .before .before .before .before .before .before .before .before .before .args .m) (c .before .before .before .before .before .before .before .before .before .before .before .before .before .before .before .before .row-at .result) (c .before .before .before .before .before .before .before .before .before .before .before .before .before .before .before .row-at2 .result) (c .before .before .before .before .before .before .before .before .before .before .before .before .before .before .row-at3 .result) (c .before .before .before .before .before .before .before .before .before .before .before .before .before .row-at4 .result) (c .before .before .before .before .before .before .before .before .before .before .before .before .number-at .result)
-    (c .before .before .before .before .before .number-at2 .result) (c .before .before .before .ender-of .result) (c .before .before .before .before .number-at3 .result) (c .before .before .before .before .before .before .before .before .before .before .before .before .before .before .before .before .row-at .ensures) (c .before .before .before .before .before .before .before .before .before .before .before .before .before .before .before .row-at2 .ensures) (c .before .before .before .before .before .before .before .before .before .before .before .before .before .before .row-at3 .ensures) (c .before .before .before .before .before .before .before .before .before .before .before .before .before .row-at4 .ensures) (c .before .before .before .before .before .before .before .before .before .before .before .before .number-at .ensures) (c .before .before .before .before .before .before .before .before .before .put-tabbed .ensures .0)
-    (c .before .before .before .before .before .number-at2 .ensures) (c .before .before .before .before .number-at3 .ensures) (c .before .before .before .ender-of .ensures) (c .before .before .put-field .ensures .0),
-    omega (arith, c .before .before .before .before .before .before .before .before .before .put-tabbed .ensures .1, c .before .before .put-field .ensures .1))
+returns c = (
+  head-laid (now (c .before .before .before .before .before .before .before .before .before .before .before .before .before .before .before .before .before .before .before .before .args .out)) (now (c .before .before .before .before .before .before .before .before .before .before .before .before .before .before .before .before .before .before .before .before .args .t)) (now (c .before .before .before .before .before .before .before .before .before .before .before .before .before .before .before .before .before .before .before .before .args .g)) (c .before .before .before .before .before .before .before .before .before .before .before .before .before .before .before .before .before .before .before .before .args .k) (c .before .before .before .before .before .before .before .before .before .before .before .before .before .before .before .before .before .before .before .before .args .i) (c .before .before .before .before .before .before .before .before .before .before .before .before .before .before .before .before .before .before .before .before .args .m) (c .before .before .before .before .before .before .before .before .before .before .before .before .before .before .before .before .row-at .result) (c .before .before .before .before .before .before .before .before .before .before .before .before .before .before .before .row-at2 .result) (c .before .before .before .before .before .before .before .before .before .before .before .before .before .before .row-at3 .result) (c .before .before .before .before .before .before .before .before .before .before .before .before .before .row-at4 .result) (c .before .before .before .before .before .before .before .before .before .before .before .before .number-at .result)
+      (c .before .before .before .before .before .number-at2 .result) (c .before .before .before .ender-of .result) (c .before .before .before .before .number-at3 .result) (c .before .before .before .before .before .before .before .before .before .before .before .before .before .before .before .before .row-at .ensures) (c .before .before .before .before .before .before .before .before .before .before .before .before .before .before .before .row-at2 .ensures) (c .before .before .before .before .before .before .before .before .before .before .before .before .before .before .row-at3 .ensures) (c .before .before .before .before .before .before .before .before .before .before .before .before .before .row-at4 .ensures) (c .before .before .before .before .before .before .before .before .before .before .before .before .number-at .ensures) (c .before .before .before .before .before .before .before .before .before .put-tabbed .ensures .0)
+      (c .before .before .before .before .before .number-at2 .ensures) (c .before .before .before .before .number-at3 .ensures) (c .before .before .before .ender-of .ensures) (c .before .before .put-field .ensures .0),
+  omega (arith, c .before .before .before .before .before .before .before .before .before .put-tabbed .ensures .1, c .before .before .put-field .ensures .1),
+)
 
 pub put-head-spec : {M : Type 1} → statement M
 put-head-spec =

@@ -1,7 +1,5 @@
 use denote.Ref.{now}
-use mathlib.Core.List.{[], _∷_}
 use native.Mathlib.Omega.{arith}
-use Rattle.listing.proofs.TextLaws.{lays-next}
 use Rattle.listing.proofs.Listed.{refusal-laid}
 use borrow.Author.Needs.{needs}
 use Rattle.listing.proofs.put_refusal.Statement.{statement}
@@ -21,17 +19,17 @@ put-word-requires c κs = search needs
 
 -- src/lib.rt:135:9
 put-field-requires : tie.Need-put-field-requires
-put-field-requires c κs = omega (arith, lays-next (now (c .before .before .before .before .args .out)) 0 (0x72 ∷ 0x65 ∷ 0x66 ∷ 0x75 ∷ 0x73 ∷ 0x65 ∷ 0x64 ∷ 9 ∷ []) (c .before .put-word .ensures), c .before .put-word .kept .0)
+put-field-requires c κs = omega (arith, c .before .put-word .ensures .1, c .before .put-word .kept .0)
 
 -- src/lib.rt:136:5
 put-field-requires-2 : tie.Need-put-field-requires-2
-put-field-requires-2 c κs = omega (arith, lays-next (now (c .before .before .before .before .before .before .args .out)) 0 (0x72 ∷ 0x65 ∷ 0x66 ∷ 0x75 ∷ 0x73 ∷ 0x65 ∷ 0x64 ∷ 9 ∷ []) (c .before .before .before .put-word .ensures), c .before .before .before .put-word .kept .0, c .before .put-field .kept .0, c .before .put-field .ensures .1)
+put-field-requires-2 c κs = omega (arith, c .before .before .before .put-word .ensures .1, c .before .before .before .put-word .kept .0, c .before .put-field .kept .0, c .before .put-field .ensures .1)
 
 -- src/lib.rt:131:1
 returns : tie.Need-returns
 returns c = (
-  refusal-laid (now (c .before .before .before .before .before .before .before .args .out)) 0 (c .before .before .before .before .before .before .before .args .reason) (c .before .before .before .before .before .before .before .args .number) (c .before .before .before .before .put-word .ensures) (c .before .before .put-field .ensures .0) (c .put-field2 .ensures .0),
-  omega (arith, lays-next (now (c .before .before .before .before .before .before .before .args .out)) 0 (0x72 ∷ 0x65 ∷ 0x66 ∷ 0x75 ∷ 0x73 ∷ 0x65 ∷ 0x64 ∷ 9 ∷ []) (c .before .before .before .before .put-word .ensures), c .before .before .put-field .ensures .1, c .put-field2 .ensures .1),
+  refusal-laid (now (c .before .before .before .before .before .before .before .args .out)) 0 (c .before .before .before .before .before .before .before .args .reason) (c .before .before .before .before .before .before .before .args .number) (c .before .before .before .before .put-word .ensures .0) (c .before .before .put-field .ensures .0) (c .put-field2 .ensures .0),
+  omega (arith, c .before .before .before .before .put-word .ensures .1, c .before .before .put-field .ensures .1, c .put-field2 .ensures .1),
 )
 
 pub put-refusal-spec : {M : Type 1} → statement M

@@ -12,7 +12,6 @@ use Rattle.listing.proofs.number_at.Reads as number-at-reads
 use Rattle.listing.proofs.put_first.Reads as put-first-reads
 use Rattle.listing.proofs.put_head.Reads as put-head-reads
 
-
 -- src/lib.rt:78:13
 put-first-requires : tie.Need-put-first-requires
 put-first-requires c κs = c .before .before .before .before .before .pre .0

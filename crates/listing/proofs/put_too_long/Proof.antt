@@ -1,7 +1,5 @@
 use denote.Ref.{now}
 use native.Mathlib.Omega.{arith}
-use Rattle.listing.specs.Listing.{tooLong}
-use Rattle.listing.proofs.TextLaws.{lays-next}
 use borrow.Author.Needs.{needs}
 use Rattle.listing.proofs.put_too_long.Statement.{statement}
 use Rattle.listing.proofs.put_too_long.Tie as tie
@@ -19,7 +17,7 @@ put-word-requires c κs = search needs
 
 -- src/lib.rt:140:1
 returns : tie.Need-returns
-returns c = (c .put-word .ensures, omega (arith, lays-next (now (c .before .before .before .args .out)) 0 tooLong (c .put-word .ensures)))
+returns c = (c .put-word .ensures .0, omega (arith, c .put-word .ensures .1))
 
 pub put-too-long-spec : {M : Type 1} → statement M
 put-too-long-spec = tie.close (tie.spec slice-aggregate-put-word put-word-requires returns)

@@ -44,7 +44,7 @@ put-decimal-slice-write-out : (t : ℕ) → put-decimal-lts.Need-slice-write-out
   put-decimal-below t,
   put-decimal.Post,
 ) (put-decimal-at t) put-decimal.Post
-put-decimal-slice-write-out t c = omega (arith, ap length (decimal-one (c .before .before .args .n) (c .if1 .taken)))
+put-decimal-slice-write-out t c = omega (arith, ap length (decimal-one (c .before .before .args .n) (omega arith)))
 
 -- src/fields.rt:16:16
 put-decimal-add-result : (t : ℕ) → put-decimal-lts.Need-add-result (
@@ -65,28 +65,28 @@ put-decimal-returns : (t : ℕ) → put-decimal-lts.Need-returns (
   put-decimal-below t,
   put-decimal.Post,
 ) (put-decimal-at t) put-decimal.Post
-put-decimal-returns t c = digit-only (now (c .before .before .args .out)) (c .before .before .args .k) (c .before .before .args .n) (c .if1 .taken)
+put-decimal-returns t c = digit-only (now (c .before .before .args .out)) (c .before .before .args .k) (c .before .before .args .n) (omega arith)
 
 -- src/fields.rt:18:9
 put-decimal-put-decimal-requires : (t : ℕ) → put-decimal-lts.Need-put-decimal-requires (
   put-decimal-below t,
   put-decimal.Post,
 ) (put-decimal-at t) put-decimal.Post
-put-decimal-put-decimal-requires t c κs = (omega (arith, c .before .before .before .pre .0), omega (arith, decimal-length (c .before .before .before .args .n) (c .before .if1 .left)))
+put-decimal-put-decimal-requires t c κs = (omega (arith, c .before .before .before .pre .0), omega (arith, decimal-length (c .before .before .before .args .n) (omega arith)))
 
 -- src/fields.rt:19:5
 put-decimal-slice-write-out-2 : (t : ℕ) → put-decimal-lts.Need-slice-write-out-2 (
   put-decimal-below t,
   put-decimal.Post,
 ) (put-decimal-at t) put-decimal.Post
-put-decimal-slice-write-out-2 t c = omega (arith, decimal-length (c .before .before .before .before .before .before .args .n) (c .before .before .before .before .if1 .left), lays-next (now (c .before .before .before .before .before .before .args .out)) (c .before .before .before .before .before .before .args .k) (decimal _) (c .before .before .put-decimal .ensures), c .before .before .put-decimal .kept .0)
+put-decimal-slice-write-out-2 t c = omega (arith, decimal-length (c .before .before .before .before .before .before .args .n) (omega arith), lays-next (now (c .before .before .before .before .before .before .args .out)) (c .before .before .before .before .before .before .args .k) (decimal _) (c .before .before .put-decimal .ensures), c .before .before .put-decimal .kept .0)
 
 -- src/fields.rt:20:5
 put-decimal-add-result-2 : (t : ℕ) → put-decimal-lts.Need-add-result-2 (
   put-decimal-below t,
   put-decimal.Post,
 ) (put-decimal-at t) put-decimal.Post
-put-decimal-add-result-2 t c = omega (arith, decimal-length (c .before .before .before .before .before .before .args .n) (c .before .before .before .before .if1 .left), lays-next (now (c .before .before .before .before .before .before .args .out)) (c .before .before .before .before .before .before .args .k) (decimal _) (c .before .before .put-decimal .ensures))
+put-decimal-add-result-2 t c = omega (arith, decimal-length (c .before .before .before .before .before .before .args .n) (omega arith), lays-next (now (c .before .before .before .before .before .before .args .out)) (c .before .before .before .before .before .before .args .k) (decimal _) (c .before .before .put-decimal .ensures))
 
 -- src/fields.rt:9:1
 put-decimal-same-length-2 : (t : ℕ) → put-decimal-lts.Need-same-length-2 (
@@ -100,7 +100,7 @@ put-decimal-returns-2 : (t : ℕ) → put-decimal-lts.Need-returns-2 (
   put-decimal-below t,
   put-decimal.Post,
 ) (put-decimal-at t) put-decimal.Post
-put-decimal-returns-2 t c = digit-last (now (c .before .before .before .before .before .before .args .out)) (c .before .before .before .before .before .before .args .k) (c .before .before .before .before .before .before .args .n) (c .before .before .before .before .if1 .left) (c .before .before .put-decimal .ensures)
+put-decimal-returns-2 t c = digit-last (now (c .before .before .before .before .before .before .args .out)) (c .before .before .before .before .before .before .args .k) (c .before .before .before .before .before .before .args .n) (omega arith) (c .before .before .put-decimal .ensures)
 
 pub +put-decimal-spec : {M : Type 1} → statement M
 +put-decimal-spec = close μ-put-decimal λ t. put-decimal-lts.spec (

@@ -55,7 +55,7 @@ same-length c = c .before .loop .inv .1
 
 -- src/fields.rt:48:1
 returns : tie.Need-returns Inv-loop μ-loop
-returns c = word-done (c .before .loop .out) (now (c .before .before .args .word)) (c .before .before .args .k) (c .before .loop .i) (omega arith) (c .before .loop .inv .2)
+returns c = (word-done (c .before .loop .out) (now (c .before .before .args .word)) (c .before .before .args .k) (c .before .loop .i) (omega arith) (c .before .loop .inv .2), refl)
 
 pub put-word-spec : {M : Type 1} → statement M
 put-word-spec =
