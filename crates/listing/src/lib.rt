@@ -1,17 +1,16 @@
 // The listing: text made from the two tables.
 ghost use mathlib.Core.Path.{_≡_};
-ghost use mathlib.Core.List.{_∷_, []};
-ghost use Prim.Native.Nat.{_+_, _*_, _≤_, _<_, _^_};
+ghost use Prim.Native.Nat.{_+_, _≤_, _<_};
 ghost use lib.ListN.{length, getD};
 ghost use Rattle.listing.specs.Listing.{refusal, tooLong};
-ghost use Rattle.listing.specs.Steps.{laid, lays, ender, firstStep, headStep, step, more, partOf, left, after};
+ghost use Rattle.listing.specs.Steps.{laid, lays, ender, firstStep, headStep, step, partOf, left, after};
 use fields::put_field;
 use fields::put_tabbed;
 use fields::put_word;
 
 mod fields;
 
-// Where a part of the listing starts: the next number of the table, the next row of the tag table, and how many values are left in the current record.
+// Where a part of the listing starts: indexes in the table and the tag table, and how many values are left in the record.
 pub struct Cursor {
     pub number: usize,
     pub row: usize,
@@ -72,7 +71,7 @@ fn put_head(t: &[u64], i: usize, g: &[u32], m: usize, out: &mut [u8], k: usize) 
     put_field(out, a, number_at(t, i + 1), ender_of(number_at(t, i + 2)))
 }
 
-// One step: the first line, a tag's first six fields, or one value.
+// One step: the first line, a tag's first six fields, or one value. Six fields of 20 digits have 126 bytes with what ends each, so 128 are enough.
 fn put_step(n: u64, t: &[u64], g: &[u32], c: Cursor, out: &mut [u8], k: usize) -> Part
     requires { ⌜ (k + 128 ≤ length (now out)) × (c .number < length (now t)) × (c .row ≤ length (now g)) ⌝ }
     ensures { λ r. ⌜ (left (now (out .exit)) r ≡ after (now (out .entry)) k (step n (now (t .entry)) (now (g .entry)) c)) × (r .used ≤ k + 128) ⌝ }
