@@ -9,7 +9,7 @@ use Rattle.format.specs.Bodies.{readBlock, allFlags, rows, readPart, readBody}
 use Rattle.format.specs.FileAndTags.{classOf, walk}
 use Rattle.format.specs.Reasons.{startFault, walkFile, readFile}
 use Rattle.listing.specs.Decimal.{decimal}
-use Rattle.listing.specs.Listing.{listing, refusal, tooLong, printed}
+use Rattle.listing.specs.Listing.{listing, refusal, printed}
 
 -- no zero in front, and 0 is one digit
 pub numbers-as-text : map decimal (0 ∷ 9 ∷ 10 ∷ 4096 ∷ 18446744073709551615 ∷ [])

@@ -1,5 +1,5 @@
 -- From the promises of the reader's two calls: what the program has to print, and that no second answer fits the promises here.
-use Prim.Native.Nat.{ℕ, suc, _+_, _*_, _≤_, _<_}
+use Prim.Native.Nat.{ℕ, _*_, _≤_, _<_}
 use mathlib.Core.Bool.{Bool, true, false}
 use mathlib.Core.List.{List, [], _∷_, _++_}
 use mathlib.Core.Path.{_≡_, refl, ap, sym, _∙_}
@@ -12,7 +12,7 @@ use Rattle.format.specs.Tests.{pick}
 use Rattle.format.specs.Bits.{high}
 use Rattle.format.specs.FileAndTags.{signatureRight, versionRight, lengthRight, classOf, Tag, Outcome, whole, fault, Walk, broken, file, walkList}
 use Rattle.format.specs.TableOfNumbers.{numbers, table, tagTable}
-use Rattle.format.specs.Reasons.{startFault, walkFile, Result, gives, refuses, result, readFile, readTags, Answer, accepted, refused, Left, accepts, refusesWith, into}
+use Rattle.format.specs.Reasons.{startFault, walkFile, Result, gives, refuses, result, readFile, readTags, accepted, refused, Left, accepts, refusesWith, into}
 use Rattle.listing.specs.declared.Part.{Part}
 use Rattle.listing.specs.Listing.{listing, refusal, tooLong, answered, printed}
 use Rattle.listing.specs.Steps.{Laid, laid, State, left, tableListing}

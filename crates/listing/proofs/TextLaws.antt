@@ -1,15 +1,15 @@
 -- Numbers as text, and text laid over lent bytes piece by piece.
-use Prim.Native.Nat.{ℕ, zero, suc, _+_, _*_, _/_, _%_, _^_, _≤_, _<_}
+use Prim.Native.Nat.{ℕ, zero, suc, _+_, _/_, _%_, _^_, _≤_, _<_}
 use mathlib.Core.Bool.{Bool, true, false}
-use mathlib.Core.List.{List, [], _∷_, _++_, append-nil}
+use mathlib.Core.List.{List, [], _∷_, _++_}
 use mathlib.Core.Path.{_≡_, refl, ap, sym, _∙_}
 use native.Mathlib.Nat.{suc-add, pow-suc, add-zero, add-suc, add-assoc}
 use native.Mathlib.Numerals.{add-one}
 use native.Mathlib.Omega.{arith}
 use lib.ListN.{length, set, drop, getD, length-append, drop-of-length-le}
-use lib.Seq.{sets, length-sets, drop-cons, take-suc, take-all, length-take-le}
+use lib.Seq.{drop-cons}
 use lib.Dec.{ltb}
-use borrow.Author.Tests.{ltb-true, ltb-false, lt-ltb, le-ltb}
+use borrow.Author.Tests.{ltb-false, lt-ltb, le-ltb}
 use Rattle.table.proofs.EngineLaws.{sets-append}
 use Rattle.listing.specs.Decimal.{digits, decimal}
 use Rattle.listing.specs.Steps.{Laid, laid, lays, field, tabbed}

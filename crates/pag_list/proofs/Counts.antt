@@ -11,7 +11,7 @@ use Rattle.format.specs.Tests.{pick}
 use Rattle.format.specs.Reasons as paper
 use Rattle.answers.specs.Answers.{leaves}
 use Rattle.answers.specs.declared.Answer.{Answer}
-use Rattle.answers.specs.declared.Answer.the-variants.{Accepted, Refused}
+use Rattle.answers.specs.declared.Answer.the-variants.{Accepted}
 use Rattle.pag_list.specs.Input.{Within}
 use Rattle.pag_list.specs.declared.Input.{Input}
 use Rattle.pag_list.specs.declared.Input.the-variants.{Bytes, Failed}

@@ -2,7 +2,6 @@ use denote.Ref.{now}
 use mathlib.Core.Path.{refl, _∙_}
 use native.Mathlib.Omega.{arith}
 use Rattle.listing.proofs.StepLaws.{head-laid}
-use borrow.Author.Needs.{needs}
 use Rattle.listing.proofs.put_head.Statement.{statement}
 use Rattle.listing.proofs.put_head.Tie as tie
 use Rattle.listing.proofs.put_head.Reads as reads

@@ -1,9 +1,9 @@
 use Prim.Native.Nat.{_≤_, _-_}
-use mathlib.Core.Path.{_≡_, refl, sym, _∙_}
+use mathlib.Core.Path.{_≡_, refl, _∙_}
 use native.Mathlib.Omega.{arith}
 use lib.ListN.{length}
 use borrow.Author.Needs.{needs}
-use borrow.Author.Tests.{leb-true, leb-false}
+use borrow.Author.Tests.{leb-false}
 use Rattle.pag_list.proofs.Counts.{within-bytes, within-failed}
 use Rattle.pag_list.proofs.read_input.Statement.{statement}
 use Rattle.pag_list.proofs.read_input.Tie as tie

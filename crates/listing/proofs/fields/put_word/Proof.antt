@@ -4,7 +4,7 @@ use mathlib.Core.Path.{_≡_, refl, ap, sym, _∙_}
 use native.Mathlib.Omega.{arith}
 use native.Mathlib.Nat.{add-zero}
 use lib.ListN.{length, length-set, drop}
-use Rattle.listing.specs.Steps.{Laid, lays}
+use Rattle.listing.specs.Steps.{lays}
 use Rattle.listing.proofs.TextLaws.{word-next, word-done}
 use Rattle.listing.proofs.fields.put_word.Statement.{statement}
 use Rattle.listing.proofs.fields.put_word.Tie as tie
