@@ -94,17 +94,14 @@ pub fn at_level(level: u32, code: u32, listed: Class) -> Class
     if level < code { Class::Opaque } else { listed }
 }
 
-// The class of a code at a level: a code above the level is opaque, and so is one that no file can have.
+// The class of a code at a level; a code that no file can have is opaque.
 pub fn class_of(level: u32, code: u32) -> Class
     ensures { λ r. ⌜ r ≡ classAt level code ⌝ }
 {
-    if level < code {
-        return Class::Opaque;
-    }
     if 1024 <= code {
         return Class::Opaque;
     }
     let i = (code / 32) as usize;
     let j = (code % 32) as usize;
-    CLASSES[i][j]
+    at_level(level, code, CLASSES[i][j])
 }
