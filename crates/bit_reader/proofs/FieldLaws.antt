@@ -1,0 +1,128 @@
+-- A field by the bytes near it, what the bit reader answers case by case, and that no second answer fits.
+use Prim.Native.Nat.{ℕ, zero, suc, _+_, _-_, _*_, _/_, _%_, _^_, _≤_, _<_}
+use mathlib.Core.Path.{_≡_, refl, sym, ap, _∙_, subst}
+use mathlib.Core.List.{List}
+use mathlib.Core.Bool.{Bool, true, false}
+use native.Mathlib.Nat.{add-suc}
+use native.Mathlib.Omega.{arith}
+use lib.ListN.{length, take, drop, length-drop}
+use lib.Seq.{getD-take, getD-drop, length-take-le}
+use lib.Dec.{leb, ltb}
+use borrow.Author.Tests.{le-leb, lt-leb, leb-true, leb-false, lt-ltb, le-ltb, ltb-true, ltb-false}
+use Rattle.format.specs.Bits.{high, bitAt, ub}
+use Rattle.format.specs.Items.{Num, num, bad, mapNum, readUB, signExtend}
+use Rattle.bits.proofs.FieldLaws.{IsField, map-got, map-num, map-bad, ub-in, ub-past}
+use Rattle.bit_reader.specs.Fields.{readField, placed, fieldOf, nearEnd}
+
+-- ---- the bytes near a field
+
+pub near-short : (i len : ℕ) → len - i < 5 → len ≡ nearEnd i len
+near-short i len h = rw (lt-ltb (len - i) 5 h)
+
+pub near-five : (i len : ℕ) → 5 ≤ len - i → i + 5 ≡ nearEnd i len
+near-five i len h = rw (le-ltb (len - i) 5 h)
+
+-- the bytes from i to e are in the len bytes, and what runs past them runs past all bytes, if it is no longer than five
+pub record Near (i len e : ℕ) : Type 0 where
+  pub after : i < e
+  pub inside : e ≤ len
+  pub five : e ≤ i + 5
+  pub past : (m : ℕ) → m ≤ 40 → 8 * (e - i) < m → 8 * (len - i) < m
+
+pub near-end : (i len : ℕ) {e : ℕ} → i < len → e ≡ nearEnd i len → Near i len e
+near-end i len {e} h s = go (ltb (len - i) 5) refl
+  where
+    go : (t : Bool) → ltb (len - i) 5 ≡ t → Near i len e
+    go true t =
+        let f : e ≡ len = rw t at s in
+        record { after = omega arith; inside = omega arith; five = omega (arith, ltb-true (len - i) 5 t); past = λ m l k. omega arith }
+    go false t =
+        let f : e ≡ i + 5 = rw t at s in
+        let g : 5 ≤ len - i = ltb-false (len - i) 5 t in
+        record { after = omega arith; inside = omega arith; five = omega arith; past = λ m l k. absurd (omega arith) }
+
+pub near-length : (b : List ℕ) (i e : ℕ) → e ≤ length b → length (take (e - i) (drop i b)) ≡ e - i
+near-length b i e h = length-take-le (e - i) (drop i b) (rw length-drop (omega arith))
+
+near-bit : (b : List ℕ) (i m q : ℕ) → q < 8 * m → bitAt high (take m (drop i b)) q ≡ bitAt high b (8 * i + q)
+unfolding bitAt
+near-bit b i m q h =
+    let e : (8 * i + q) / 8 ≡ i + q / 8 = omega arith in
+    let f : (8 * i + q) % 8 ≡ q % 8 = omega arith in
+    rw (e, f, getD-take m (drop i b) (q / 8) 0 (omega arith), getD-drop i b (q / 8) 0)
+
+-- a field that the m bytes from i on have whole
+near-ub : (b : List ℕ) (i m q n : ℕ) → q + n ≤ 8 * m → ub high (take m (drop i b)) q n ≡ ub high b (8 * i + q) n
+unfolding ub
+near-ub b i m q zero h = refl
+near-ub b i m q (suc n) h = rw (near-bit b i m q (omega arith), near-ub b i m (suc q) n (omega arith), add-suc (8 * i) q)
+
+-- ---- a field of both kinds, as its number turned
+
+abbrev pub turned : Bool → ℕ → ℕ → ℕ
+turned false n v = v
+turned true n v = signExtend n v
+
+pub field-turned : (s : Bool) (b : List ℕ) (p n : ℕ) → readField s b p n ≡ mapNum (turned s n) (readUB high b p n)
+field-turned true b p n = refl
+field-turned false b p n = go (leb (p + n) (8 * length b)) refl
+  where
+    go : (t : Bool) → leb (p + n) (8 * length b) ≡ t → readUB high b p n ≡ mapNum (turned false n) (readUB high b p n)
+    go true t = rw t
+    go false t = rw t
+
+-- what a refused field tells
+map-fault : (f : ℕ → ℕ) (b : List ℕ) (p n : ℕ) {w : ℕ} → bad w ≡ mapNum f (readUB high b p n) → (w ≡ 13) × (8 * length b < p + n)
+map-fault f b p n {w} e = go (leb (p + n) (8 * length b)) refl
+  where
+    go : (t : Bool) → leb (p + n) (8 * length b) ≡ t → (w ≡ 13) × (8 * length b < p + n)
+    go true t =
+        let h : bad w ≡ num (f (ub high b p n)) (p + n) = rw t at e in
+        let z : _≡_ {A = ℕ} 0 1 = cc in
+        absurd (omega arith)
+    go false t =
+        let h : bad w ≡ bad 13 = rw t at e in
+        (cc, leb-false _ _ t)
+
+-- ---- what the code answers for a width from 1 to 32
+
+pub field-past : (s : Bool) (b : List ℕ) (p n : ℕ) → 8 * length b < p + n → bad 13 ≡ placed (readField s b p n)
+field-past s b p n h = ap placed (map-bad (turned s n) (ub-past b p n h) ∙ sym (field-turned s b p n))
+
+-- a next place that has no 64 bits
+pub field-unplaced : (s : Bool) (b : List ℕ) (p n : ℕ) → 2 ^ 64 ≤ p + n → bad 13 ≡ placed (readField s b p n)
+field-unplaced s b p n h = go (leb (p + n) (8 * length b)) refl
+  where
+    go : (t : Bool) → leb (p + n) (8 * length b) ≡ t → bad 13 ≡ placed (readField s b p n)
+    go true t = rw (field-turned s b p n, t, le-ltb (p + n) (2 ^ 64) h)
+    go false t = field-past s b p n (leb-false _ _ t)
+
+pub near-value : (s : Bool) (b : List ℕ) (p n i e : ℕ) {v q : ℕ} → p / 8 ≡ i → Near i (length b) e → p + n < 2 ^ 64
+    → num v q ≡ readField s (take (e - i) (drop i b)) (p % 8) n → num v (p + n) ≡ placed (readField s b p n)
+near-value s b p n i e {v} {q} d k l r =
+    let c : List ℕ = take (e - i) (drop i b) in
+    let g : IsField (turned s n) c (p % 8) n v q = map-got (turned s n) c (p % 8) n (r ∙ field-turned s c (p % 8) n) in
+    let h : p % 8 + n ≤ 8 * (e - i) = rw (g .next, near-length b i e (k .inside)) at (g .inside) in
+    let j : 8 * i + p % 8 ≡ p = omega arith in
+    let x : ub high c (p % 8) n ≡ ub high b p n = rw j at (near-ub b i (e - i) (p % 8) n h) in
+    let y : num v (p + n) ≡ readField s b p n = map-num (turned s n) (ub-in b p n (omega (arith, k .inside)) refl) (rw x at (g .value)) ∙ sym (field-turned s b p n) in
+    subst (λ (z : Num). num v (p + n) ≡ placed z) y (rw (lt-ltb (p + n) (2 ^ 64) l))
+
+pub near-fault : (s : Bool) (b : List ℕ) (p n i e : ℕ) {w : ℕ} → p / 8 ≡ i → Near i (length b) e → n ≤ 32
+    → bad w ≡ readField s (take (e - i) (drop i b)) (p % 8) n → bad w ≡ placed (readField s b p n)
+near-fault s b p n i e {w} d k l r =
+    let c : List ℕ = take (e - i) (drop i b) in
+    let g = map-fault (turned s n) c (p % 8) n (r ∙ field-turned s c (p % 8) n) in
+    let h : 8 * (e - i) < p % 8 + n = rw (near-length b i e (k .inside)) at (g .1) in
+    ap bad (g .0) ∙ field-past s b p n (omega (arith, k .past (p % 8 + n) (omega arith) h, k .after, k .inside))
+
+-- ---- and for the others
+
+pub width-low : (s : Bool) (b : List ℕ) (p n : ℕ) → n < 1 → bad 17 ≡ fieldOf s b p n
+width-low s b p n h = rw (lt-leb 1 n h)
+
+pub width-high : (s : Bool) (b : List ℕ) (p n : ℕ) → 32 < n → bad 17 ≡ fieldOf s b p n
+width-high s b p n h = rw (le-leb 1 n (omega arith), lt-leb n 32 h)
+
+pub width-right : (s : Bool) (b : List ℕ) (p n : ℕ) {x : Num} → 1 ≤ n → n ≤ 32 → x ≡ placed (readField s b p n) → x ≡ fieldOf s b p n
+width-right s b p n h k e = rw (le-leb 1 n h, le-leb n 32 k) e

@@ -1,0 +1,2 @@
+-- What follows from the bit reader's definitions.
+pub mod FieldLaws
