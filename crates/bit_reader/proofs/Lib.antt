@@ -1,2 +1,3 @@
--- What follows from the bit reader's definitions.
+-- What follows from the bit reader's definitions, and what the proofs of `ub` and `sb` share.
 pub mod FieldLaws
+mod Taking

@@ -1,13 +1,21 @@
 // A bit reader for hosts: it holds the file's bytes and its place, and reads UB and SB fields.
 ghost use mathlib.Core.Path.{_≡_};
+ghost use mathlib.Core.Bool.{true, false};
 ghost use Prim.Native.Nat.{_<_, _≤_};
 ghost use lib.ListN.{length};
 ghost use Rattle.bits.specs.Places.{Inside, seen};
-ghost use Rattle.bit_reader.specs.Fields.{readField, placed, nearEnd, fieldOf, stepOf, stepAt};
+ghost use Rattle.bit_reader.specs.Readers.{atStart, taken};
+ghost use Rattle.bit_reader.specs.Fields.{readField, placed, nearEnd, fieldOf, stepAt};
 use bits::BitPlace;
 use bits::Got;
 use bits::fields::read_sb;
 use bits::fields::read_ub;
+
+// The file's bytes, and a place in them.
+pub struct BitReader<'a> {
+    pub bytes: &'a [u8],
+    pub place: BitPlace,
+}
 
 // A field's number; or a reason, and number 0.
 pub enum Field {
@@ -19,6 +27,12 @@ pub enum Field {
 pub struct Step {
     pub field: Field,
     pub place: BitPlace,
+}
+
+// A field, and the reader at the place afterwards.
+pub struct Taken<'a> {
+    pub reader: BitReader<'a>,
+    pub field: Field,
 }
 
 fn read_field(bytes: &[u8], at: BitPlace, width: u64, signed: bool) -> Got
@@ -90,5 +104,43 @@ pub fn field_at(bytes: &[u8], place: BitPlace, width: u32, signed: bool) -> Step
             field: Field::Refused(why, 0),
             place: place,
         },
+    }
+}
+
+// A reader of these bytes, at place 0.
+pub fn new<'a>(bytes: &'a [u8]) -> BitReader<'a>
+    ensures { λ r. ⌜ r ≡ atStart (bytes .entry) ⌝ }
+{
+    BitReader {
+        bytes: bytes,
+        place: BitPlace(0),
+    }
+}
+
+// UB[width] at the reader's place, and the reader afterwards.
+pub fn ub<'a>(reader: BitReader<'a>, width: u32) -> Taken<'a>
+    ensures { λ r. ⌜ r ≡ taken false (reader .entry) width ⌝ }
+{
+    let step = field_at(reader.bytes, reader.place, width, false);
+    Taken {
+        reader: BitReader {
+            bytes: reader.bytes,
+            place: step.place,
+        },
+        field: step.field,
+    }
+}
+
+// SB[width] alike.
+pub fn sb<'a>(reader: BitReader<'a>, width: u32) -> Taken<'a>
+    ensures { λ r. ⌜ r ≡ taken true (reader .entry) width ⌝ }
+{
+    let step = field_at(reader.bytes, reader.place, width, true);
+    Taken {
+        reader: BitReader {
+            bytes: reader.bytes,
+            place: step.place,
+        },
+        field: step.field,
     }
 }

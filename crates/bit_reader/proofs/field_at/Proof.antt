@@ -9,7 +9,6 @@ use Rattle.bit_reader.proofs.field_at.Reads as reads
 use Rattle.bit_reader.proofs.field_at.Lts as lts
 use Rattle.bit_reader.proofs.field_of.Reads as field-of-reads
 
-
 -- src/lib.rt:84:11
 field-of-requires : tie.Need-field-of-requires
 field-of-requires c κs = search needs

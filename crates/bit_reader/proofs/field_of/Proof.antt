@@ -8,7 +8,6 @@ use Rattle.bit_reader.proofs.field_of.Reads as reads
 use Rattle.bit_reader.proofs.field_of.Lts as lts
 use Rattle.bit_reader.proofs.read_near.Reads as read-near-reads
 
-
 -- src/lib.rt:72:9
 returns : tie.Need-returns
 returns c = let a = c .before .before .args in width-low (a .signed) (now (a .bytes)) (a .place .0) (a .width) (c .if1 .taken)

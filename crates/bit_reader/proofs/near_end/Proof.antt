@@ -6,7 +6,6 @@ use Rattle.bit_reader.proofs.near_end.Tie as tie
 use Rattle.bit_reader.proofs.near_end.Reads as reads
 use Rattle.bit_reader.proofs.near_end.Lts as lts
 
-
 -- src/lib.rt:39:8
 sub-if1 : tie.Need-sub-if1
 sub-if1 c = search needs

@@ -7,7 +7,6 @@ use Rattle.bit_reader.proofs.read_field.Lts as lts
 use Rattle.bits.proofs.fields.read_sb.Reads as read-sb-reads
 use Rattle.bits.proofs.fields.read_ub.Reads as read-ub-reads
 
-
 -- src/lib.rt:29:9
 read-sb-requires : tie.Need-read-sb-requires
 read-sb-requires c κs = search needs

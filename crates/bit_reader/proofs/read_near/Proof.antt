@@ -11,7 +11,6 @@ use Rattle.bit_reader.proofs.read_near.Lts as lts
 use Rattle.bit_reader.proofs.near_end.Reads as near-end-reads
 use Rattle.bit_reader.proofs.read_field.Reads as read-field-reads
 
-
 -- src/lib.rt:54:9
 returns : tie.Need-returns
 returns c = let a = c .before .before .args in field-past (a .signed) (now (a .bytes)) (a .place .0) (a .width) (omega arith)
