@@ -5,14 +5,21 @@ use mathlib.Core.List.{List}
 use mathlib.Core.Bool.{Bool, true, false}
 use native.Mathlib.Nat.{add-suc}
 use native.Mathlib.Omega.{arith}
+use denote.Ref.{RefT}
 use lib.ListN.{length, take, drop, length-drop}
 use lib.Seq.{getD-take, getD-drop, length-take-le}
 use lib.Dec.{leb, ltb}
-use borrow.Author.Tests.{le-leb, lt-leb, leb-true, leb-false, lt-ltb, le-ltb, ltb-true, ltb-false}
+use borrow.Author.Tests.{le-leb, lt-leb, leb-false, lt-ltb, le-ltb, ltb-true, ltb-false}
 use Rattle.format.specs.Bits.{high, bitAt, ub}
 use Rattle.format.specs.Items.{Num, num, bad, mapNum, readUB, signExtend}
+use Rattle.format.proofs.Promises.{one-answer}
+use Rattle.bits.specs.declared.BitPlace.{BitPlace}
 use Rattle.bits.proofs.FieldLaws.{IsField, map-got, map-num, map-bad, ub-in, ub-past}
-use Rattle.bit_reader.specs.Fields.{readField, placed, fieldOf, nearEnd}
+use Rattle.bit_reader.specs.declared.BitReader.{BitReader}
+use Rattle.bit_reader.specs.declared.Step.{Step}
+use Rattle.bit_reader.specs.declared.Taken.{Taken}
+use Rattle.bit_reader.specs.Fields.{readField, placed, fieldOf, stepAt, nearEnd}
+use Rattle.bit_reader.specs.Readers.{atStart, taken}
 
 -- ---- the bytes near a field
 
@@ -126,3 +133,14 @@ width-high s b p n h = rw (le-leb 1 n (omega arith), lt-leb n 32 h)
 
 pub width-right : (s : Bool) (b : List ℕ) (p n : ℕ) {x : Num} → 1 ≤ n → n ≤ 32 → x ≡ placed (readField s b p n) → x ≡ fieldOf s b p n
 width-right s b p n h k e = rw (le-leb 1 n h, le-leb n 32 k) e
+
+-- ---- no second answer fits
+
+pub one-step : (s : Bool) (b : List ℕ) (at : BitPlace) (n : ℕ) (x y : Step) → x ≡ stepAt s b at n → y ≡ stepAt s b at n → x ≡ y
+one-step s b at n = one-answer (λ x. x) (λ x y e. e) (stepAt s b at n)
+
+pub one-taken : (s : Bool) (r : BitReader) (n : ℕ) (x y : Taken) → x ≡ taken s r n → y ≡ taken s r n → x ≡ y
+one-taken s r n = one-answer (λ x. x) (λ x y e. e) (taken s r n)
+
+pub one-start : (b : RefT (List ℕ)) (x y : BitReader) → x ≡ atStart b → y ≡ atStart b → x ≡ y
+one-start b = one-answer (λ x. x) (λ x y e. e) (atStart b)

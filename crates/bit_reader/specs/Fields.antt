@@ -7,7 +7,6 @@ use Rattle.format.specs.Tests.{pick, _and_}
 use Rattle.format.specs.Bits.{high}
 use Rattle.format.specs.Items.{Num, num, bad, readUB, readSB}
 use Rattle.bits.specs.declared.BitPlace.{BitPlace}
-use Rattle.bit_reader.specs.declared.Field.{Field}
 use Rattle.bit_reader.specs.declared.Field.the-variants.{Value, Refused}
 use Rattle.bit_reader.specs.declared.Step.{Step}
 

@@ -1,31 +1,23 @@
-use denote.Ref.{now}
+-- `bit_reader::field_at` meets its contract.
 use mathlib.Core.Path.{sym, ap, _∙_}
 use Rattle.bits.specs.Places.{seen}
 use Rattle.bit_reader.specs.Fields.{stepOf}
 use borrow.Author.Needs.{needs}
 use Rattle.bit_reader.proofs.field_at.Statement.{statement}
 use Rattle.bit_reader.proofs.field_at.Tie as tie
-use Rattle.bit_reader.proofs.field_at.Reads as reads
-use Rattle.bit_reader.proofs.field_at.Lts as lts
-use Rattle.bit_reader.proofs.field_of.Reads as field-of-reads
 
--- src/lib.rt:84:11
 field-of-requires : tie.Need-field-of-requires
 field-of-requires c κs = search needs
 
--- src/lib.rt:85:20
 enum-known-v : tie.Need-enum-known-v
 enum-known-v c = search needs
 
--- src/lib.rt:89:20
 enum-known-why : tie.Need-enum-known-why
 enum-known-why c = search needs
 
--- src/lib.rt:81:1
 returns : tie.Need-returns
 returns c = ap (stepOf (c .before .before .before .before .before .args .place)) (ap seen (sym (c .before .v .given .1)) ∙ c .before .before .before .field-of .ensures)
 
--- src/lib.rt:81:1
 returns-2 : tie.Need-returns-2
 returns-2 c = ap (stepOf (c .before .before .before .before .before .args .place)) (ap seen (sym (c .before .why .given .1)) ∙ c .before .before .before .field-of .ensures)
 

@@ -1,24 +1,18 @@
-use native.Mathlib.Omega.{arith}
+-- `bit_reader::near_end` meets its contract.
 use Rattle.bit_reader.proofs.FieldLaws.{near-short, near-five}
 use borrow.Author.Needs.{needs}
 use Rattle.bit_reader.proofs.near_end.Statement.{statement}
 use Rattle.bit_reader.proofs.near_end.Tie as tie
-use Rattle.bit_reader.proofs.near_end.Reads as reads
-use Rattle.bit_reader.proofs.near_end.Lts as lts
 
--- src/lib.rt:39:8
 sub-if1 : tie.Need-sub-if1
 sub-if1 c = search needs
 
--- src/lib.rt:40:9
 returns : tie.Need-returns
 returns c = near-short (c .before .args .i) (c .before .args .len) (c .if1 .taken)
 
--- src/lib.rt:42:5
 add-result : tie.Need-add-result
 add-result c = search needs
 
--- src/lib.rt:35:1
 returns-2 : tie.Need-returns-2
 returns-2 c = near-five (c .before .args .i) (c .before .args .len) (c .if1 .left)
 

@@ -1,3 +1,4 @@
+-- `bit_reader::read_near` meets its contract: a field of 32 bits touches no more than the five bytes from its first on.
 use denote.Ref.{now}
 use mathlib.Core.Path.{refl, sym, ap, _∙_}
 use native.Mathlib.Omega.{arith}
@@ -6,62 +7,45 @@ use Rattle.bit_reader.proofs.FieldLaws.{near-end, near-length, field-pa
 use borrow.Author.Needs.{needs}
 use Rattle.bit_reader.proofs.read_near.Statement.{statement}
 use Rattle.bit_reader.proofs.read_near.Tie as tie
-use Rattle.bit_reader.proofs.read_near.Reads as reads
-use Rattle.bit_reader.proofs.read_near.Lts as lts
-use Rattle.bit_reader.proofs.near_end.Reads as near-end-reads
-use Rattle.bit_reader.proofs.read_field.Reads as read-field-reads
 
--- src/lib.rt:54:9
 returns : tie.Need-returns
 returns c = let a = c .before .before .args in field-past (a .signed) (now (a .bytes)) (a .place .0) (a .width) (omega arith)
 
--- src/lib.rt:56:8
 sub-if2 : tie.Need-sub-if2
 sub-if2 c = search needs
 
--- src/lib.rt:57:9
 returns-2 : tie.Need-returns-2
 returns-2 c = let a = c .before .before .before .args in field-unplaced (a .signed) (now (a .bytes)) (a .place .0) (a .width) (omega arith)
 
--- src/lib.rt:59:9
 near-end-requires : tie.Need-near-end-requires
 near-end-requires c κs = search needs
 
--- src/lib.rt:60:16
 sub-near : tie.Need-sub-near
 sub-near c = omega (arith, near-end _ _ (c .before .before .if1 .left) (c .near-end .ensures) .after)
 
--- src/lib.rt:60:16
 part-near-start : tie.Need-part-near-start
 part-near-start c = omega (arith, near-end _ _ (c .before .before .if1 .left) (c .near-end .ensures) .after)
 
--- src/lib.rt:60:16
 part-near-end : tie.Need-part-near-end
 part-near-end c = near-end _ _ (c .before .before .if1 .left) (c .near-end .ensures) .inside
 
--- src/lib.rt:61:11
 read-field-requires : tie.Need-read-field-requires
 read-field-requires c κs = let a = c .before .before .before .before .before .args in
     let k = near-end _ _ (c .before .before .before .if1 .left) (c .before .near-end .ensures) in
     ((rw (near-length (now (a .bytes)) _ _ (k .inside)) (omega (arith, k .after)), rw (near-length (now (a .bytes)) _ _ (k .inside)) (omega (arith, k .five))), c .before .before .before .before .before .pre .0, c .before .before .before .before .before .pre .1)
 
--- src/lib.rt:62:20
 enum-known-v : tie.Need-enum-known-v
 enum-known-v c = search needs
 
--- src/lib.rt:62:52
 add-t19 : tie.Need-add-t19
 add-t19 c = search needs
 
--- src/lib.rt:63:20
 enum-known-why : tie.Need-enum-known-why
 enum-known-why c = search needs
 
--- src/lib.rt:46:1
 returns-3 : tie.Need-returns-3
 returns-3 c = let a = c .before .before .before .before .before .before .before .before .before .args in near-value (a .signed) (now (a .bytes)) (a .place .0) (a .width) _ _ refl (near-end _ _ (c .before .before .before .before .before .before .before .if1 .left) (c .before .before .before .before .before .near-end .ensures)) (omega arith) (ap seen (sym (c .before .v .given .1)) ∙ c .before .before .before .read-field .ensures)
 
--- src/lib.rt:46:1
 returns-4 : tie.Need-returns-4
 returns-4 c = let a = c .before .before .before .before .before .before .before .before .before .args in near-fault (a .signed) (now (a .bytes)) (a .place .0) (a .width) _ _ refl (near-end _ _ (c .before .before .before .before .before .before .before .if1 .left) (c .before .before .before .before .before .near-end .ensures)) (c .before .before .before .before .before .before .before .before .before .pre .1) (ap seen (sym (c .before .why .given .1)) ∙ c .before .before .before .read-field .ensures)
 
