@@ -1,6 +1,6 @@
 -- A field by the bytes near it, what the bit reader answers case by case, and that no second answer fits.
 use Prim.Native.Nat.{ℕ, zero, suc, _+_, _-_, _*_, _/_, _%_, _^_, _≤_, _<_}
-use mathlib.Core.Path.{_≡_, refl, sym, ap, _∙_, subst}
+use mathlib.Core.Path.{_≡_, refl, sym, ap, _∙_}
 use mathlib.Core.List.{List}
 use mathlib.Core.Bool.{Bool, true, false}
 use native.Mathlib.Nat.{add-suc}
@@ -11,14 +11,15 @@ use lib.Seq.{getD-take, getD-drop, length-take-le}
 use lib.Dec.{leb, ltb}
 use borrow.Author.Tests.{le-leb, lt-leb, leb-false, lt-ltb, le-ltb, ltb-true, ltb-false}
 use Rattle.format.specs.Bits.{high, bitAt, ub}
-use Rattle.format.specs.Items.{Num, num, bad, mapNum, readUB, signExtend}
+use Rattle.format.specs.Items.{Num, num, bad, mapNum, readUB}
 use Rattle.format.proofs.Promises.{one-answer}
 use Rattle.bits.specs.declared.BitPlace.{BitPlace}
-use Rattle.bits.proofs.FieldLaws.{IsField, map-got, map-num, map-bad, ub-in, ub-past}
+use Rattle.bits.proofs.FieldLaws.{IsField, map-got}
 use Rattle.bit_reader.specs.declared.BitReader.{BitReader}
 use Rattle.bit_reader.specs.declared.Step.{Step}
 use Rattle.bit_reader.specs.declared.Taken.{Taken}
-use Rattle.bit_reader.specs.Fields.{readField, placed, fieldOf, stepAt, nearEnd}
+use Rattle.bit_reader.specs.Fields.{valueOf, inBytes, fieldOf, stepAt}
+use Rattle.bit_reader.specs.Near.{readField, nearEnd}
 use Rattle.bit_reader.specs.Readers.{atStart, taken}
 
 -- ---- the bytes near a field
@@ -66,15 +67,11 @@ near-ub b i m q (suc n) h = rw (near-bit b i m q (omega arith), near-ub b i m (s
 
 -- ---- a field of both kinds, as its number turned
 
-abbrev pub turned : Bool → ℕ → ℕ → ℕ
-turned false n v = v
-turned true n v = signExtend n v
-
-pub field-turned : (s : Bool) (b : List ℕ) (p n : ℕ) → readField s b p n ≡ mapNum (turned s n) (readUB high b p n)
+field-turned : (s : Bool) (b : List ℕ) (p n : ℕ) → readField s b p n ≡ mapNum (valueOf s n) (readUB high b p n)
 field-turned true b p n = refl
 field-turned false b p n = go (leb (p + n) (8 * length b)) refl
   where
-    go : (t : Bool) → leb (p + n) (8 * length b) ≡ t → readUB high b p n ≡ mapNum (turned false n) (readUB high b p n)
+    go : (t : Bool) → leb (p + n) (8 * length b) ≡ t → readUB high b p n ≡ mapNum (valueOf false n) (readUB high b p n)
     go true t = rw t
     go false t = rw t
 
@@ -93,33 +90,32 @@ map-fault f b p n {w} e = go (leb (p + n) (8 * length b)) refl
 
 -- ---- what the code answers for a width from 1 to 32
 
-pub field-past : (s : Bool) (b : List ℕ) (p n : ℕ) → 8 * length b < p + n → bad 13 ≡ placed (readField s b p n)
-field-past s b p n h = ap placed (map-bad (turned s n) (ub-past b p n h) ∙ sym (field-turned s b p n))
+pub field-past : (s : Bool) (b : List ℕ) (p n : ℕ) → 8 * length b < p + n → bad 13 ≡ inBytes s b p n
+field-past s b p n h = rw (lt-leb (p + n) (8 * length b) h)
 
--- a next place that has no 64 bits
-pub field-unplaced : (s : Bool) (b : List ℕ) (p n : ℕ) → 2 ^ 64 ≤ p + n → bad 13 ≡ placed (readField s b p n)
+-- the next place would have more than 64 bits
+pub field-unplaced : (s : Bool) (b : List ℕ) (p n : ℕ) → 2 ^ 64 ≤ p + n → bad 13 ≡ inBytes s b p n
 field-unplaced s b p n h = go (leb (p + n) (8 * length b)) refl
   where
-    go : (t : Bool) → leb (p + n) (8 * length b) ≡ t → bad 13 ≡ placed (readField s b p n)
-    go true t = rw (field-turned s b p n, t, le-ltb (p + n) (2 ^ 64) h)
-    go false t = field-past s b p n (leb-false _ _ t)
+    go : (t : Bool) → leb (p + n) (8 * length b) ≡ t → bad 13 ≡ inBytes s b p n
+    go true t = rw (t, le-ltb (p + n) (2 ^ 64) h)
+    go false t = rw t
 
 pub near-value : (s : Bool) (b : List ℕ) (p n i e : ℕ) {v q : ℕ} → p / 8 ≡ i → Near i (length b) e → p + n < 2 ^ 64
-    → num v q ≡ readField s (take (e - i) (drop i b)) (p % 8) n → num v (p + n) ≡ placed (readField s b p n)
+    → num v q ≡ readField s (take (e - i) (drop i b)) (p % 8) n → num v (p + n) ≡ inBytes s b p n
 near-value s b p n i e {v} {q} d k l r =
     let c : List ℕ = take (e - i) (drop i b) in
-    let g : IsField (turned s n) c (p % 8) n v q = map-got (turned s n) c (p % 8) n (r ∙ field-turned s c (p % 8) n) in
+    let g : IsField (valueOf s n) c (p % 8) n v q = map-got (valueOf s n) c (p % 8) n (r ∙ field-turned s c (p % 8) n) in
     let h : p % 8 + n ≤ 8 * (e - i) = rw (g .next, near-length b i e (k .inside)) at (g .inside) in
     let j : 8 * i + p % 8 ≡ p = omega arith in
     let x : ub high c (p % 8) n ≡ ub high b p n = rw j at (near-ub b i (e - i) (p % 8) n h) in
-    let y : num v (p + n) ≡ readField s b p n = map-num (turned s n) (ub-in b p n (omega (arith, k .inside)) refl) (rw x at (g .value)) ∙ sym (field-turned s b p n) in
-    subst (λ (z : Num). num v (p + n) ≡ placed z) y (rw (lt-ltb (p + n) (2 ^ 64) l))
+    rw (le-leb (p + n) (8 * length b) (omega (arith, k .inside)), lt-ltb (p + n) (2 ^ 64) l, g .value, x)
 
 pub near-fault : (s : Bool) (b : List ℕ) (p n i e : ℕ) {w : ℕ} → p / 8 ≡ i → Near i (length b) e → n ≤ 32
-    → bad w ≡ readField s (take (e - i) (drop i b)) (p % 8) n → bad w ≡ placed (readField s b p n)
+    → bad w ≡ readField s (take (e - i) (drop i b)) (p % 8) n → bad w ≡ inBytes s b p n
 near-fault s b p n i e {w} d k l r =
     let c : List ℕ = take (e - i) (drop i b) in
-    let g = map-fault (turned s n) c (p % 8) n (r ∙ field-turned s c (p % 8) n) in
+    let g = map-fault (valueOf s n) c (p % 8) n (r ∙ field-turned s c (p % 8) n) in
     let h : 8 * (e - i) < p % 8 + n = rw (near-length b i e (k .inside)) at (g .1) in
     ap bad (g .0) ∙ field-past s b p n (omega (arith, k .past (p % 8 + n) (omega arith) h, k .after, k .inside))
 
@@ -131,8 +127,16 @@ width-low s b p n h = rw (lt-leb 1 n h)
 pub width-high : (s : Bool) (b : List ℕ) (p n : ℕ) → 32 < n → bad 17 ≡ fieldOf s b p n
 width-high s b p n h = rw (le-leb 1 n (omega arith), lt-leb n 32 h)
 
-pub width-right : (s : Bool) (b : List ℕ) (p n : ℕ) {x : Num} → 1 ≤ n → n ≤ 32 → x ≡ placed (readField s b p n) → x ≡ fieldOf s b p n
+pub width-right : (s : Bool) (b : List ℕ) (p n : ℕ) {x : Num} → 1 ≤ n → n ≤ 32 → x ≡ inBytes s b p n → x ≡ fieldOf s b p n
 width-right s b p n h k e = rw (le-leb 1 n h, le-leb n 32 k) e
+
+-- a field that is in the bytes is what the definitions of the format read
+pub field-read : (s : Bool) (b : List ℕ) (p n : ℕ) → 1 ≤ n → n ≤ 32 → p + n < 2 ^ 64 → fieldOf s b p n ≡ readField s b p n
+field-read s b p n h k l = sym (width-right s b p n h k (field-turned s b p n ∙ go (leb (p + n) (8 * length b)) refl))
+  where
+    go : (t : Bool) → leb (p + n) (8 * length b) ≡ t → mapNum (valueOf s n) (readUB high b p n) ≡ inBytes s b p n
+    go true t = rw (t, lt-ltb (p + n) (2 ^ 64) l)
+    go false t = rw t
 
 -- ---- no second answer fits
 

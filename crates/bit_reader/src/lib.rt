@@ -5,7 +5,8 @@ ghost use Prim.Native.Nat.{_<_, _≤_};
 ghost use lib.ListN.{length};
 ghost use Rattle.bits.specs.Places.{Inside, seen};
 ghost use Rattle.bit_reader.specs.Readers.{atStart, taken};
-ghost use Rattle.bit_reader.specs.Fields.{readField, placed, nearEnd, fieldOf, stepAt};
+ghost use Rattle.bit_reader.specs.Fields.{inBytes, fieldOf, stepAt};
+ghost use Rattle.bit_reader.specs.Near.{readField, nearEnd};
 use bits::BitPlace;
 use bits::Got;
 use bits::fields::read_sb;
@@ -59,7 +60,7 @@ fn near_end(i: usize, len: usize) -> usize
 // Looks only at the bytes near the place, so that bytes of any length are taken.
 fn read_near(bytes: &[u8], place: BitPlace, width: u64, signed: bool) -> Got
     requires { ⌜ (1 ≤ width) × (width ≤ 32) ⌝ }
-    ensures { λ r. ⌜ seen r ≡ placed (readField signed (now (bytes .entry)) (place .0) width) ⌝ }
+    ensures { λ r. ⌜ seen r ≡ inBytes signed (now (bytes .entry)) (place .0) width ⌝ }
 {
     let p = place.0;
     let n = width as usize;
