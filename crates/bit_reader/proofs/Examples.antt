@@ -3,10 +3,12 @@ use Prim.Native.Nat.{ℕ}
 use mathlib.Core.Bool.{Bool, true, false}
 use mathlib.Core.List.{List, [], _∷_}
 use mathlib.Core.Path.{_≡_, refl}
+use denote.Ref.{RefT, now}
 use Rattle.format.specs.Bits.{bitAt, ub}
 use Rattle.bit_reader.specs.declared.Field.the-variants.{Value, Refused}
 use Rattle.bit_reader.specs.declared.Step.{Step}
 use Rattle.bit_reader.specs.Fields.{stepAt}
+use Rattle.bit_reader.specs.Readers.{atStart, taken}
 
 abbrev step : Bool → List ℕ → ℕ → ℕ → Step
 step signed b p n = stepAt signed b (record { 0 = p }) n
@@ -39,3 +41,8 @@ expected =
 pub fields-read : asked ≡ expected
 unfolding bitAt ub
 fields-read = refl
+
+-- P7 by a reader of these two bytes: made, and asked twice
+pub reader-read : (x : RefT (List ℕ)) → now x ≡ two → taken false (taken false (atStart x) 6 .reader) 5 ≡ record { reader = record { bytes = x; place = record { 0 = 11 } }; field = Value 20 }
+unfolding bitAt ub
+reader-read x h = rw h

@@ -28,5 +28,6 @@ abbrev pub stepOf : BitPlace → Num → Step
 stepOf at (num v q) = record { field = Value v; place = record { 0 = q } }
 stepOf at (bad e) = record { field = Refused e 0; place = at }
 
+-- the promise of `field_at`
 abbrev pub stepAt : Bool → List ℕ → BitPlace → ℕ → Step
 stepAt signed b at n = stepOf at (fieldOf signed b (at .0) n)

@@ -8,6 +8,7 @@ use Rattle.bit_reader.specs.declared.Step.{Step}
 use Rattle.bit_reader.specs.declared.Taken.{Taken}
 use Rattle.bit_reader.specs.Fields.{stepAt}
 
+-- a new reader: place 0
 abbrev pub atStart : RefT (List ℕ) → BitReader
 atStart bytes = record { bytes = bytes; place = record { 0 = 0 } }
 

@@ -36,6 +36,7 @@ pub struct Taken<'a> {
     pub field: Field,
 }
 
+// UB, or SB where the field is signed, of bytes whose places can all be counted.
 fn read_field(bytes: &[u8], at: BitPlace, width: u64, signed: bool) -> Got
     requires { ⌜ Inside (now bytes) (at .0) × (1 ≤ width) × (width ≤ 32) ⌝ }
     ensures { λ r. ⌜ seen r ≡ readField signed (now (bytes .entry)) (at .0) width ⌝ }

@@ -53,6 +53,7 @@ pub struct PagField {
     pub place: u64,
 }
 
+// The bit reader's step as a plain struct.
 fn plain_step(step: Step) -> PagField
     ensures { λ r. ⌜ r ≡ plainStep step ⌝ }
 {
