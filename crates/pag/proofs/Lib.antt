@@ -1,2 +1,3 @@
 -- What follows from the exports' promises.
 pub mod PlainLaws
+pub mod BitLaws

@@ -2,8 +2,13 @@
 ghost use mathlib.Core.Path.{_≡_};
 ghost use Rattle.format.specs.Bits.{high};
 ghost use Rattle.format.specs.Reasons.{readFile, readTags, into};
+ghost use Rattle.bit_reader.specs.Fields.{fieldOf};
 ghost use Rattle.pag.specs.Plain.{plain, leavesPlain};
+ghost use Rattle.pag.specs.PlainBits.{plainStep, plainField, isSigned};
 use answers::Answer;
+use bit_reader::Field;
+use bit_reader::Step;
+use bits::BitPlace;
 
 #[repr(C)]
 pub struct PagAnswer {
@@ -38,4 +43,41 @@ pub extern "C" fn pag_tags(level: u32, file: &[u8], tags: &mut [u32]) -> PagAnsw
     ensures { λ r. ⌜ leavesPlain (now (tags .exit)) r (into (now (tags .entry)) (readTags high level (now (file .entry)))) ⌝ }
 {
     plain(reader::tags(level, file, tags))
+}
+
+// A field's answer: reason 0 means accepted, and the place is the next one; after a refusal the value is 0 and the place the same.
+#[repr(C)]
+pub struct PagField {
+    pub reason: u32,
+    pub value: u64,
+    pub place: u64,
+}
+
+// The bit reader's step as a plain struct.
+fn plain_step(step: Step) -> PagField
+    ensures { λ r. ⌜ r ≡ plainStep step ⌝ }
+{
+    let field = step.field;
+    let place = step.place;
+    match field {
+        Field::Value(value) => PagField {
+            reason: 0,
+            value: value,
+            place: place.0 as u64,
+        },
+        Field::Refused(reason, number) => PagField {
+            reason: reason,
+            value: number,
+            place: place.0 as u64,
+        },
+    }
+}
+
+// A bit field at a bit place of the file: UB, or SB where `signed` is not 0.
+#[no_mangle]
+pub extern "C" fn pag_bits(file: &[u8], place: u64, width: u32, signed: u32) -> PagField
+    ensures { λ r. ⌜ r ≡ plainField place (fieldOf (isSigned signed) (now (file .entry)) place width) ⌝ }
+{
+    let at = BitPlace(place as usize);
+    plain_step(bit_reader::field_at(file, at, width, signed != 0))
 }

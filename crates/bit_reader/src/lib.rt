@@ -1,0 +1,148 @@
+// A bit reader for hosts: it holds the file's bytes and its place, and reads UB and SB fields.
+ghost use mathlib.Core.Path.{_≡_};
+ghost use mathlib.Core.Bool.{true, false};
+ghost use Prim.Native.Nat.{_<_, _≤_};
+ghost use lib.ListN.{length};
+ghost use Rattle.bits.specs.Places.{Inside, seen};
+ghost use Rattle.bit_reader.specs.Readers.{atStart, taken};
+ghost use Rattle.bit_reader.specs.Fields.{inBytes, fieldOf, stepAt};
+ghost use Rattle.bit_reader.specs.Near.{readField, nearEnd};
+use bits::BitPlace;
+use bits::Got;
+use bits::fields::read_sb;
+use bits::fields::read_ub;
+
+// The file's bytes, and a place in them.
+pub struct BitReader<'a> {
+    pub bytes: &'a [u8],
+    pub place: BitPlace,
+}
+
+// A field's number; or a reason, and number 0.
+pub enum Field {
+    Value(u64),
+    Refused(u32, u64),
+}
+
+// A field, and the place afterwards.
+pub struct Step {
+    pub field: Field,
+    pub place: BitPlace,
+}
+
+// A field, and the reader at the place afterwards.
+pub struct Taken<'a> {
+    pub reader: BitReader<'a>,
+    pub field: Field,
+}
+
+// UB, or SB where the field is signed, of bytes whose places can all be counted.
+fn read_field(bytes: &[u8], at: BitPlace, width: u64, signed: bool) -> Got
+    requires { ⌜ Inside (now bytes) (at .0) × (1 ≤ width) × (width ≤ 32) ⌝ }
+    ensures { λ r. ⌜ seen r ≡ readField signed (now (bytes .entry)) (at .0) width ⌝ }
+{
+    if signed {
+        return read_sb(bytes, at, width);
+    }
+    read_ub(bytes, at, width)
+}
+
+// A field of 32 bits touches five bytes at most: the index after these, or the end.
+fn near_end(i: usize, len: usize) -> usize
+    requires { ⌜ i < len ⌝ }
+    ensures { λ r. ⌜ r ≡ nearEnd i len ⌝ }
+{
+    if len - i < 5 {
+        return len;
+    }
+    i + 5
+}
+
+// Looks only at the bytes near the place, so that bytes of any length are taken.
+fn read_near(bytes: &[u8], place: BitPlace, width: u64, signed: bool) -> Got
+    requires { ⌜ (1 ≤ width) × (width ≤ 32) ⌝ }
+    ensures { λ r. ⌜ seen r ≡ inBytes signed (now (bytes .entry)) (place .0) width ⌝ }
+{
+    let p = place.0;
+    let n = width as usize;
+    let i = p / 8;
+    if bytes.len() <= i {
+        return Got::Fault(13);
+    }
+    if 18446744073709551615 - n < p {
+        return Got::Fault(13);
+    }
+    let end = near_end(i, bytes.len());
+    let near = &bytes[i..end];
+    match read_field(near, BitPlace(p % 8), width, signed) {
+        Got::Value(v, _) => Got::Value(v, BitPlace(p + n)),
+        Got::Fault(why) => Got::Fault(why),
+    }
+}
+
+// A width outside 1 to 32 gives 17, then a field past the end 13.
+fn field_of(bytes: &[u8], place: BitPlace, width: u32, signed: bool) -> Got
+    ensures { λ r. ⌜ seen r ≡ fieldOf signed (now (bytes .entry)) (place .0) width ⌝ }
+{
+    if width < 1 {
+        return Got::Fault(17);
+    }
+    if 32 < width {
+        return Got::Fault(17);
+    }
+    read_near(bytes, place, width as u64, signed)
+}
+
+// UB, or SB where the field is signed, at a place of the bytes. After a refusal the place is the same.
+pub fn field_at(bytes: &[u8], place: BitPlace, width: u32, signed: bool) -> Step
+    ensures { λ r. ⌜ r ≡ stepAt signed (now (bytes .entry)) place width ⌝ }
+{
+    match field_of(bytes, place, width, signed) {
+        Got::Value(v, next) => Step {
+            field: Field::Value(v),
+            place: next,
+        },
+        Got::Fault(why) => Step {
+            field: Field::Refused(why, 0),
+            place: place,
+        },
+    }
+}
+
+// A reader of these bytes, at place 0.
+pub fn new<'a>(bytes: &'a [u8]) -> BitReader<'a>
+    ensures { λ r. ⌜ r ≡ atStart (bytes .entry) ⌝ }
+{
+    BitReader {
+        bytes: bytes,
+        place: BitPlace(0),
+    }
+}
+
+// UB[width] at the reader's place, and the reader afterwards.
+pub fn ub<'a>(reader: BitReader<'a>, width: u32) -> Taken<'a>
+    ensures { λ r. ⌜ r ≡ taken false (reader .entry) width ⌝ }
+{
+    let step = field_at(reader.bytes, reader.place, width, false);
+    Taken {
+        reader: BitReader {
+            bytes: reader.bytes,
+            place: step.place,
+        },
+        field: step.field,
+    }
+}
+
+// SB[width] alike.
+pub fn sb<'a>(reader: BitReader<'a>, width: u32) -> Taken<'a>
+    ensures { λ r. ⌜ r ≡ taken true (reader .entry) width ⌝ }
+{
+    let step = field_at(reader.bytes, reader.place, width, true);
+    Taken {
+        reader: BitReader {
+            bytes: reader.bytes,
+            place: step.place,
+        },
+        field: step.field,
+    }
+}
