@@ -44,7 +44,7 @@ abbrev pub Parts : List ℕ → Made → Type 0
 Parts ns (made xs b ys) = ns ≡ xs ++ ys
 Parts ns unmade = Unit {0}
 
-parts-of : (ns xs b ys : List ℕ) (m : Made) → m ≡ made xs b ys → Parts ns m → ns ≡ xs ++ ys
+pub parts-of : (ns xs b ys : List ℕ) (m : Made) → m ≡ made xs b ys → Parts ns m → ns ≡ xs ++ ys
 parts-of ns xs b ys (made xs′ b′ ys′) e h = let p : xs′ ≡ xs = cc in let q : ys′ ≡ ys = cc in rw (← p, ← q) h
 parts-of ns xs b ys unmade e h = absurd (let z : _≡_ {A = ℕ} 0 1 = cc in omega arith)
 
