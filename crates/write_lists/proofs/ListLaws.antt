@@ -25,9 +25,10 @@ use Rattle.attributes.specs.Rows.{attributesOf}
 use Rattle.fixed.specs.Fixed.{fixedOf}
 use Rattle.bodies.specs.Leaf.{leafBody}
 use Rattle.sink.specs.Lain.{longest}
+use Rattle.write_lists.specs.declared.Wrote.{Wrote}
 use Rattle.write_lists.specs.declared.Wrote.the-variants.{Impossible}
-use Rattle.write_lists.specs.Stood.{Stood, stood, fell, over}
-use Rattle.write_lists.specs.Tags.{bodyIn, begun, shut}
+use Rattle.write_lists.specs.Stood.{Stood, stood, fell, over, stoodAs}
+use Rattle.write_lists.specs.Tags.{bodyIn, begun, shut, shutAs}
 use Rattle.write_lists.proofs.StoodLaws.{Parts, stood-index, andThen, parts-then, again, over-then}
 use Rattle.write_lists.proofs.TagLaws.{shut-over, shut-place, parts-shut, parts-begun}
 
@@ -164,113 +165,127 @@ module _ (level : ℕ) where
       none [] e = refl
       none (x ∷ ns) e = absurd (omega arith)
 
-  module _ (t o : List ℕ) (left a k : ℕ) (h : k < length t) (code : ℕ) (is : code ≡ getD t k 0) where
-    cons : drop k t ≡ code ∷ drop (suc k) t
-    cons = drop-cons t k 0 h ∙ ap (λ (x : ℕ). x ∷ drop (suc k) t) (sym is)
+  -- what stands in the tag at index k, by its code
+  within : List ℕ → ℕ → ℕ → ℕ → Made
+  within t left k code = outTag high (list (pred left)) left (classOf level code) (drop (suc k) t)
 
-    -- what stands in the tag at index k
-    within : Made
-    within = outTag high (list (pred left)) left (classOf level code) (drop (suc k) t)
+  list-one : (t : List ℕ) (left k code : ℕ) → k < length t → code ≡ getD t k 0 → list left (drop k t) ≡ headed code (isEnd (classOf level code)) (within t left k code) (list left)
+  unfolding within
+  list-one t left k code h is =
+      ap (list left) (drop-cons t k 0 h ∙ ap (λ (x : ℕ). x ∷ drop (suc k) t) (sym is)) ∙ unlist-one high (classOf level) left code (drop (suc k) t)
 
-    one : list left (drop k t) ≡ headed code (isEnd (classOf level code)) within (list left)
+  pub turn-high : (t o : List ℕ) (left a k : ℕ) → k < length t → 1023 < getD t k 0 → fell ≡ rest t left o a k
+  unfolding over
+  turn-high t o left a k h q =
+      sym (ap (over o a k) (list-one t left k (getD t k 0) h refl ∙ headed-high (getD t k 0) (isEnd (classOf level (getD t k 0))) (within t left k (getD t k 0)) (list left) q))
+
+-- ---- one turn: the tag at index k, with its code and the name of its class
+pub record Tag (level : ℕ) (t : List ℕ) (k code : ℕ) (class : Class) : Type 0 where
+  pub there : k < length t
+  pub is : code ≡ getD t k 0
+  pub low : code < 1024
+  pub classed : class ≡ classAt level code
+
+module _ {level : ℕ} {t : List ℕ} {k code : ℕ} {class : Class} (g : Tag level t k code class) (o : List ℕ) (left a : ℕ) where
+  cons : drop k t ≡ code ∷ drop (suc k) t
+  cons = drop-cons t k 0 (g .there) ∙ ap (λ (x : ℕ). x ∷ drop (suc k) t) (sym (g .is))
+
+  class-is : classOf level code ≡ classBy class code
+  class-is = by-code leafBody holder listed level code ∙ ap (λ (c : Class). classBy c code) (sym (g .classed))
+
+  one : list level left (drop k t) ≡ headed code (ends class) (within level t left k code) (list level left)
+  one =
+      let e : isEnd (classOf level code) ≡ ends class = ends-named (classOf level code) ∙ ap ends (sym (g .classed)) in
+      list-one level t left k code (g .there) (g .is) ∙ ap (λ (b : Bool). headed code b (within level t left k code) (list level left)) e
+
+  last : ends class ≡ true → list level left (drop k t) ≡ shut code (coded code (within level t left k code))
+  last e = one ∙ rw e (headed-last code (within level t left k code) (list level left))
+
+  more : ends class ≡ false → list level left (drop k t) ≡ andThen (shut code (coded code (within level t left k code))) (list level left)
+  more e = one ∙ rw e (headed-then code (within level t left k code) (list level left))
+
+  -- a tag that was put whole, and the rest of the list
+  then-rest : (m : Made) → ends class ≡ false → coded code (within level t left k code) ≡ m → Parts (drop k t) m → {x : Stood} → x ≡ over o a k (shut code m)
+      → rest level t left o a k ≡ again (list level left) t x
+  then-rest m e is q put =
+      ap (over o a k) (more e ∙ ap (λ (m : Made). andThen (shut code m) (list level left)) is)
+      ∙ over-then t o a k (shut code m) (list level left) (parts-shut (drop k t) code m q)
+      ∙ ap (again (list level left) t) (sym put)
+
+  -- its place and its index
+  pub tag-index : (m : Made) → Parts (drop k t) m → (u : List ℕ) (p j : ℕ) → stood u p j ≡ over o a k (shut code m) → (j ≤ length t) × (a + 2 ≤ p) × (p ≤ longest)
+  tag-index m q u p j e =
+      let h : k < length t = g .there in
+      let x = stood-index t o a k u p j (shut code m) (omega arith) (parts-shut (drop k t) code m q) e in
+      let y = shut-place o u a k code p j m e in
+      (x .1, y .0, y .1)
+
+  -- ---- no container
+  module _ (leaf : contains class ≡ false) where
+    leaf-is : coded code (within level t left k code) ≡ begun class (drop k t)
     unfolding within
-    one = ap (list left) cons ∙ unlist-one high (classOf level) left code (drop (suc k) t)
+    leaf-is = rw class-is (tag-leaf code left (list level (pred left)) class (drop (suc k) t) leaf) ∙ ap (begun class) (sym cons)
 
-    pub turn-high : 1023 < code → fell ≡ rest t left o a k
-    unfolding over
-    turn-high q = sym (ap (over o a k) (one ∙ headed-high code (isEnd (classOf level code)) within (list left) q))
+    pub leaf-last : ends class ≡ true → {x : Stood} → x ≡ over o a k (shut code (begun class (drop k t))) → x ≡ rest level t left o a k
+    leaf-last e put = put ∙ sym (ap (over o a k) (last e ∙ ap (shut code) leaf-is))
 
-    module _ (class : Class) (classed : class ≡ classAt level code) where
-      class-is : classOf level code ≡ classBy class code
-      class-is = by-code leafBody holder listed level code ∙ ap (λ (c : Class). classBy c code) (sym classed)
+    pub leaf-more : ends class ≡ false → {x : Stood} → x ≡ over o a k (shut code (begun class (drop k t))) → rest level t left o a k ≡ again (list level left) t x
+    leaf-more e put = then-rest (begun class (drop k t)) e leaf-is (parts-begun class (drop k t)) put
 
-      end-is : isEnd (classOf level code) ≡ ends class
-      end-is = ends-named (classOf level code) ∙ ap ends (sym classed)
+    pub leaf-fell : fell ≡ over o a k (shut code (begun class (drop k t))) → fell ≡ rest level t left o a k
+    leaf-fell put = go (ends class) refl
+      where
+        go : (c : Bool) → ends class ≡ c → fell ≡ rest level t left o a k
+        go true e = leaf-last e put
+        go false e = sym (leaf-more e put)
 
-      last : ends class ≡ true → list left (drop k t) ≡ shut code (coded code within)
-      last e = one ∙ rw (end-is, e) (headed-last code within (list left))
+  -- ---- a container
+  module _ (holds : contains class ≡ true) where
+    container-is : class ≡ Container
+    container-is = go class holds
+      where
+        go : (c : Class) → contains c ≡ true → c ≡ Container
+        go Opaque e = cc
+        go End e = cc
+        go Container e = refl
+        go Fixed e = cc
+        go Attributes e = cc
 
-      more : ends class ≡ false → list left (drop k t) ≡ andThen (shut code (coded code within)) (list left)
-      more e = one ∙ rw (end-is, e) (headed-then code within (list left))
+    holder-is : classOf level code ≡ holder code
+    holder-is = class-is ∙ ap (λ (c : Class). classBy c code) container-is
 
-      -- ---- a tag that is no container
-      module _ (leaf : contains class ≡ false) where
-        leaf-is : coded code within ≡ begun class (drop k t)
-        unfolding within
-        leaf-is = rw class-is (tag-leaf code left (list (pred left)) class (drop (suc k) t) leaf) ∙ ap (begun class) (sym cons)
+    pub held-deep : left ≡ 0 → fell ≡ rest level t left o a k
+    unfolding over within
+    held-deep z =
+        let e : within level t left k code ≡ unmade = rw holder-is (tag-deep code left (list level (pred left)) (drop (suc k) t) z) in
+        sym (ap (over o a k) (more (ap ends container-is) ∙ ap (λ (m : Made). andThen (shut code (coded code m)) (list level left)) e))
 
-        module _ {x : Stood} (put : x ≡ over o a k (shut code (begun class (drop k t)))) where
-          pub leaf-last : ends class ≡ true → x ≡ rest t left o a k
-          leaf-last e = put ∙ sym (ap (over o a k) (last e ∙ ap (shut code) leaf-is))
+    module _ (some : left ≡ 0 → ⊥) where
+      pub parts-inner : Parts (drop k t) (inner level class left (drop k t))
+      parts-inner = parts-then (drop k t) (begun class (drop k t)) (list level (left - 1)) (parts-begun class (drop k t)) (λ ys. parts-list level (left - 1) ys)
 
-          pub leaf-more : ends class ≡ false → rest t left o a k ≡ again (list left) t x
-          leaf-more e =
-              ap (over o a k) (more e ∙ ap (λ (m : Made). andThen (shut code m) (list left)) leaf-is)
-              ∙ over-then t o a k (shut code (begun class (drop k t))) (list left) (parts-shut (drop k t) code (begun class (drop k t)) (parts-begun class (drop k t)))
-              ∙ ap (again (list left) t) (sym put)
+      inner-is : coded code (within level t left k code) ≡ inner level class left (drop k t)
+      unfolding within
+      inner-is =
+          let d : pred left ≡ left - 1 = below left some in
+          rw (holder-is, d, container-is)
+          (tag-container code left (list level (left - 1)) (drop (suc k) t) some ∙ ap (λ (ns : List ℕ). andThen (begun Container ns) (list level (left - 1))) (sym cons))
+        where
+          below : (n : ℕ) → (n ≡ 0 → ⊥) → pred n ≡ n - 1
+          below zero z = absurd (z refl)
+          below (suc n) z = omega arith
 
-        pub leaf-fell : fell ≡ over o a k (shut code (begun class (drop k t))) → fell ≡ rest t left o a k
-        leaf-fell put = go (ends class) refl
-          where
-            go : (c : Bool) → ends class ≡ c → fell ≡ rest t left o a k
-            go true e = leaf-last put e
-            go false e = sym (leaf-more put e)
+      -- its own values, and from there its list
+      pub held-list : {y x : Stood} → y ≡ over o (a + 2) k (begun class (drop k t)) → x ≡ again (list level (left - 1)) t y → x ≡ over o (a + 2) k (inner level class left (drop k t))
+      held-list put e =
+          e ∙ ap (again (list level (left - 1)) t) put ∙ sym (over-then t o (a + 2) k (begun class (drop k t)) (list level (left - 1)) (parts-begun class (drop k t)))
 
-      -- ---- a container
-      module _ (holds : contains class ≡ true) where
-        container-is : class ≡ Container
-        container-is = go class holds
-          where
-            go : (c : Class) → contains c ≡ true → c ≡ Container
-            go Opaque e = cc
-            go End e = cc
-            go Container e = refl
-            go Fixed e = cc
-            go Attributes e = cc
+      -- its header, and from there the rest
+      pub held-shut : (l : List ℕ) (W : Wrote) → stoodAs l W ≡ over o (a + 2) k (inner level class left (drop k t)) → shutAs l a code W ≡ over o a k (shut code (inner level class left (drop k t)))
+      held-shut l W e = shut-over o l a k code W (inner level class left (drop k t)) (g .low) e
 
-        not-end : ends class ≡ false
-        not-end = ap ends container-is
+      pub held-more : {x : Stood} → x ≡ over o a k (shut code (inner level class left (drop k t))) → rest level t left o a k ≡ again (list level left) t x
+      held-more put = then-rest (inner level class left (drop k t)) (ap ends container-is) inner-is parts-inner put
 
-        holder-is : classOf level code ≡ holder code
-        holder-is = class-is ∙ ap (λ (c : Class). classBy c code) container-is
-
-        pub turn-deep : left ≡ 0 → fell ≡ rest t left o a k
-        unfolding over within
-        turn-deep z =
-            let e : within ≡ unmade = rw holder-is (tag-deep code left (list (pred left)) (drop (suc k) t) z) in
-            sym (ap (over o a k) (more not-end ∙ ap (λ (m : Made). andThen (shut code (coded code m)) (list left)) e))
-
-        module _ (some : left ≡ 0 → ⊥) where
-          pub parts-inner : Parts (drop k t) (inner class left (drop k t))
-          parts-inner = parts-then (drop k t) (begun class (drop k t)) (list (left - 1)) (parts-begun class (drop k t)) (λ ys. parts-list (left - 1) ys)
-
-          inner-is : coded code within ≡ inner class left (drop k t)
-          unfolding within
-          inner-is =
-              let d : pred left ≡ left - 1 = below left some in
-              rw (holder-is, d, container-is) (tag-container code left (list (left - 1)) (drop (suc k) t) some ∙ ap (λ (ns : List ℕ). andThen (begun Container ns) (list (left - 1))) (sym cons))
-            where
-              below : (n : ℕ) → (n ≡ 0 → ⊥) → pred n ≡ n - 1
-              below zero z = absurd (z refl)
-              below (suc n) z = omega arith
-
-          pub held-more : {x : Stood} → x ≡ over o a k (shut code (inner class left (drop k t))) → rest t left o a k ≡ again (list left) t x
-          held-more put =
-              ap (over o a k) (more not-end ∙ ap (λ (m : Made). andThen (shut code m) (list left)) inner-is)
-              ∙ over-then t o a k (shut code (inner class left (drop k t))) (list left) (parts-shut (drop k t) code (inner class left (drop k t)) parts-inner)
-              ∙ ap (again (list left) t) (sym put)
-
-          -- its values, and from there its list
-          pub held-list : {y x : Stood} → y ≡ over o (a + 2) k (begun class (drop k t)) → x ≡ again (list (left - 1)) t y → x ≡ over o (a + 2) k (inner class left (drop k t))
-          held-list put e =
-              e ∙ ap (again (list (left - 1)) t) put ∙ sym (over-then t o (a + 2) k (begun class (drop k t)) (list (left - 1)) (parts-begun class (drop k t)))
-
-          pub held-fell : code < 1024 → fell ≡ over o (a + 2) k (begun class (drop k t)) → fell ≡ rest t left o a k
-          held-fell l put = sym (held-more (shut-over o o a k code Impossible (inner class left (drop k t)) l (held-list put refl)))
-
-    -- ---- places and indexes after a tag
-    pub tag-index : (m : Made) → Parts (drop k t) m → (u : List ℕ) (p j : ℕ) → stood u p j ≡ over o a k (shut code m) → (j ≤ length t) × (a + 2 ≤ p) × (p ≤ longest)
-    tag-index m q u p j e =
-        let x = stood-index t o a k u p j (shut code m) (omega arith) (parts-shut (drop k t) code m q) e in
-        let y = shut-place o u a k code p j m e in
-        (x .1, y .0, y .1)
+      pub held-fell : fell ≡ over o (a + 2) k (begun class (drop k t)) → fell ≡ rest level t left o a k
+      held-fell put = sym (held-more (held-shut o Impossible (held-list put refl)))

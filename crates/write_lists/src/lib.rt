@@ -111,6 +111,7 @@ fn write_leaf(class: Class, code: u32, out: &mut [u8], place: usize, t: &[u64], 
     shut(out, place, code, w)
 }
 
+// Whether a list stands in a tag of this class.
 fn holds_list(class: Class) -> bool
     ensures { λ r. ⌜ r ≡ contains class ⌝ }
 {
@@ -123,6 +124,7 @@ fn holds_list(class: Class) -> bool
     }
 }
 
+// Whether a tag of this class ends its list.
 fn ends_list(class: Class) -> bool
     ensures { λ r. ⌜ r ≡ ends class ⌝ }
 {

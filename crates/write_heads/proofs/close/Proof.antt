@@ -37,7 +37,7 @@ same-length c = search needs
 
 -- src/lib.rt:66:9
 returns : tie.Need-returns
-returns c = close-short (now (c .before .before .before .before .before .before .args .out)) (c .before .before .before .before .before .before .args .place) (c .before .before .before .before .before .before .args .code) (c .before .before .before .before .before .before .args .stop - (c .before .before .before .before .before .before .args .place + 2)) (omega (arith, c .before .before .before .before .before .before .pre .0)) (c .before .before .before .before .if1 .taken) (c .before .before .put16 .ensures)
+returns c = close-short (now (c .before .before .before .before .before .before .args .out)) (c .before .before .before .before .before .before .args .place) (c .before .before .before .before .before .before .args .code) (c .before .before .before .before .before .before .args .stop - (c .before .before .before .before .before .before .args .place + 2)) (omega (arith, c .before .before .before .before .before .before .pre .0)) (omega (arith, c .before .before .before .before .if1 .taken)) (c .before .before .put16 .ensures)
 
 -- src/lib.rt:68:18
 add-move-up : tie.Need-add-move-up
@@ -73,7 +73,7 @@ same-length-2 c = search needs
 
 -- src/lib.rt:58:1
 returns-2 : tie.Need-returns-2
-returns-2 c = close-long (now (c .before .before .before .before .before .before .before .before .before .before .before .before .before .before .args .out)) (c .before .before .before .before .before .before .before .before .before .before .before .before .before .before .args .place) (c .before .before .before .before .before .before .before .before .before .before .before .before .before .before .args .code) (c .before .before .before .before .before .before .before .before .before .before .before .before .before .before .args .stop - (c .before .before .before .before .before .before .before .before .before .before .before .before .before .before .args .place + 2)) (omega (arith, c .before .before .before .before .before .before .before .before .before .before .before .before .before .before .pre .0)) (c .before .before .before .before .before .before .before .before .before .before .before .before .if1 .left) (c .before .before .before .before .before .before .before .before .before .before .move-up .ensures) (c .before .before .before .before .before .before .put162 .ensures) (c .before .before .put32 .ensures)
+returns-2 c = close-long (now (c .before .before .before .before .before .before .before .before .before .before .before .before .before .before .args .out)) (c .before .before .before .before .before .before .before .before .before .before .before .before .before .before .args .place) (c .before .before .before .before .before .before .before .before .before .before .before .before .before .before .args .code) (c .before .before .before .before .before .before .before .before .before .before .before .before .before .before .args .stop - (c .before .before .before .before .before .before .before .before .before .before .before .before .before .before .args .place + 2)) (omega (arith, c .before .before .before .before .before .before .before .before .before .before .before .before .before .before .pre .0)) (omega (arith, c .before .before .before .before .before .before .before .before .before .before .before .before .if1 .left)) (c .before .before .before .before .before .before .before .before .before .before .move-up .ensures) (c .before .before .before .before .before .before .put162 .ensures) (c .before .before .put32 .ensures)
 
 pub close-spec : {M : Type 1} → statement M
 close-spec =

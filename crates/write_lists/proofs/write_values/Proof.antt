@@ -1,4 +1,5 @@
 use denote.Ref.{now}
+use native.Mathlib.Omega.{arith}
 use Rattle.classes.specs.declared.Class.the-variants.{Opaque, End, Container, Fixed, Attributes}
 use Rattle.write_lists.proofs.ValueLaws.{values-of, end-none, end-some}
 use borrow.Author.Needs.{needs}
@@ -22,27 +23,27 @@ copy-bytes-requires c κs = search needs
 enum-told-2 : tie.Need-enum-told-2
 enum-told-2 c = search needs
 
--- src/lib.rt:51:69
+-- src/lib.rt:55:69
 enum-told-3 : tie.Need-enum-told-3
 enum-told-3 c = search needs
 
--- src/lib.rt:51:29
+-- src/lib.rt:55:29
 write-front-requires : tie.Need-write-front-requires
 write-front-requires c κs = search needs
 
--- src/lib.rt:52:64
+-- src/lib.rt:56:64
 enum-told-4 : tie.Need-enum-told-4
 enum-told-4 c = search needs
 
--- src/lib.rt:52:25
+-- src/lib.rt:56:25
 write-body-requires : tie.Need-write-body-requires
 write-body-requires c κs = search needs
 
--- src/lib.rt:53:69
+-- src/lib.rt:57:69
 enum-told-5 : tie.Need-enum-told-5
 enum-told-5 c = search needs
 
--- src/lib.rt:53:30
+-- src/lib.rt:57:30
 write-body-requires-2 : tie.Need-write-body-requires-2
 write-body-requires-2 c κs = search needs
 
@@ -56,7 +57,7 @@ returns c = values-of (now (c .before .before .before .before .before .before .b
 
 -- src/lib.rt:44:1
 returns-2 : tie.Need-returns-2
-returns-2 c = values-of (now (c .before .before .before .before .before .args .out)) (c .before .before .before .before .before .args .at) (now (c .before .before .before .before .before .args .values)) (c .before .before .before .before .before .args .code) End (c .before .enum-told2 .given .1) (end-none (now (c .before .before .before .before .before .args .out)) (c .before .before .before .before .before .args .at) (now (c .before .before .before .before .before .args .values)) (c .before .before .before .before .before .args .code) (c .before .before .before .before .before .pre) (c .if1 .taken))
+returns-2 c = values-of (now (c .before .before .before .before .before .args .out)) (c .before .before .before .before .before .args .at) (now (c .before .before .before .before .before .args .values)) (c .before .before .before .before .before .args .code) End (c .before .enum-told2 .given .1) (end-none (now (c .before .before .before .before .before .args .out)) (c .before .before .before .before .before .args .at) (now (c .before .before .before .before .before .args .values)) (c .before .before .before .before .before .args .code) (c .before .before .before .before .before .pre) (omega (arith, c .if1 .taken)))
 
 -- src/lib.rt:44:1
 returns-3 : tie.Need-returns-3
