@@ -1,7 +1,9 @@
 #!/usr/bin/env python3
-"""Writes crates/format/proofs/Tested.antt: the cases of at most 400 bytes, as one table that the definitions compute."""
+"""Writes crates/format/proofs/Tested.antt: the cases of at most 400 bytes, as one table that the definitions compute.
+`make_tested.py --check` writes nothing, and says whether the file is what the cases make."""
 
 import os
+import sys
 
 import check_cases
 
@@ -55,15 +57,40 @@ def row(case, cons):
             % (name, note, cons, level, file, result(expected)))
 
 
+def made(cases):
+    rows = [row(case, '∷ ' if number else '') for number, case in enumerate(cases)]
+    return TOP + ''.join(rows) + '    ∷ []\n' + BOTTOM
+
+
+def difference(text):
+    """The first line in which the file is not this text; 0 where it is."""
+    with open(OUT, encoding='utf-8', newline='') as file:
+        there = file.read()
+    if there == text:
+        return 0
+    old, new = there.split('\n'), text.split('\n')
+    same = [a == b for a, b in zip(old, new)]
+    return (same.index(False) if False in same else len(same)) + 1
+
+
 def main():
+    if sys.argv[1:] not in ([], ['--check']):
+        sys.exit(__doc__)
     cases = [case for case in check_cases.load() if len(case[2]) <= LONGEST]
+    text = made(cases)
+    if sys.argv[1:]:
+        line = difference(text)
+        if line:
+            print('crates/format/proofs/Tested.antt is not what tests/cases.txt makes, first in line %d: '
+                  'run tests/reference/make_tested.py' % line)
+            return 1
+        print('%d of the cases are there' % len(cases))
+        return 0
     with open(OUT, 'w', encoding='utf-8') as out:
-        out.write(TOP)
-        for number, case in enumerate(cases):
-            out.write(row(case, '∷ ' if number else ''))
-        out.write('    ∷ []\n' + BOTTOM)
+        out.write(text)
     print('%d of the cases written' % len(cases))
+    return 0
 
 
 if __name__ == '__main__':
-    main()
+    sys.exit(main())

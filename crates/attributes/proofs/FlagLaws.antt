@@ -6,8 +6,8 @@ use mathlib.Core.Bool as truth
 use mathlib.Core.Bool.{true, false}
 use native.Mathlib.Numerals.{add-one}
 use native.Mathlib.Omega.{arith}
-use lib.ListN.{length, getD, set, take, drop, length-set, List·getD-map}
-use lib.Seq.{drop-cons, sets-eq, slice-cons, slice-empty, length-slice, take-at}
+use lib.ListN.{length, getD, set, take, length-set, List·getD-map}
+use lib.Seq.{sets-eq, slice-cons, slice-empty, length-slice, take-at}
 use lib.Dec.{eqb}
 use borrow.Author.Tests.{ne-eqb}
 use Rattle.format.specs.Tests.{pick}
@@ -26,7 +26,7 @@ use Rattle.bits.specs.declared.Got.{Got}
 use Rattle.bits.specs.declared.Got.the-variants.{Value as GotValue, Fault as GotFault}
 use Rattle.table.specs.State.{State, after}
 use Rattle.table.proofs.EngineLaws.{state, after-none, then-one, then-never}
-use Rattle.attributes.specs.Rows.{kindOf, typeOf, attributeOf, allAttributes, noAttribute, attributesOf, rowsAt, rowsFrom, AreRows}
+use Rattle.attributes.specs.Rows.{kindOf, attributeOf, allAttributes, attributesOf, rowsAt, rowsFrom, AreRows}
 use Rattle.attributes.specs.declared.Attribute.{Attribute}
 use Rattle.attributes.specs.declared.Rows.{Rows}
 use Rattle.attributes.specs.declared.Kind.{Kind}
@@ -35,12 +35,6 @@ use Rattle.attributes.specs.declared.DataType.{DataType}
 use Rattle.attributes.specs.declared.DataType.the-variants.{U32, Time, Float, Ratio, Bool, Byte, BlendMode, TrackMatteType, MaskMode, Path}
 
 -- ---- the constant rows
-
--- in a list, what would stand past its end does not matter
-getD-any : {A : Type 0} (l : List A) (i : ℕ) (d e : A) → i < length l → getD l i d ≡ getD l i e
-getD-any l i d e h =
-    let f : getD l i d ∷ drop (suc i) l ≡ getD l i e ∷ drop (suc i) l = sym (drop-cons l i d h) ∙ drop-cons l i e h in
-    cc
 
 -- the definitions' attributes in the code's words
 abbrev codeKind : bodies.Kind → Kind
@@ -65,40 +59,18 @@ codeType bodies.Paths = Path
 abbrev codeRow : bodies.Attribute → Attribute
 codeRow a = record { kind = codeKind (a .kind); data_type = codeType (a .dataType) }
 
-kind-back : (k : Kind) → codeKind (kindOf k) ≡ k
-kind-back Value = refl
-kind-back Fixed = refl
-kind-back BitFlag = refl
-kind-back Simple = refl
-kind-back Discrete = refl
+-- what would stand past the table; nobody reads it
+abbrev noRow : Attribute
+noRow = record { kind = Value; data_type = U32 }
 
-type-back : (d : DataType) → codeType (typeOf d) ≡ d
-type-back U32 = refl
-type-back Time = refl
-type-back Float = refl
-type-back Ratio = refl
-type-back Bool = refl
-type-back Byte = refl
-type-back BlendMode = refl
-type-back TrackMatteType = refl
-type-back MaskMode = refl
-type-back Path = refl
+-- the row at an index of the table, in the code's words
+abbrev pub rowAt : ℕ → Attribute
+rowAt i = getD (map codeRow allAttributes) i noRow
 
-row-back : (a : Attribute) → codeRow (attributeOf a) ≡ a
-row-back a = λ i. record { kind = kind-back (a .kind) i; data_type = type-back (a .data_type) i }
-
--- no second row fits
-pub row-one : (a b : Attribute) → attributeOf a ≡ attributeOf b → a ≡ b
-row-one a b e = sym (row-back a) ∙ ap codeRow e ∙ row-back b
-
--- THE table: its rows, read back, compute to the lists, and so at each place
-pub row-is : (d : Attribute) (i : ℕ) → i < 21 → attributeOf (getD (map codeRow allAttributes) i d) ≡ getD allAttributes i noAttribute
-row-is d i h = sym (List·getD-map attributeOf (map codeRow allAttributes) i d) ∙ getD-any allAttributes i (attributeOf d) noAttribute h
-
--- the rows from here are the row here and the rows after it
-pub rows-next : {row end : ℕ} (x : Attribute) → row < end → end ≤ 21 → attributeOf x ≡ getD allAttributes row noAttribute
-    → rowsFrom row end ≡ attributeOf x ∷ rowsFrom (row + 1) end
-rows-next {row} {end} x h l e = slice-cons row end allAttributes noAttribute h l ∙ rw (e, add-one row)
+-- THE table: its rows, read back, compute to the lists; so the rows from here are the row here and the rows after it
+pub rows-next : {row end : ℕ} → row < end → end ≤ 21 → rowsFrom row end ≡ attributeOf (rowAt row) ∷ rowsFrom (row + 1) end
+rows-next {row} {end} h l =
+    slice-cons row end allAttributes (attributeOf noRow) h l ∙ rw (List·getD-map attributeOf (map codeRow allAttributes) row noRow, add-one row)
 
 -- the rows of a code are its list
 pub rows-are : (code : ℕ) (r : Rows) → r ≡ rowsAt code → AreRows (r .start) (r .end) × (rowsFrom (r .start) (r .end) ≡ attributesOf code)
@@ -197,26 +169,29 @@ module _ (s t₀ : List ℕ) (start end p₀ : ℕ) where
     pub below : row ≤ end
     pub stored : j ≤ row
 
-  -- the row here is x, whose kind tells its flag
-  module _ {t : List ℕ} {p row j : ℕ} (x : Attribute) (some : row < end) (rows : end ≤ 21) (is : attributeOf x ≡ getD allAttributes row noAttribute) (g : Going t p row j) where
-    flags-here : flagsFrom row p ≡ run high s (item (flagsOf (kindOf (x .kind))) ▸ allFlags (rowsFrom (row + 1) end)) p
-    unfolding allFlags
-    flags-here = ap (λ (l : List bodies.Attribute). run high s (allFlags l) p) (rows-next x some rows is)
+  -- the kind of the row here tells its flag
+  module _ {t : List ℕ} {p row j : ℕ} (some : row < end) (rows : end ≤ 21) (g : Going t p row j) where
+    abbrev flagHere : Item
+    flagHere = flagsOf (kindOf (rowAt row .kind))
 
-    pub flags-next : {v q : ℕ} {u : List ℕ} → showNum (num v q) ≡ run high s (item (flagsOf (kindOf (x .kind)))) p → u ≡ set t j v → Going u q (row + 1) (j + 1)
+    flags-here : flagsFrom row p ≡ run high s (item flagHere ▸ allFlags (rowsFrom (row + 1) end)) p
+    unfolding allFlags
+    flags-here = ap (λ (l : List bodies.Attribute). run high s (allFlags l) p) (rows-next some rows)
+
+    pub flags-next : {v q : ℕ} {u : List ℕ} → showNum (num v q) ≡ run high s (item flagHere) p → u ≡ set t j v → Going u q (row + 1) (j + 1)
     flags-next {v} {q} {u} e d =
-        let l : (p ≤ q) × (q ≤ 8 * length s) = run-le high s (item (flagsOf (kindOf (x .kind)))) p q (g .place .0) (ap (λ (r : Reading). r .ended) (sym e)) in
+        let l : (p ≤ q) × (q ≤ 8 * length s) = run-le high s (item flagHere) p q (g .place .0) (ap (λ (r : Reading). r .ended) (sym e)) in
         record {
           size = ap length d ∙ length-set t j v ∙ g .size;
-          rest = g .rest ∙ ap (after t j) flags-here ∙ sym (then-one high s t j (item (flagsOf (kindOf (x .kind)))) (λ xs. allFlags (rowsFrom (row + 1) end)) p (sym e) d refl);
+          rest = g .rest ∙ ap (after t j) flags-here ∙ sym (then-one high s t j (item flagHere) (λ xs. allFlags (rowsFrom (row + 1) end)) p (sym e) d refl);
           place = (l .1, g .place .1);
           below = omega arith;
           stored = omega (arith, g .stored);
         }
 
-    pub flags-stop : {e : ℕ} → showNum (bad e) ≡ run high s (item (flagsOf (kindOf (x .kind)))) p → state t j (Fault e) ≡ after t₀ 0 (flagsFrom start p₀)
+    pub flags-stop : {e : ℕ} → showNum (bad e) ≡ run high s (item flagHere) p → state t j (Fault e) ≡ after t₀ 0 (flagsFrom start p₀)
     flags-stop e =
-        then-never high s t j (item (flagsOf (kindOf (x .kind)))) (λ xs. allFlags (rowsFrom (row + 1) end)) p (sym e) ∙ sym (g .rest ∙ ap (after t j) flags-here)
+        then-never high s t j (item flagHere) (λ xs. allFlags (rowsFrom (row + 1) end)) p (sym e) ∙ sym (g .rest ∙ ap (after t j) flags-here)
 
   pub flags-done : {t : List ℕ} {p row j : ℕ} → end ≤ row → Going t p row j → state t j (At p) ≡ after t₀ 0 (flagsFrom start p₀)
   unfolding run allFlags

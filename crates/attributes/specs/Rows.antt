@@ -40,10 +40,6 @@ attributeOf a = record { kind = kindOf (a .kind); dataType = typeOf (a .data_typ
 abbrev pub allAttributes : List bodies.Attribute
 allAttributes = layerAttributes ++ textPathOption ++ maskBlock
 
--- what stands past the table
-abbrev pub noAttribute : bodies.Attribute
-noAttribute = record { kind = bodies.BitFlag; dataType = bodies.Bools }
-
 -- the rows from start on, up to end
 abbrev pub rowsFrom : ℕ → ℕ → List bodies.Attribute
 rowsFrom start end = slice start end allAttributes

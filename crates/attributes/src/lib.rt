@@ -1,7 +1,5 @@
 // The attribute lists of tags 6, 9 and 14 as constant rows of kind and data type, and their flags.
 ghost use mathlib.Core.Path.{_≡_};
-ghost use Prim.Native.Nat.{_<_};
-ghost use lib.ListN.{getD};
 ghost use Rattle.format.specs.Bits.{high};
 ghost use Rattle.format.specs.Formats.{item};
 ghost use Rattle.format.specs.Items.{run, showNum};
@@ -9,7 +7,7 @@ ghost use Rattle.format.specs.Bodies.{flagsOf, allFlags};
 ghost use Rattle.bits.specs.Places.{Inside, seen};
 ghost use Rattle.table.specs.State.{after};
 ghost use Rattle.table.specs.Run.{left};
-ghost use Rattle.attributes.specs.Rows.{kindOf, attributeOf, allAttributes, noAttribute, rowsAt, rowsFrom, AreRows};
+ghost use Rattle.attributes.specs.Rows.{kindOf, rowsAt, rowsFrom, AreRows};
 use bits::BitPlace;
 use bits::Got;
 use table::Run;
@@ -46,7 +44,7 @@ pub struct Rows {
     pub end: usize,
 }
 
-const ATTRIBUTES: [Attribute; 21] = [
+pub const ATTRIBUTES: [Attribute; 21] = [
     // 6: isActive, autoOrientation, parent, stretch, startTime, blendMode, trackMatteType, timeRemap, duration
     Attribute {
         kind: Kind::BitFlag,
@@ -136,13 +134,6 @@ const ATTRIBUTES: [Attribute; 21] = [
     },
 ];
 
-pub fn attribute_at(i: usize) -> Attribute
-    requires { ⌜ i < 21 ⌝ }
-    ensures { λ r. ⌜ attributeOf r ≡ getD allAttributes i noAttribute ⌝ }
-{
-    ATTRIBUTES[i]
-}
-
 // The rows of a tag that is an attribute block; the others have none.
 pub fn rows_of(code: u32) -> Rows
     ensures { λ r. ⌜ r ≡ rowsAt code ⌝ }
@@ -193,13 +184,14 @@ pub fn read_flags(rows: Rows, s: &[u8], at: BitPlace, flags: &mut [u64]) -> Run
     requires { ⌜ AreRows (rows .start) (rows .end) × Inside (now s) (at .0) ⌝ }
     ensures { λ r. ⌜ left (now (flags .exit)) r ≡ after (now (flags .entry)) 0 (run high (now (s .entry)) (allFlags (rowsFrom (rows .start) (rows .end))) (at .0)) ⌝ }
 {
+    let attributes = ATTRIBUTES;
     let end = rows.end;
     let mut place = at;
     let mut row = rows.start;
     let mut j = 0;
     while row < end {
-        let a = attribute_at(row);
-        let kind = a.kind;
+        let attribute = attributes[row];
+        let kind = attribute.kind;
         let r = read_flag(kind, s, place);
         match r {
             Got::Value(number, next) => {

@@ -2,7 +2,6 @@
 use Prim.Native.Nat.{ℕ, suc, _+_, _-_, _*_, _≤_, _<_}
 use mathlib.Core.List.{List, [], _∷_}
 use mathlib.Core.Path.{_≡_, refl, ap, ap₂, sym, _∙_}
-use native.Mathlib.Numerals.{add-one}
 use native.Mathlib.Omega.{arith}
 use lib.ListN.{length, getD, take}
 use lib.Seq.{slice, slice-cons, slice-empty}
@@ -23,11 +22,10 @@ use Rattle.table.specs.declared.Run.{Run}
 use Rattle.table.specs.declared.Run.the-variants.{Done, Stop}
 use Rattle.table.proofs.EngineLaws.{state, after-none, after-stop, alike-assoc}
 use Rattle.table.proofs.RunLaws.{run-done, run-stop}
-use Rattle.attributes.specs.Rows.{kindOf, typeOf, attributeOf, allAttributes, noAttribute, rowsFrom, AreRows}
-use Rattle.attributes.specs.declared.Attribute.{Attribute}
+use Rattle.attributes.specs.Rows.{kindOf, attributeOf, allAttributes, rowsFrom, AreRows}
 use Rattle.attributes.specs.declared.Kind.{Kind}
 use Rattle.attributes.specs.declared.Kind.the-variants.{Value}
-use Rattle.attributes.proofs.FlagLaws.{rows-next}
+use Rattle.attributes.proofs.FlagLaws.{rowAt, rows-next}
 use Rattle.bodies.specs.Leaf.{animatable}
 
 -- ---- contents, by the flag number
@@ -101,30 +99,33 @@ module _ (s t₀ flags : List ℕ) (k start end p₀ : ℕ) where
     pub from : start ≤ row
     pub below : row ≤ end
 
-  -- the row here is x, with the flag number φ; R is the answer of the call that read it
-  module _ {t : List ℕ} {p j row φ : ℕ} (x : Attribute) (some : row < end) (inside : end ≤ 21) (lent : end - start ≤ length flags)
-      (is : attributeOf x ≡ getD allAttributes row noAttribute) (flag : φ ≡ getD flags (row - start) 0) (g : Going t p j row) where
-    rows-here : run high s (rowsAt row) p ≡ run high s (rowOf (attributeOf x) φ ▸ rowsAt (row + 1)) p
+  -- the row here has the flag number φ; R is the answer of the call that read it
+  module _ {t : List ℕ} {p j row φ : ℕ} (some : row < end) (inside : end ≤ 21) (lent : end - start ≤ length flags)
+      (flag : φ ≡ getD flags (row - start) 0) (g : Going t p j row) where
+    abbrev attributeHere : bodies.Attribute
+    attributeHere = attributeOf (rowAt row)
+
+    rows-here : run high s (rowsAt row) p ≡ run high s (rowOf attributeHere φ ▸ rowsAt (row + 1)) p
     unfolding rows
     rows-here =
         let n : suc (row - start) ≡ row + 1 - start = omega (arith, g .from) in
         let f : slice (row - start) (end - start) flags ≡ φ ∷ slice (row + 1 - start) (end - start) flags =
         slice-cons (row - start) (end - start) flags 0 (omega (arith, g .from)) lent ∙ rw (flag, n) in
-        ap₂ (λ (l : List bodies.Attribute) (φs : List ℕ). run high s (rows l φs) p) (rows-next x some inside is) f
-        ∙ sym (alike-assoc (item (Item.echo φ)) (content (attributeOf x) φ) (rowsAt (row + 1)) high s p)
+        ap₂ (λ (l : List bodies.Attribute) (φs : List ℕ). run high s (rows l φs) p) (rows-next some inside) f
+        ∙ sym (alike-assoc (item (Item.echo φ)) (content attributeHere φ) (rowsAt (row + 1)) high s p)
 
-    module _ {u : List ℕ} {R : Run} (ran : left u R ≡ after t j (run high s (rowOf (attributeOf x) φ) p)) where
+    module _ {u : List ℕ} {R : Run} (ran : left u R ≡ after t j (run high s (rowOf attributeHere φ) p)) where
       pub rows-next-row : {q : BitPlace} {i : ℕ} → length u ≡ length t → R ≡ Done q i → Going u (q .0) i (row + 1)
       rows-next-row z e = record {
         size = z ∙ g .size;
-        same = g .same ∙ ap (after t j) rows-here ∙ sym (run-done s t j (rowOf (attributeOf x) φ) p ran (λ xs. rowsAt (row + 1)) e refl);
-        fits = row-fits s t (attributeOf x) φ (end - (row + 1)) j (g .fits .0, omega (arith, g .fits .1)) (ap (left u) (sym e) ∙ ran);
+        same = g .same ∙ ap (after t j) rows-here ∙ sym (run-done s t j (rowOf attributeHere φ) p ran (λ xs. rowsAt (row + 1)) e refl);
+        fits = row-fits s t attributeHere φ (end - (row + 1)) j (g .fits .0, omega (arith, g .fits .1)) (ap (left u) (sym e) ∙ ran);
         from = omega (arith, g .from);
         below = omega arith;
       }
 
       pub rows-stop : {e i : ℕ} → R ≡ Stop e i → left u R ≡ whole
-      rows-stop e = run-stop s t j (rowOf (attributeOf x) φ) p ran (λ xs. rowsAt (row + 1)) e ∙ sym (g .same ∙ ap (after t j) rows-here)
+      rows-stop e = run-stop s t j (rowOf attributeHere φ) p ran (λ xs. rowsAt (row + 1)) e ∙ sym (g .same ∙ ap (after t j) rows-here)
 
   pub rows-done : {t : List ℕ} {p j row : ℕ} → end ≤ row → Going t p j row → state t j (At p) ≡ whole
   unfolding run rows

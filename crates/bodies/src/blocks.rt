@@ -89,6 +89,7 @@ fn read_contents(rows: Rows, flags: &[u64], s: &[u8], at: BitPlace, t: &mut [u64
     requires { ⌜ AreRows (rows .start) (rows .end) × (9 ≤ length (now flags)) × Fits (now s) (at .0) (k + 9) ⌝ }
     ensures { λ r. ⌜ left (now (t .exit)) r ≡ after (now (t .entry)) k (run high (now (s .entry)) («rowsOf» (rowsFrom (rows .start) (rows .end)) (take (rows .end - rows .start) (now (flags .entry)))) (at .0)) ⌝ }
 {
+    let attributes = attributes::ATTRIBUTES;
     let start = rows.start;
     let end = rows.end;
     let mut place = at;
@@ -96,7 +97,7 @@ fn read_contents(rows: Rows, flags: &[u64], s: &[u8], at: BitPlace, t: &mut [u64
     let mut row = start;
     while row < end {
         let flag = flags[row - start];
-        let attribute = attributes::attribute_at(row);
+        let attribute = attributes[row];
         let r = read_attribute(attribute, flag, s, place, t, j);
         let Run::Done(next, i) = r else {
             return r;

@@ -279,7 +279,7 @@ module _ (o : Order) where
       go (fault e n) u h = absurd (let z : _≡_ {A = ℕ} 0 1 = cc in omega arith)
       go whole u h = let q : t ≡ table f (walkFile o level f) = cc in rw q (omega (arith, u .0, u .1 .count, length-drop 9 f))
 
-  tag-table-length : (ts : List Tag) → length (tagTable ts) ≡ 5 * length ts
+  pub tag-table-length : (ts : List Tag) → length (tagTable ts) ≡ 5 * length ts
   tag-table-length [] = refl
   tag-table-length (t ∷ ts) = omega (arith, tag-table-length ts)
 

@@ -53,12 +53,13 @@ module _ (b t : List ℕ) (k n p : ℕ) where
   pub frames-never : (kind : bodies.Kind) → run high b aligned p ≡ stop 15 → Announces kind (state t k (Fault 15)) 0
   frames-never kind e = (then-never high b t k aligned (λ xs. interpolations kind n) p e, (rw (never-then high b aligned (λ xs. interpolations kind n) p 15 e), omega arith))
 
-  -- there are none
-  pub frames-none : (kind : bodies.Kind) {q : ℕ} → interpolations kind n ≡ nothing → run high b aligned p ≡ shows [] q → Announces kind (state t k (At q)) 0
+  -- a kind that has none
+  pub frames-none : {kind told : Kind} {q : ℕ} → kind ≡ told → interpolations (kindOf told) n ≡ nothing → run high b aligned p ≡ shows [] q → Announces (kindOf kind) (state t k (At q)) 0
   unfolding run
-  frames-none kind {q} none e =
-      let f : run high b (aligned ▸ interpolations kind n) p ≡ shows [] q = none-then high b aligned (λ xs. interpolations kind n) p q e ∙ ap (λ (g : Format). run high b g q) none in
-      (rw f (sym (after-none t k q)), (rw f, omega arith))
+  frames-none {told = told} {q} is none e =
+      let f : run high b (aligned ▸ interpolations (kindOf told) n) p ≡ shows [] q =
+      none-then high b aligned (λ xs. interpolations (kindOf told) n) p q e ∙ ap (λ (g : Format). run high b g q) none in
+      frames-of told is (rw f (sym (after-none t k q)), (rw f, omega arith))
 
   -- they are fields of two bits
   pub frames-some : {q m : ℕ} {x : State} → run high b aligned p ≡ shows [] q → x ≡ after t k (run high b (times n (fieldOf Interpolation 2)) q)

@@ -10,16 +10,19 @@ use Rattle.attributes.proofs.read_flags.Statement.{statement}
 use Rattle.attributes.proofs.read_flags.Tie as tie
 
 abbrev Inv-loop : tie.InvT-loop
-Inv-loop s flags₀ end place₀ row₀ j₀ flags place row j = Going s flags₀ row₀ end (place₀ .0) flags (place .0) row j
+Inv-loop s flags₀ attributes end place₀ row₀ j₀ flags place row j = Going s flags₀ row₀ end (place₀ .0) flags (place .0) row j
 
 abbrev μ-loop : tie.MeasureT-loop
-μ-loop s flags₀ end place₀ row₀ j₀ flags place row j = end - row
+μ-loop s flags₀ attributes end place₀ row₀ j₀ flags place row j = end - row
 
 loop-holds : tie.Need-loop-holds Inv-loop μ-loop
 loop-holds c = record { size = refl; rest = refl; place = c .before .before .pre .1; below = c .before .before .pre .0 .up; stored = omega arith }
 
-attribute-at-requires : tie.Need-attribute-at-requires Inv-loop μ-loop
-attribute-at-requires c κs = omega (arith, c .before .before .before .before .pre .0 .inside)
+mul-attribute : tie.Need-mul-attribute Inv-loop μ-loop
+mul-attribute c = search needs
+
+array-copy-out-attribute : tie.Need-array-copy-out-attribute Inv-loop μ-loop
+array-copy-out-attribute c = omega (arith, c .before .before .before .before .pre .0 .inside)
 
 read-flag-requires : tie.Need-read-flag-requires Inv-loop μ-loop
 read-flag-requires c κs = c .before .before .loop .inv .place
@@ -37,8 +40,7 @@ same-length : tie.Need-same-length Inv-loop μ-loop
 same-length c = c .before .before .before .before .before .before .loop .inv .size
 
 returns : tie.Need-returns Inv-loop μ-loop
-returns c = let a = c .before .before .before .before .before .before .before .before .before .args in flags-stop (now (a .s)) (now (a .flags)) (a .rows .start) (a .rows .end) (a .at .0) (c .before .before .before .before .attribute-at .result) (c .before .before .before .before .before .loop-test .taken) (c .before .before .before .before .before .before .before .before .before .pre .0 .inside) (c .before .before .before .before .attribute-at .ensures) (c .before .before .before .before .before .before .loop .inv)
-    (sym (got-fault (c .before .before .before .read-flag .ensures) (c .before .r2 .given .1)))
+returns c = let a = c .before .before .before .before .before .before .before .before .before .args in flags-stop (now (a .s)) (now (a .flags)) (a .rows .start) (a .rows .end) (a .at .0) (c .before .before .before .before .before .loop-test .taken) (c .before .before .before .before .before .before .before .before .before .pre .0 .inside) (c .before .before .before .before .before .before .loop .inv) (sym (got-fault (c .before .before .before .read-flag .ensures) (c .before .r2 .given .1)))
 
 add-row : tie.Need-add-row Inv-loop μ-loop
 add-row c = omega (arith, c .before .before .before .before .before .before .before .before .before .before .before .before .before .pre .0 .inside)
@@ -50,8 +52,7 @@ loop-less : tie.Need-loop-less Inv-loop μ-loop
 loop-less c = omega arith
 
 loop-again : tie.Need-loop-again Inv-loop μ-loop
-loop-again c = let a = c .before .before .before .before .before .before .before .before .before .before .before .before .before .args in flags-next (now (a .s)) (now (a .flags)) (a .rows .start) (a .rows .end) (a .at .0) (c .before .before .before .before .before .before .before .before .attribute-at .result) (c .before .before .before .before .before .before .before .before .before .loop-test .taken) (c .before .before .before .before .before .before .before .before .before .before .before .before .before .pre .0 .inside) (c .before .before .before .before .before .before .before .before .attribute-at .ensures) (c .before .before .before .before .before .before .before .before .before .before .loop .inv)
-    (sym (got-value (c .before .before .before .before .before .before .before .read-flag .ensures) (c .before .before .before .before .before .r .given .1))) (c .before .before .put .ensures)
+loop-again c = let a = c .before .before .before .before .before .before .before .before .before .before .before .before .before .args in flags-next (now (a .s)) (now (a .flags)) (a .rows .start) (a .rows .end) (a .at .0) (c .before .before .before .before .before .before .before .before .before .loop-test .taken) (c .before .before .before .before .before .before .before .before .before .before .before .before .before .pre .0 .inside) (c .before .before .before .before .before .before .before .before .before .before .loop .inv) (sym (got-value (c .before .before .before .before .before .before .before .read-flag .ensures) (c .before .before .before .before .before .r .given .1))) (c .before .before .put .ensures)
 
 same-length-2 : tie.Need-same-length-2 Inv-loop μ-loop
 same-length-2 c = c .before .loop .inv .size
@@ -66,7 +67,8 @@ read-flags-spec =
     Inv-loop
     μ-loop
     loop-holds
-    attribute-at-requires
+    mul-attribute
+    array-copy-out-attribute
     read-flag-requires
     enum-known-r
     put-requires

@@ -35,7 +35,7 @@ add-read-verbs c = search needs
 
 -- src/lib.rt:58:13
 read-verbs-requires : tie.Need-read-verbs-requires
-read-verbs-requires c κs = let a = c .before .before .before .before .before .before .before .before .before .before .before .args in (one-fits (Count 0) (now (a .s)) (a .at .0) (got-value (c .before .before .before .before .before .before .before .before .read-item .ensures) (c .before .before .before .before .before .before .c .given .1)) (c .before .before .before .before .before .before .before .before .before .before .before .pre), count-range (now (a .s)) (a .at .0) 0 (got-value (c .before .before .before .before .before .before .before .before .read-item .ensures) (c .before .before .before .before .before .before .c .given .1)) .1)
+read-verbs-requires c κs = let a = c .before .before .before .before .before .before .before .before .before .before .before .args in (one-fits (Count _) (now (a .s)) (a .at .0) (got-value (c .before .before .before .before .before .before .before .before .read-item .ensures) (c .before .before .before .before .before .before .c .given .1)) (c .before .before .before .before .before .before .before .before .before .before .before .pre), count-range (now (a .s)) (a .at .0) _ (got-value (c .before .before .before .before .before .before .before .before .read-item .ensures) (c .before .before .before .before .before .before .c .given .1)) .1)
 
 -- src/lib.rt:60:20
 enum-known-c-2 : tie.Need-enum-known-c-2
@@ -47,11 +47,11 @@ same-length c = search needs
 
 -- src/lib.rt:50:1
 returns : tie.Need-returns
-returns c = let a = c .before .before .before .before .before .before .before .before .before .before .before .before .before .before .args in then-one high (now (a .s)) (now (a .t)) (a .k) (count 0 4096) (λ n. pathOf (the n)) (a .at .0) (got-value (c .before .before .before .before .before .before .before .before .before .before .before .read-item .ensures) (c .before .before .before .before .before .before .before .before .before .c .given .1)) (c .before .before .before .before .before .before .put .ensures) (c .before .before .read-verbs .ensures)
+returns c = let a = c .before .before .before .before .before .before .before .before .before .before .before .before .before .before .args in then-one high (now (a .s)) (now (a .t)) (a .k) (count _ _) (λ n. pathOf (the n)) (a .at .0) (got-value (c .before .before .before .before .before .before .before .before .before .before .before .read-item .ensures) (c .before .before .before .before .before .before .before .before .before .c .given .1)) (c .before .before .before .before .before .before .put .ensures) (c .before .before .read-verbs .ensures)
 
 -- src/lib.rt:50:1
 returns-2 : tie.Need-returns-2
-returns-2 c = let a = c .before .before .before .before .before .before .args in then-never high (now (a .s)) (now (a .t)) (a .k) (count 0 4096) (λ n. pathOf (the n)) (a .at .0) (got-fault (c .before .before .before .read-item .ensures) (c .before .c2 .given .1))
+returns-2 c = let a = c .before .before .before .before .before .before .args in then-never high (now (a .s)) (now (a .t)) (a .k) (count _ _) (λ n. pathOf (the n)) (a .at .0) (got-fault (c .before .before .before .read-item .ensures) (c .before .c2 .given .1))
 
 pub read-path-spec : {M : Type 1} → statement M
 read-path-spec =

@@ -3,7 +3,6 @@ use mathlib.Core.Path.{refl, sym, _∙_}
 use native.Mathlib.Omega.{arith}
 use lib.Dec.{lit≤}
 use Rattle.attributes.specs.Rows.{kindOf}
-use Rattle.attributes.specs.declared.Kind.the-variants.{Value, Fixed, BitFlag, Simple, Discrete}
 use Rattle.table.proofs.RunLaws.{align-none, align-never, align-fits}
 use Rattle.values.proofs.ValueLaws.{frames-of, frames-never, frames-none, frames-some}
 use borrow.Author.Needs.{needs}
@@ -60,28 +59,24 @@ same-length c = search needs
 
 -- src/keyframes.rt:26:1
 returns-2 : tie.Need-returns-2
-returns-2 c = let a = c .before .before .before .before .before .before .before .before .before .before .before .before .args in frames-of (now (a .s)) (now (a .t)) (a .k) (a .n) (a .at .0) Simple (c .before .before .before .before .enum-told2 .given .1)
+returns-2 c = let a = c .before .before .before .before .before .before .before .before .before .before .before .before .args in frames-of (now (a .s)) (now (a .t)) (a .k) (a .n) (a .at .0) _ (c .before .before .before .before .enum-told2 .given .1)
     (frames-some (now (a .s)) (now (a .t)) (a .k) (a .n) (a .at .0) (align-none (now (a .s)) (a .at .0) (sym (c .before .before .before .before .before .before .before .before .before .align .ensures) ∙ c .before .before .before .before .before .before .before .a .given .1)) (c .before .before .read-fields .ensures .0) (c .before .before .read-fields .ensures .1))
 
 -- src/keyframes.rt:26:1
 returns-3 : tie.Need-returns-3
-returns-3 c = let a = c .before .before .before .before .before .before .before .before .args in frames-of (now (a .s)) (now (a .t)) (a .k) (a .n) (a .at .0) Value (c .enum-told3 .given .1)
-    (frames-none (now (a .s)) (now (a .t)) (a .k) (a .n) (a .at .0) (kindOf Value) refl (align-none (now (a .s)) (a .at .0) (sym (c .before .before .before .before .before .align .ensures) ∙ c .before .before .before .a .given .1)))
+returns-3 c = let a = c .before .before .before .before .before .before .before .before .args in frames-none (now (a .s)) (now (a .t)) (a .k) (a .n) (a .at .0) (c .enum-told3 .given .1) refl (align-none (now (a .s)) (a .at .0) (sym (c .before .before .before .before .before .align .ensures) ∙ c .before .before .before .a .given .1))
 
 -- src/keyframes.rt:26:1
 returns-4 : tie.Need-returns-4
-returns-4 c = let a = c .before .before .before .before .before .before .before .before .args in frames-of (now (a .s)) (now (a .t)) (a .k) (a .n) (a .at .0) Fixed (c .enum-told4 .given .1)
-    (frames-none (now (a .s)) (now (a .t)) (a .k) (a .n) (a .at .0) (kindOf Fixed) refl (align-none (now (a .s)) (a .at .0) (sym (c .before .before .before .before .before .align .ensures) ∙ c .before .before .before .a .given .1)))
+returns-4 c = let a = c .before .before .before .before .before .before .before .before .args in frames-none (now (a .s)) (now (a .t)) (a .k) (a .n) (a .at .0) (c .enum-told4 .given .1) refl (align-none (now (a .s)) (a .at .0) (sym (c .before .before .before .before .before .align .ensures) ∙ c .before .before .before .a .given .1))
 
 -- src/keyframes.rt:26:1
 returns-5 : tie.Need-returns-5
-returns-5 c = let a = c .before .before .before .before .before .before .before .before .args in frames-of (now (a .s)) (now (a .t)) (a .k) (a .n) (a .at .0) BitFlag (c .enum-told5 .given .1)
-    (frames-none (now (a .s)) (now (a .t)) (a .k) (a .n) (a .at .0) (kindOf BitFlag) refl (align-none (now (a .s)) (a .at .0) (sym (c .before .before .before .before .before .align .ensures) ∙ c .before .before .before .a .given .1)))
+returns-5 c = let a = c .before .before .before .before .before .before .before .before .args in frames-none (now (a .s)) (now (a .t)) (a .k) (a .n) (a .at .0) (c .enum-told5 .given .1) refl (align-none (now (a .s)) (a .at .0) (sym (c .before .before .before .before .before .align .ensures) ∙ c .before .before .before .a .given .1))
 
 -- src/keyframes.rt:26:1
 returns-6 : tie.Need-returns-6
-returns-6 c = let a = c .before .before .before .before .before .before .before .before .args in frames-of (now (a .s)) (now (a .t)) (a .k) (a .n) (a .at .0) Discrete (c .enum-told6 .given .1)
-    (frames-none (now (a .s)) (now (a .t)) (a .k) (a .n) (a .at .0) (kindOf Discrete) refl (align-none (now (a .s)) (a .at .0) (sym (c .before .before .before .before .before .align .ensures) ∙ c .before .before .before .a .given .1)))
+returns-6 c = let a = c .before .before .before .before .before .before .before .before .args in frames-none (now (a .s)) (now (a .t)) (a .k) (a .n) (a .at .0) (c .enum-told6 .given .1) refl (align-none (now (a .s)) (a .at .0) (sym (c .before .before .before .before .before .align .ensures) ∙ c .before .before .before .a .given .1))
 
 pub read-interpolations-spec : {M : Type 1} → statement M
 read-interpolations-spec =

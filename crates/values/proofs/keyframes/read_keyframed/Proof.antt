@@ -35,7 +35,7 @@ add-read-keyframes c = search needs
 
 -- src/keyframes.rt:107:13
 read-keyframes-requires : tie.Need-read-keyframes-requires
-read-keyframes-requires c κs = let a = c .before .before .before .before .before .before .before .before .before .before .before .args in (one-fits (Count 1) (now (a .s)) (a .at .0) (got-value (c .before .before .before .before .before .before .before .before .read-item .ensures) (c .before .before .before .before .before .before .c .given .1)) (c .before .before .before .before .before .before .before .before .before .before .before .pre), count-range (now (a .s)) (a .at .0) 1 (got-value (c .before .before .before .before .before .before .before .before .read-item .ensures) (c .before .before .before .before .before .before .c .given .1)) .1)
+read-keyframes-requires c κs = let a = c .before .before .before .before .before .before .before .before .before .before .before .args in (one-fits (Count _) (now (a .s)) (a .at .0) (got-value (c .before .before .before .before .before .before .before .before .read-item .ensures) (c .before .before .before .before .before .before .c .given .1)) (c .before .before .before .before .before .before .before .before .before .before .before .pre), count-range (now (a .s)) (a .at .0) _ (got-value (c .before .before .before .before .before .before .before .before .read-item .ensures) (c .before .before .before .before .before .before .c .given .1)) .1)
 
 -- src/keyframes.rt:109:20
 enum-known-c-2 : tie.Need-enum-known-c-2
@@ -47,11 +47,11 @@ same-length c = search needs
 
 -- src/keyframes.rt:99:1
 returns : tie.Need-returns
-returns c = let a = c .before .before .before .before .before .before .before .before .before .before .before .before .before .before .args in then-one high (now (a .s)) (now (a .t)) (a .k) (count 1 4096) (λ n. keyframesOf (kindOf (a .kind)) (typeOf (a .what)) (the n)) (a .at .0) (got-value (c .before .before .before .before .before .before .before .before .before .before .before .read-item .ensures) (c .before .before .before .before .before .before .before .before .before .c .given .1)) (c .before .before .before .before .before .before .put .ensures) (c .before .before .read-keyframes .ensures)
+returns c = let a = c .before .before .before .before .before .before .before .before .before .before .before .before .before .before .args in then-one high (now (a .s)) (now (a .t)) (a .k) (count _ _) (λ n. keyframesOf (kindOf (a .kind)) (typeOf (a .what)) (the n)) (a .at .0) (got-value (c .before .before .before .before .before .before .before .before .before .before .before .read-item .ensures) (c .before .before .before .before .before .before .before .before .before .c .given .1)) (c .before .before .before .before .before .before .put .ensures) (c .before .before .read-keyframes .ensures)
 
 -- src/keyframes.rt:99:1
 returns-2 : tie.Need-returns-2
-returns-2 c = let a = c .before .before .before .before .before .before .args in then-never high (now (a .s)) (now (a .t)) (a .k) (count 1 4096) (λ n. keyframesOf (kindOf (a .kind)) (typeOf (a .what)) (the n)) (a .at .0) (got-fault (c .before .before .before .read-item .ensures) (c .before .c2 .given .1))
+returns-2 c = let a = c .before .before .before .before .before .before .args in then-never high (now (a .s)) (now (a .t)) (a .k) (count _ _) (λ n. keyframesOf (kindOf (a .kind)) (typeOf (a .what)) (the n)) (a .at .0) (got-fault (c .before .before .before .read-item .ensures) (c .before .c2 .given .1))
 
 pub read-keyframed-spec : {M : Type 1} → statement M
 read-keyframed-spec =

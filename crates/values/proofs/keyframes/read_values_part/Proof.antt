@@ -1,5 +1,6 @@
 use denote.Ref.{now}
 use mathlib.Core.Path.{sym, _∙_}
+use native.Mathlib.Omega.{arith}
 use Rattle.format.specs.Bits.{high}
 use Rattle.format.specs.Bodies.{aligned, values}
 use Rattle.attributes.specs.Rows.{typeOf}
@@ -31,7 +32,10 @@ returns c = let a = c .before .before .before .before .before .args in then-neve
 
 -- src/keyframes.rt:53:5
 read-values-requires : tie.Need-read-values-requires
-read-values-requires c κs = let a = c .before .before .before .before .before .before .before .args in (align-fits (now (a .s)) (a .at .0) (sym (c .before .before .before .before .align .ensures) ∙ c .before .before .a .given .1) (c .before .before .before .before .before .before .before .pre .0), c .before .before .before .before .before .before .before .pre .1)
+read-values-requires c κs = let a = c .before .before .before .before .before .before .before .args in
+    let h = c .before .before .before .before .before .before .before .pre in
+    let f = align-fits (now (a .s)) (a .at .0) (sym (c .before .before .before .before .align .ensures) ∙ c .before .before .a .given .1) (h .0) in
+    (((omega (arith, f .0 .0, h .0 .0 .0), h .0 .0 .1), omega (arith, f .1, h .0 .1)), h .1)
 
 -- src/keyframes.rt:45:1
 same-length : tie.Need-same-length

@@ -1,0 +1,2 @@
+-- What follows from the exports' promises.
+pub mod PlainLaws

@@ -1,0 +1,21 @@
+-- An answer as a plain struct.
+use Prim.Native.Nat.{ℕ}
+use mathlib.Core.List.{List}
+use mathlib.Core.Path.{_≡_}
+use Rattle.format.specs.Reasons as paper
+use Rattle.answers.specs.declared.Answer.{Answer}
+use Rattle.answers.specs.declared.Answer.the-variants.{Accepted, Refused}
+use Rattle.pag.specs.declared.PagAnswer.{PagAnswer}
+
+abbrev pub plain : Answer → PagAnswer
+plain (Accepted n) = record { reason = 0; number = n }
+plain (Refused e n) = record { reason = e; number = n }
+
+-- the paper's answer as a plain struct
+abbrev pub plainOf : paper.Answer → PagAnswer
+plainOf (paper.accepted n) = record { reason = 0; number = n }
+plainOf (paper.refused e n) = record { reason = e; number = n }
+
+-- m: what the lent memory holds afterwards. r: the answer
+abbrev pub leavesPlain : List ℕ → PagAnswer → paper.Left → Type 0
+leavesPlain m r x = (r ≡ plainOf (x .answer)) × (m ≡ x .lent)

@@ -1,0 +1,178 @@
+-- Whole files: the reasons 1 to 5, the run that counts, and what the two public calls leave.
+use Prim.Native.Nat.{ℕ, _+_, _*_, _≤_, _<_}
+use mathlib.Core.List.{List, _++_}
+use mathlib.Core.Path.{_≡_, refl, ap, sym, _∙_}
+use mathlib.Core.Bool.{Bool, true, false}
+use native.Mathlib.Nat.{zero-add}
+use native.Mathlib.Omega.{arith}
+use lib.ListN.{length, getD, drop, set, length-set}
+use lib.Seq.{sets, sets-eq, length-sets}
+use lib.Dec.{ltb, leb, eqb}
+use borrow.Author.Tests.{lt-ltb, le-ltb, lt-leb, le-leb, leb-true, eq-eqb, ne-eqb, eqb-true}
+use Rattle.format.specs.Tests.{pick, _and_}
+use Rattle.format.specs.Bits.{high}
+use Rattle.format.specs.FileAndTags.{le32, signatureRight, versionRight, lengthRight, classOf, Outcome, whole, fault, Walk, broken, file, walkList}
+use Rattle.format.specs.TableOfNumbers.{numbers, table, tagTable}
+use Rattle.format.specs.Reasons.{startFault, walkFile, gives, refuses, result, readFile, readTags, into}
+use Rattle.format.proofs.LevelLaws.{long-file}
+use Rattle.answers.specs.Answers.{leaves}
+use Rattle.answers.specs.declared.Answer.the-variants.{Accepted, Refused}
+use Rattle.lists.specs.Lists.{Listed, listed, walkedOf, laid, Bounds}
+use Rattle.lists.specs.declared.Walked.{Walked}
+use Rattle.lists.specs.declared.Walked.the-variants.{Next, Fault}
+use Rattle.lists.proofs.ListLaws.{piece, piece-rest, length-piece}
+use Rattle.reader.specs.Survey.{surveyed}
+
+-- ---- 1 to 5, in this order
+module _ (level : ℕ) (f : List ℕ) where
+  pub start-1 : 1023 < level → 1 ≡ startFault level f
+  unfolding startFault
+  start-1 h = rw (lt-ltb 1023 level h)
+
+  module _ (known : level ≤ 1023) where
+    pub start-2 : length f < 9 → 2 ≡ startFault level f
+    unfolding startFault
+    start-2 h = rw (le-ltb 1023 level known, lt-ltb (length f) 9 h)
+
+    -- the numbers that the code looks at
+    module _ (long : 9 ≤ length f) {a b c : ℕ} (a-is : a ≡ getD f 0 0) (b-is : b ≡ getD f 1 0) (c-is : c ≡ getD f 2 0) where
+      pub start-3 : (a + 256 * b + 65536 * c ≡ 0x474150 → ⊥) → 3 ≡ startFault level f
+      unfolding startFault
+      start-3 h = rw (le-ltb 1023 level known, le-ltb (length f) 9 long, ← a-is, ← b-is, ← c-is, ne-eqb (a + 256 * b + 65536 * c) 0x474150 h)
+
+      module _ (signed : a + 256 * b + 65536 * c ≡ 0x474150) {v : ℕ} (v-is : v ≡ getD f 3 0) where
+        pub start-4 : (v ≡ 1 → ⊥) → 4 ≡ startFault level f
+        unfolding startFault
+        start-4 h = rw (le-ltb 1023 level known, le-ltb (length f) 9 long, ← a-is, ← b-is, ← c-is, eq-eqb (a + 256 * b + 65536 * c) 0x474150 signed, ← v-is, ne-eqb v 1 h)
+
+        module _ (first : v ≡ 1) {n : ℕ} (n-is : n ≡ le32 (drop 4 f)) where
+          start-5-or-0 : pick (eqb n (length f) and leb (length f) 16777216) 0 5 ≡ startFault level f
+          unfolding startFault
+          start-5-or-0 = rw (le-ltb 1023 level known, le-ltb (length f) 9 long, ← a-is, ← b-is, ← c-is, eq-eqb (a + 256 * b + 65536 * c) 0x474150 signed, ← v-is, eq-eqb v 1 first, ← n-is)
+
+          pub start-5 : (n ≡ length f → ⊥) → 5 ≡ startFault level f
+          start-5 h = rw (ne-eqb n (length f) h) at start-5-or-0
+
+          pub start-5-long : n ≡ length f → 16777216 < length f → 5 ≡ startFault level f
+          start-5-long e h = rw (eq-eqb n (length f) e, lt-leb (length f) 16777216 h) at start-5-or-0
+
+          pub start-0 : n ≡ length f → length f ≤ 16777216 → 0 ≡ startFault level f
+          start-0 e h = rw (eq-eqb n (length f) e, le-leb (length f) 16777216 h) at start-5-or-0
+
+  -- a file that passes them
+  pub fair-file : startFault level f ≡ 0 → (9 ≤ length f) × (length f ≤ 16777216)
+  unfolding startFault
+  fair-file e = (long-file level f e, short (ltb 1023 level) (ltb (length f) 9) (signatureRight f) (versionRight f) (eqb (le32 (drop 4 f)) (length f)) (leb (length f) 16777216) refl e)
+    where
+      short : (a b c d n m : Bool) → leb (length f) 16777216 ≡ m → _≡_ {A = ℕ} (pick a 1 (pick b 2 (pick c (pick d (pick (n and m) 0 5) 4) 3))) 0 → length f ≤ 16777216
+      short true b c d n m h e = absurd (omega arith)
+      short false true c d n m h e = absurd (omega arith)
+      short false false false d n m h e = absurd (omega arith)
+      short false false true false n m h e = absurd (omega arith)
+      short false false true true false m h e = absurd (omega arith)
+      short false false true true true false h e = absurd (omega arith)
+      short false false true true true true h e = leb-true (length f) 16777216 h
+
+  walk-is : startFault level f ≡ 0 → walkFile high level f ≡ walkList high (classOf level) 8 file 9 (drop 9 f)
+  unfolding walkFile
+  walk-is e = rw (eq-eqb (startFault level f) 0 e)
+
+  -- ---- the run that counts
+  pub survey-start : {e : ℕ} → e ≡ startFault level f → (e ≡ 0 → ⊥) → Fault e 0 ≡ surveyed (walkFile high level f)
+  unfolding walkFile
+  survey-start {e} q h = rw (← q, ne-eqb e 0 h)
+
+  pub tags-bounds : 9 ≤ length f → length f ≤ 16777216 → Bounds 8 9 (length (piece 9 (length f) f)) 1 0
+  tags-bounds l h = record { depth = omega arith; place = omega (arith, length-piece 9 (length f) f (omega arith)); index = omega arith; row = omega arith }
+
+  pub tags-read : (t g : List ℕ) {x : Listed} → x ≡ laid t 1 g 0 (walkList high (classOf level) 8 file 9 (piece 9 (length f) f)) → x ≡ laid t 1 g 0 (walkList high (classOf level) 8 file 9 (drop 9 f))
+  tags-read t g e = e ∙ ap (λ (r : List ℕ). laid t 1 g 0 (walkList high (classOf level) 8 file 9 r)) (piece-rest 9 f)
+
+  pub survey-walk : (t g : List ℕ) {t′ g′ : List ℕ} {x : Walked} → startFault level f ≡ 0 → listed t′ g′ x ≡ laid t 1 g 0 (walkList high (classOf level) 8 file 9 (drop 9 f)) → x ≡ surveyed (walkFile high level f)
+  survey-walk t g z e = ap (λ (l : Listed). l .answer) e ∙ rw (zero-add, walk-is z)
+
+  -- ---- what it tells
+  abbrev w : Walk
+  w = walkFile high level f
+
+  -- it found a refusal
+  pub survey-refused : {e n : ℕ} → Fault e n ≡ surveyed w → (ns : List ℕ) → refuses e n ≡ result ns (w .ended)
+  survey-refused {e} {n} q ns = go (w .ended) q
+    where
+      go : (z : Outcome) → Fault e n ≡ walkedOf (1 + length (numbers (w .tags))) (length (tagTable (w .tags))) z → refuses e n ≡ result ns z
+      go whole q = cc
+      go (fault e′ n′) q = cc
+
+  -- it found none, and the two counts
+  pub record Found (k m : ℕ) : Type 0 where
+    pub ended : w .ended ≡ whole
+    pub numbers-are : k ≡ length (table f w)
+    pub rows-are : m ≡ length (tagTable (w .tags))
+    pub start : startFault level f ≡ 0
+
+  pub survey-found : {k m : ℕ} → Next k m ≡ surveyed w → Found k m
+  unfolding walkFile
+  survey-found {k} {m} q = record { ended = go (w .ended) q .0; numbers-are = go (w .ended) q .1; rows-are = go (w .ended) q .2; start = from (eqb (startFault level f) 0) refl q }
+    where
+      go : (z : Outcome) → Next k m ≡ walkedOf (1 + length (numbers (w .tags))) (length (tagTable (w .tags))) z → (z ≡ whole) × (k ≡ length (table f w)) × (m ≡ length (tagTable (w .tags)))
+      go whole q = (refl, (let z : k ≡ 1 + length (numbers (w .tags)) = cc in omega arith), cc)
+      go (fault e n) q = absurd (let z : _≡_ {A = ℕ} 0 1 = cc in omega arith)
+
+      from : (c : Bool) → eqb (startFault level f) 0 ≡ c → Next k m ≡ surveyed (pick c (walkList high (classOf level) 8 file 9 (drop 9 f)) (broken (startFault level f) 0)) → startFault level f ≡ 0
+      from true e q = eqb-true (startFault level f) 0 e
+      from false e q = absurd (let z : _≡_ {A = ℕ} 0 1 = cc in omega arith)
+
+-- ---- what a call leaves: the lent memory m, and the numbers ns for it
+module _ (m ns : List ℕ) where
+  -- it has no room for them
+  short-of : {k : ℕ} → k ≡ length ns → length m < k → leaves m (Refused 19 k) ≡ into m (gives ns)
+  short-of {k} e h = rw (e, lt-leb (length ns) (length m) (omega arith))
+
+  -- they are laid over its start
+  laid-in : {k : ℕ} {t : List ℕ} → k ≡ length ns → k ≤ length m → t ≡ sets m 0 ns → leaves t (Accepted k) ≡ into m (gives ns)
+  laid-in {k} {t} e h d =
+      let s : sets m 0 ns ≡ ns ++ drop (length ns) m = sets-eq ns m 0 (omega arith) ∙ ap (λ (i : ℕ). ns ++ drop i m) (zero-add (length ns)) in
+      rw (e, le-leb (length ns) (length m) (omega arith), d, s)
+
+module _ (level : ℕ) (f m : List ℕ) where
+  -- ---- `read`
+  pub read-refused : {e n : ℕ} → Fault e n ≡ surveyed (walkFile high level f) → leaves m (Refused e n) ≡ into m (readFile high level f)
+  unfolding readFile
+  read-refused q = ap (into m) (survey-refused level f q (table f (walkFile high level f)))
+
+  read-is : {k j : ℕ} → Found level f k j → readFile high level f ≡ gives (table f (walkFile high level f))
+  unfolding readFile
+  read-is u = ap (result (table f (walkFile high level f))) (u .ended)
+
+  pub read-short : {k j : ℕ} → Next k j ≡ surveyed (walkFile high level f) → length m < k → leaves m (Refused 19 k) ≡ into m (readFile high level f)
+  read-short q h = short-of m (table f (walkFile high level f)) (survey-found level f q .numbers-are) h ∙ ap (into m) (sym (read-is (survey-found level f q)))
+
+  -- the compression byte c was stored first
+  pub read-done : {k j c : ℕ} (g : List ℕ) {t g′ : List ℕ} {x : Walked} → Next k j ≡ surveyed (walkFile high level f) → k ≤ length m → c ≡ getD f 8 0
+      → listed t g′ x ≡ laid (set m 0 c) 1 g 0 (walkList high (classOf level) 8 file 9 (drop 9 f)) → leaves t (Accepted k) ≡ into m (readFile high level f)
+  read-done g q h e d =
+      let u : Found level f _ _ = survey-found level f q in
+      laid-in m (table f (walkFile high level f)) (u .numbers-are) h (ap (λ (l : Listed). l .table) d ∙ rw (e, walk-is level f (u .start))) ∙ ap (into m) (sym (read-is u))
+
+  -- the lent memory keeps its length
+  pub read-size : {c : ℕ} (g : List ℕ) {t g′ : List ℕ} {x : Walked} → c ≡ getD f 8 0 → listed t g′ x ≡ laid (set m 0 c) 1 g 0 (walkList high (classOf level) 8 file 9 (drop 9 f)) → length t ≡ length m
+  read-size {c} g h e =
+      ap (λ (l : Listed). length (l .table)) e ∙ length-sets (set m 0 c) 1 (numbers (walkList high (classOf level) 8 file 9 (drop 9 f) .tags)) ∙ length-set m 0 c
+
+  -- ---- `tags`
+  pub tags-refused : {e n : ℕ} → Fault e n ≡ surveyed (walkFile high level f) → leaves m (Refused e n) ≡ into m (readTags high level f)
+  unfolding readTags
+  tags-refused q = ap (into m) (survey-refused level f q (tagTable (walkFile high level f .tags)))
+
+  tags-are : {k j : ℕ} → Found level f k j → readTags high level f ≡ gives (tagTable (walkFile high level f .tags))
+  unfolding readTags
+  tags-are u = ap (result (tagTable (walkFile high level f .tags))) (u .ended)
+
+  pub tags-short : {k j : ℕ} → Next k j ≡ surveyed (walkFile high level f) → length m < j → leaves m (Refused 19 j) ≡ into m (readTags high level f)
+  tags-short q h = short-of m (tagTable (walkFile high level f .tags)) (survey-found level f q .rows-are) h ∙ ap (into m) (sym (tags-are (survey-found level f q)))
+
+  pub tags-done : {k j : ℕ} (t : List ℕ) {t′ g : List ℕ} {x : Walked} → Next k j ≡ surveyed (walkFile high level f) → j ≤ length m
+      → listed t′ g x ≡ laid t 1 m 0 (walkList high (classOf level) 8 file 9 (drop 9 f)) → leaves g (Accepted j) ≡ into m (readTags high level f)
+  tags-done t q h d =
+      let u : Found level f _ _ = survey-found level f q in
+      laid-in m (tagTable (walkFile high level f .tags)) (u .rows-are) h (ap (λ (l : Listed). l .rows) d ∙ rw (walk-is level f (u .start))) ∙ ap (into m) (sym (tags-are u))
