@@ -1,10 +1,14 @@
 -- Bits put after one another over a list of bytes: what an output and a sink are after them.
 use Prim.Native.Nat.{ℕ, _+_, _*_, _/_, _%_, _^_, _<_}
+use mathlib.Core.Path.{_≡_}
 use mathlib.Core.List.{List, [], _∷_}
 use mathlib.Core.Bool.{Bool}
 use lib.ListN.{set}
 use lib.Dec.{eqb}
 use Rattle.format.specs.Tests.{pick}
+use Rattle.format.specs.Bits.{high}
+use Rattle.format.specs.Items.{skipped}
+use Rattle.format.specs.WritingItems.{dig}
 use Rattle.format.specs.WritingBodies.{bit}
 use Rattle.sink.specs.declared.Sink.{Sink}
 
@@ -19,7 +23,7 @@ mk o p a = record { bytes = o; place = p; part = a }
 
 -- an output with a sink
 abbrev pub at : List ℕ → Sink → State
-at o s = mk o (s .place) (s .part)
+at o s = mk o (s .place .0) (s .part)
 
 -- one bit more; a byte that is full is stored, where there is room for it
 unfoldable pub push : State → Bool → State
@@ -35,3 +39,8 @@ lay st (b ∷ bs) = lay (push st b) bs
 -- a part says no more than its bits can
 abbrev pub Holds : ℕ → ℕ → Type 0
 Holds p a = a < 2 ^ (p % 8)
+
+-- zero bits up to a whole byte, byte or bit in the two counts, with the output u
+pub record Skipped (st : State) (u : List ℕ) (byte bit : ℕ) : Type 0 where
+  pub whole : bit ≡ 8 * byte
+  pub laid : mk u bit 0 ≡ lay st (dig high (skipped (st .place)) 0)

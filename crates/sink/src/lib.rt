@@ -1,16 +1,24 @@
 // Bits put after one another into a lent output: whole bytes are stored where there is room, the bits of a byte that has begun wait in the sink.
 ghost use mathlib.Core.Path.{_≡_};
-ghost use Prim.Native.Nat.{_^_, _<_, _≤_};
+ghost use Prim.Native.Nat.{_*_, _^_, _<_, _≤_};
 ghost use lib.ListN.{set};
 ghost use Rattle.format.specs.Bits.{high};
 ghost use Rattle.format.specs.Items.{skipped};
 ghost use Rattle.format.specs.WritingItems.{dig};
-ghost use Rattle.sink.specs.Laying.{at as «under», lay, Holds};
+ghost use Rattle.sink.specs.Laying.{mk, at as «under», lay, Holds, Skipped};
+use bits::BitPlace;
+use bits::BytePlace;
 
 // The next bit place, and the bits of its byte that were put, as a number.
 pub struct Sink {
-    pub place: usize,
+    pub place: BitPlace,
     pub part: u64,
+}
+
+// A whole byte, in both counts.
+pub struct Whole {
+    pub byte: BytePlace,
+    pub bit: BitPlace,
 }
 
 // A body was written up to a byte place; or no file has it.
@@ -39,10 +47,10 @@ pub fn power(n: usize) -> u64
 
 // A field of w bits: those that wait and these, a byte at a time.
 pub fn put_bits(out: &mut [u8], s: Sink, v: u64, w: usize) -> Sink
-    requires { ⌜ Holds (s .place) (s .part) × (s .place ≤ 2 ^ 60) × (w ≤ 32) × (v < 2 ^ w) ⌝ }
+    requires { ⌜ Holds (s .place .0) (s .part) × (s .place .0 ≤ 2 ^ 60) × (w ≤ 32) × (v < 2 ^ w) ⌝ }
     ensures { λ r. ⌜ «under» (now (out .exit)) r ≡ lay («under» (now (out .entry)) s) (dig high w v) ⌝ }
 {
-    let p = s.place;
+    let p = s.place.0;
     let a = s.part;
     let mut i = p / 8;
     let mut n = p % 8 + w;
@@ -55,16 +63,30 @@ pub fn put_bits(out: &mut [u8], s: Sink, v: u64, w: usize) -> Sink
         i += 1;
     }
     Sink {
-        place: i * 8 + n,
+        place: BitPlace(p + w),
         part: x,
     }
 }
 
-// Zero bits up to the next whole byte.
-pub fn align(out: &mut [u8], s: Sink) -> Sink
-    requires { ⌜ Holds (s .place) (s .part) × (s .place ≤ 2 ^ 60) ⌝ }
-    ensures { λ r. ⌜ «under» (now (out .exit)) r ≡ lay («under» (now (out .entry)) s) (dig high (skipped (s .place)) 0) ⌝ }
+// The next whole byte: zero bits up to it.
+pub fn align(out: &mut [u8], s: Sink) -> Whole
+    requires { ⌜ Holds (s .place .0) (s .part) × (s .place .0 ≤ 2 ^ 60) ⌝ }
+    ensures { λ r. ⌜ Skipped («under» (now (out .entry)) s) (now (out .exit)) (r .byte .0) (r .bit .0) ⌝ }
 {
-    let p = s.place;
-    put_bits(out, s, 0, (8 - p % 8) % 8)
+    let p = s.place.0;
+    let i = p / 8;
+    let used = p % 8;
+    if used == 0 {
+        return Whole {
+            byte: BytePlace(i),
+            bit: BitPlace(p),
+        };
+    }
+    let a = s.part;
+    let skipped = 8 - used;
+    put_byte(out, i, a * power(skipped));
+    Whole {
+        byte: BytePlace(i + 1),
+        bit: BitPlace(p + skipped),
+    }
 }
