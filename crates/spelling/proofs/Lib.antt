@@ -1,0 +1,5 @@
+pub mod RunLaws
+pub mod NumberLaws
+pub mod FieldLaws
+pub mod TextLaws
+pub mod ShiftLaws
