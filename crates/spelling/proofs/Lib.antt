@@ -3,3 +3,4 @@ pub mod NumberLaws
 pub mod FieldLaws
 pub mod TextLaws
 pub mod ShiftLaws
+pub mod AlikeLaws

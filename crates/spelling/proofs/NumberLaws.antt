@@ -9,7 +9,7 @@ use lib.Dec.{leb, ltb, eqb}
 use borrow.Author.Tests.{lt-ltb, le-ltb, le-leb, lt-leb, eq-eqb, ne-eqb, eqb-true, leb-true, leb-false}
 use Rattle.format.specs.Tests.{pick, _and_, _or_}
 use Rattle.format.specs.Bits.{high}
-use Rattle.format.specs.Formats.{Format, the}
+use Rattle.format.specs.Formats.{Format, _▹_, the}
 use Rattle.format.specs.Items.{skipped}
 use Rattle.format.specs.WritingItems.{dig, Bits, spelt, none, before, Written, wrote, cannot, put, single, writeItem, spellUB, spellVar, spellI32, spellLE}
 use Rattle.format.specs.WritingFormats.{passing, adjoin, unrun}
@@ -19,9 +19,11 @@ use Rattle.items.specs.declared.Item.the-variants.{U32, I32, Time, Float, Byte,
 use Rattle.sink.specs.Laying.{State, mk, at, lay, Skipped}
 use Rattle.sink.specs.declared.Sink.{Sink}
 use Rattle.sink.proofs.LayingLaws.{lay-byte, lay-none}
-use Rattle.spelling.specs.Writing.{Sunk, sunk, unsunk, laid, got, Seen, here, gone, ran}
+use Rattle.spelling.specs.declared.Put.{Put}
+use Rattle.spelling.specs.declared.Put.the-variants.{Done, Impossible}
+use Rattle.spelling.specs.Writing.{Sunk, sunk, unsunk, laid, here, seen, ran}
 use Rattle.spelling.specs.Spellings.{spellingOf}
-use Rattle.spelling.proofs.RunLaws.{laid-before, laid-in, laid-no, one-done, OneDone}
+use Rattle.spelling.proofs.RunLaws.{then-stop, then-done, laid-before, laid-in, laid-no, one-done, OneDone, the-one}
 
 -- ---- a byte
 pub byte-in : (o : List ℕ) (i p v : ℕ) {u : List ℕ} → p ≡ 8 * i → v ≤ 255 → u ≡ set o i v → sunk (mk u (p + 8) 0) ≡ laid (mk o p 0) (spellUB high 8 v)
@@ -192,3 +194,23 @@ count-done lo t st st′ k j e = (d .next, d .inside, go (leb lo (getD t k 0)) r
     go false p b q = absurd (d .spells (rw p))
     go true p false q = absurd (d .spells (rw (p, q)))
     go true p true q = (leb-true lo (getD t k 0) p, leb-true (getD t k 0) 4096 q)
+
+-- ---- a count, and what follows it
+module _ (lo : ℕ) (g : ℕ → Format) (t : List ℕ) (st : State) (k : ℕ) (u : List ℕ) (R : Put) (first : seen u R ≡ ran t st k (formatOf (Count lo))) where
+  pub counted-stop : R ≡ Impossible → seen u R ≡ ran t st k (formatOf (Count lo) ▹ λ n. g (the n))
+  counted-stop e = ap (seen u) e ∙ sym (then-stop t st k (formatOf (Count lo)) (λ n. g (the n)) u R first e)
+
+  module _ (s : Sink) (j : ℕ) (e : R ≡ Done s j) where
+    done : (j ≡ k + 1) × (k < length t) × (lo ≤ getD t k 0) × (getD t k 0 ≤ 4096)
+    done = count-done lo t st (at u s) k j (sym first ∙ ap (seen u) e)
+
+    pub counted-inside : k < length t
+    counted-inside = done .1
+
+    pub counted-most : getD t k 0 ≤ 4096
+    counted-most = done .3
+
+    pub counted-done : ran t st k (formatOf (Count lo) ▹ λ n. g (the n)) ≡ ran t (at u s) j (g (getD t k 0))
+    counted-done =
+        then-done t st k (formatOf (Count lo)) (λ n. g (the n)) u R first s j e
+        ∙ ap (λ (n : ℕ). ran t (at u s) j (g n)) (the-one t k j (done .0) (done .1))

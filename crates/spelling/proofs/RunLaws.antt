@@ -11,7 +11,7 @@ use lib.Dec.{leb}
 use borrow.Author.Tests.{le-leb, lt-leb, leb-true, leb-false}
 use Rattle.format.specs.Tests.{pick}
 use Rattle.format.specs.Bits.{high}
-use Rattle.format.specs.Formats.{Item, Format, nothing, item, _▹_, times, the}
+use Rattle.format.specs.Formats.{Item, Format, nothing, item, _▹_, _▸_, times, the}
 use Rattle.format.specs.Items.{skipped}
 use Rattle.format.specs.WritingItems.{dig, Bits, spelt, none, before, Written, wrote, cannot, put, single, writeItem}
 use Rattle.format.specs.WritingFormats.{adjoin, onward, unrun}
@@ -126,6 +126,37 @@ ran-fine t o s k f u R fine e s′ j d = go (unrun high f (drop k t) (s .place .
     go : (w : Written) → after (at o s) k w ≡ here (at u s′) j → Fine s′
     go cannot h = absurd (let z : _≡_ {A = ℕ} 0 1 = cc in omega arith)
     go (wrote xs bs ys) h = out-of bs (k + length xs) (leb (lay (at o s) bs .place) limit) refl h
+
+-- ---- a loop that writes the format f part by part: of it g is to come
+pub record Going (t o : List ℕ) (s : Sink) (k : ℕ) (f : Format) (u : List ℕ) (cur : Sink) (j : ℕ) (g : Format) : Type 0 where
+  pub size : length u ≡ length o
+  pub fine : Fine cur
+  pub rest : ran t (at o s) k f ≡ ran t (at u cur) j g
+
+pub going-none : (t o : List ℕ) (s : Sink) (k : ℕ) (f : Format) → Fine s → Going t o s k f o s k f
+going-none t o s k f fine = record { size = refl; fine = fine; rest = refl }
+
+pub times-more : (f : Format) (n : ℕ) → 0 < n → times n f ≡ f ▸ times (n - 1) f
+times-more f n h = times-pred f n h
+
+pub times-over : (f : Format) (n : ℕ) → n ≡ 0 → times n f ≡ nothing
+unfolding times
+times-over f n e = rw e
+
+module _ {t o : List ℕ} {s : Sink} {k : ℕ} {f : Format} {u : List ℕ} {cur : Sink} {j : ℕ} {g : Format} (going : Going t o s k f u cur j g) where
+  module _ (part rest : Format) (is : g ≡ part ▸ rest) (u′ : List ℕ) (R : Put) (first : seen u′ R ≡ ran t (at u cur) j part) where
+    pub going-stop : R ≡ Impossible → seen u′ R ≡ ran t (at o s) k f
+    going-stop e = ap (seen u′) e ∙ sym (going .rest ∙ ap (ran t (at u cur) j) is ∙ then-stop t (at u cur) j part (λ xs. rest) u′ R first e)
+
+    pub going-next : length u′ ≡ length u → (s′ : Sink) (i : ℕ) → R ≡ Done s′ i → Going t o s k f u′ s′ i rest
+    going-next size s′ i e = record {
+      size = size ∙ going .size;
+      fine = ran-fine t u cur j part u′ R (going .fine) first s′ i e;
+      rest = going .rest ∙ ap (ran t (at u cur) j) is ∙ then-done t (at u cur) j part (λ xs. rest) u′ R first s′ i e;
+    }
+
+  pub going-over : g ≡ nothing → here (at u cur) j ≡ ran t (at o s) k f
+  going-over e = sym (going .rest ∙ ap (ran t (at u cur) j) e ∙ ran-nothing t (at u cur) j (going .fine .1))
 
 -- ---- one number: g p v are the bits of v from place p on
 module _ (f : Format) (g : ℕ → ℕ → Bits) (is : (ns : List ℕ) (p : ℕ) → unrun high f ns p ≡ single (g p) ns) (t : List ℕ) (st : State) (k : ℕ) where
