@@ -156,6 +156,10 @@ pub fields-over : {f : Field} {w : ℕ} {t o : List ℕ} {s : Sink} {k n : ℕ} 
 fields-over {f} {w} {t} {o} {s} {k} {n} {u} {cur} {j} {left} g e =
     (sym (g .rest ∙ times-none t (at u cur) j (fieldOf f w) left (g .fine .1) e), (g .counts, omega (arith, g .few)))
 
+-- what a run that was written announces
+pub announces-done : (f : Field) (t : List ℕ) (k n m : ℕ) {R : Put} {s : Sink} {j : ℕ} → Announces f t k n R m → R ≡ Done s j → (m ≡ announced f (take (j - k) (drop k t))) × (m ≤ 6 * n)
+announces-done f t k n m a e = subst (λ (x : Put). Announces f t k n x m) e a
+
 -- ---- a width
 unfoldable pub widthBits : ℕ → ℕ → Bits
 widthBits p v = undo suc pred (spellUB high 5) v

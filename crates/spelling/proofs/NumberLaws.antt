@@ -21,7 +21,7 @@ use Rattle.sink.specs.declared.Sink.{Sink}
 use Rattle.sink.proofs.LayingLaws.{lay-byte, lay-none}
 use Rattle.spelling.specs.declared.Put.{Put}
 use Rattle.spelling.specs.declared.Put.the-variants.{Done, Impossible}
-use Rattle.spelling.specs.Writing.{Sunk, sunk, unsunk, laid, here, seen, ran}
+use Rattle.spelling.specs.Writing.{Sunk, sunk, unsunk, laid, Seen, here, seen, ran}
 use Rattle.spelling.specs.Spellings.{spellingOf}
 use Rattle.spelling.proofs.RunLaws.{then-stop, then-done, laid-before, laid-in, laid-no, one-done, OneDone, the-one}
 
@@ -214,3 +214,6 @@ module _ (lo : ℕ) (g : ℕ → Format) (t : List ℕ) (st : State) (k : ℕ) (
     counted-done =
         then-done t st k (formatOf (Count lo)) (λ n. g (the n)) u R first s j e
         ∙ ap (λ (n : ℕ). ran t (at u s) j (g n)) (the-one t k j (done .0) (done .1))
+
+    pub counted-on : {x : Seen} → x ≡ ran t (at u s) j (g (getD t k 0)) → x ≡ ran t st k (formatOf (Count lo) ▹ λ n. g (the n))
+    counted-on d = d ∙ sym counted-done

@@ -1,5 +1,5 @@
 -- How formats that are written follow one another. Nothing here speaks of one format.
-use Prim.Native.Nat.{ℕ, zero, suc, _+_, _-_, _≤_, _<_}
+use Prim.Native.Nat.{ℕ, zero, suc, _+_, _-_, _%_, _≤_, _<_}
 use mathlib.Core.List.{List, [], _∷_, _++_}
 use mathlib.Core.Path.{_≡_, refl, sym, ap, ap₂, _∙_, subst}
 use mathlib.Core.Bool.{Bool, true, false}
@@ -7,6 +7,7 @@ use native.Mathlib.Nat.{add-zero, add-assoc}
 use native.Mathlib.Omega.{arith}
 use lib.ListN.{length, take, drop, getD, length-append, length-drop}
 use lib.Seq.{drop-drop, drop-cons, take-append-seam, drop-append-seam}
+use lib.Pow.{pow-pos}
 use lib.Dec.{leb}
 use borrow.Author.Tests.{le-leb, lt-leb, leb-true, leb-false}
 use Rattle.format.specs.Tests.{pick}
@@ -93,6 +94,13 @@ module _ (t : List ℕ) (st : State) (k : ℕ) (f : Format) (g : List ℕ → Fo
 
   pub then-stop : R ≡ Impossible → ran t st k (f ▹ g) ≡ gone
   then-stop e = ran-then t st k f g ∙ ap (resume t k g) (sym first ∙ ap (seen u) e)
+
+  -- the same as the code has it: x is what the second leaves
+  pub then-on : (s : Sink) (j : ℕ) {x : Seen} → R ≡ Done s j → x ≡ ran t (at u s) j (g (take (j - k) (drop k t))) → x ≡ ran t st k (f ▹ g)
+  then-on s j e d = d ∙ sym (then-done s j e)
+
+  pub then-off : R ≡ Impossible → seen u R ≡ ran t st k (f ▹ g)
+  then-off e = ap (seen u) e ∙ sym (then-stop e)
 
 -- ---- n in turn
 pub times-none : (t : List ℕ) (st : State) (k : ℕ) (f : Format) (n : ℕ) → st .place ≤ limit → n ≡ 0 → ran t st k (times n f) ≡ here st k
@@ -229,20 +237,28 @@ the-one t k j e h =
 skip-le : (p : ℕ) → p ≤ limit → p + skipped p ≤ limit
 skip-le p h = omega arith
 
-module _ (t : List ℕ) (st : State) (k : ℕ) {u : List ℕ} {byte bit : ℕ} (low : st .place ≤ limit) (skip : Skipped st u byte bit) where
-  pub skip-place : OnByte byte bit
-  skip-place =
-      let p : bit ≡ st .place + skipped (st .place) =
-      ap (λ (x : State). x .place) (skip .laid) ∙ lay-place st (dig high (skipped (st .place)) 0) ∙ ap (λ (n : ℕ). st .place + n) (length-dig high (skipped (st .place)) 0) in
-      (skip .whole, omega (arith, p, skip-le (st .place) low))
+skip-end : (st : State) {st′ : State} → st .place ≤ limit → st′ ≡ lay st (dig high (skipped (st .place)) 0) → st′ .place ≤ limit
+skip-end st {st′} low e =
+    let p : st′ .place ≡ st .place + skipped (st .place) =
+    ap (λ (x : State). x .place) e ∙ lay-place st (dig high (skipped (st .place)) 0) ∙ ap (λ (n : ℕ). st .place + n) (length-dig high (skipped (st .place)) 0) in
+    omega (arith, p, skip-le (st .place) low)
 
-  pub ran-align : ran t st k (item Item.align) ≡ here (mk u bit 0) k
+pub skip-place : (st : State) {u : List ℕ} {byte bit : ℕ} → st .place ≤ limit → Skipped st u byte bit → OnByte byte bit
+skip-place st low skip = (skip .whole, skip-end st low (skip .laid))
+
+pub skip-fine : (st : State) {u : List ℕ} {byte bit : ℕ} → st .place ≤ limit → Skipped st u byte bit → Holds bit 0 × (bit ≤ limit)
+skip-fine st {u} {byte} {bit} low skip = (pow-pos (bit % 8), skip-place st low skip .1)
+
+module _ (t : List ℕ) (st : State) (k : ℕ) {st′ : State} (low : st .place ≤ limit) (skip : st′ ≡ lay st (dig high (skipped (st .place)) 0)) where
+  pub ran-align : ran t st k (item Item.align) ≡ here st′ k
   unfolding ran unrun writeItem after
-  ran-align =
-      rw (add-zero, ← skip .laid) (ends-in (mk u bit 0) k (skip-place .1))
+  ran-align = rw (add-zero, ← skip) (ends-in st′ k (skip-end st low skip))
 
-  pub align-then : (g : List ℕ → Format) → ran t st k (item Item.align ▹ g) ≡ ran t (mk u bit 0) k (g [])
+  pub align-then : (g : List ℕ → Format) → ran t st k (item Item.align ▹ g) ≡ ran t st′ k (g [])
   align-then g = ran-then t st k (item Item.align) g ∙ ap (resume t k g) ran-align ∙ (let z : k - k ≡ 0 = omega arith in rw z)
+
+  pub align-on : (g : List ℕ → Format) {x : Seen} → x ≡ ran t st′ k (g []) → x ≡ ran t st k (item Item.align ▹ g)
+  align-on g d = d ∙ sym (align-then g)
 
 -- bits in front of a spelling
 pub laid-before : (st : State) (xs : List Bool) (b : Bits) → laid st (before xs b) ≡ laid (lay st xs) b

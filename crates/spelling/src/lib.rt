@@ -1,7 +1,10 @@
 // The values of a tag, written as the items of a body: each function goes on from a sink and an index, and says that no file has the values where they cannot be written.
 ghost use mathlib.Core.Path.{_≡_};
 ghost use Rattle.items.specs.Kinds.{formatOf};
-ghost use Rattle.sink.specs.Laying.{at as «under»};
+ghost use Rattle.format.specs.Bits.{high};
+ghost use Rattle.format.specs.Items.{skipped};
+ghost use Rattle.format.specs.WritingItems.{dig};
+ghost use Rattle.sink.specs.Laying.{at as «under», lay};
 ghost use Rattle.spelling.specs.Writing.{seen, ran, finish, Fine};
 
 pub mod fields;
@@ -53,4 +56,14 @@ pub fn write_one(kind: Item, out: &mut [u8], s: Sink, t: &[u64], k: usize) -> Pu
         Spelt::In(next) => ended(next, k + 1),
         Spelt::No => Put::Impossible,
     }
+}
+
+// Zero bits up to the next whole byte.
+pub fn skip(out: &mut [u8], s: Sink) -> Sink
+    requires { ⌜ Fine s ⌝ }
+    ensures { λ r. ⌜ («under» (now (out .exit)) r ≡ lay («under» (now (out .entry)) s) (dig high (skipped (s .place .0)) 0)) × Fine r ⌝ }
+{
+    let start = sink::align(out, s);
+    let place = start.bit;
+    Sink { place, part: 0 }
 }

@@ -43,7 +43,7 @@ align-requires c κs = search needs
 
 -- src/lib.rt:51:9
 spell-item-requires : tie.Need-spell-item-requires
-spell-item-requires c κs = let a = c .before .before .before .before .before .before .before .before .before .before .before .args in skip-place (now (a .t)) (at (now (a .out)) (a .s)) (a .k) (c .before .before .before .before .before .before .before .before .before .before .before .pre .1) (c .before .before .before .align .ensures)
+spell-item-requires c κs = let a = c .before .before .before .before .before .before .before .before .before .before .before .args in skip-place (at (now (a .out)) (a .s)) (c .before .before .before .before .before .before .before .before .before .before .before .pre .1) (c .before .before .before .align .ensures)
 
 -- src/lib.rt:53:19
 enum-known-r : tie.Need-enum-known-r

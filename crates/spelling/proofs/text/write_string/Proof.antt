@@ -71,7 +71,7 @@ part-spell-text-end c = search needs
 
 -- src/text.rt:64:9
 spell-text-requires : tie.Need-spell-text-requires
-spell-text-requires c κs = let a = c .before .before .before .before .before .before .before .before .before .before .before .before .args in (skip-place (now (a .t)) (at (now (a .out)) (a .s)) (a .k) (c .before .before .before .before .before .before .before .before .before .before .before .before .pre .1) (c .before .before .before .before .align .ensures), (let n = getD (now (a .t)) (a .k) 0 in let f = a .k + 1 in let e = length-slice f (f + n) (now (a .t)) (omega (arith, c .before .before .before .before .before .before .if3 .left, c .before .before .before .before .before .before .before .before .before .if1 .left)) in omega (arith, e, c .before .before .before .before .before .before .before .if2 .left)))
+spell-text-requires c κs = let a = c .before .before .before .before .before .before .before .before .before .before .before .before .args in (skip-place (at (now (a .out)) (a .s)) (c .before .before .before .before .before .before .before .before .before .before .before .before .pre .1) (c .before .before .before .before .align .ensures), (let n = getD (now (a .t)) (a .k) 0 in let f = a .k + 1 in let e = length-slice f (f + n) (now (a .t)) (omega (arith, c .before .before .before .before .before .before .if3 .left, c .before .before .before .before .before .before .before .before .before .if1 .left)) in omega (arith, e, c .before .before .before .before .before .before .before .if2 .left)))
 
 -- src/text.rt:66:19
 enum-known-r : tie.Need-enum-known-r
