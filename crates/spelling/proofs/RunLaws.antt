@@ -176,7 +176,7 @@ module _ (f : Format) (g : ℕ → ℕ → Bits) (is : (ns : List ℕ) (p : ℕ)
       go [] e = refl
       go (x ∷ ns) e = absurd (omega arith)
 
-  one-some : k < length t → ran t st k f ≡ after st k (put (getD t k 0 ∷ []) (g (st .place) (getD t k 0)) (drop (suc k) t))
+  pub one-some : k < length t → ran t st k f ≡ after st k (put (getD t k 0 ∷ []) (g (st .place) (getD t k 0)) (drop (suc k) t))
   unfolding ran
   one-some h = ap (after st k) (is (drop k t) (st .place)) ∙ rw (drop-cons t k 0 h)
 

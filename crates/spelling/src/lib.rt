@@ -27,7 +27,7 @@ pub enum Put {
 }
 
 // No file is longer than 2^27 bits.
-fn ended(s: Sink, k: usize) -> Put
+pub fn ended(s: Sink, k: usize) -> Put
     ensures { λ r. ⌜ r ≡ finish s k ⌝ }
 {
     let p = s.place.0;
