@@ -1,17 +1,20 @@
 -- What the name of a class says of the class, by itself and with the code it was asked for.
-use Prim.Native.Nat.{ℕ, _<_, _≤_}
+use Prim.Native.Nat.{ℕ, _/_, _%_, _<_, _≤_}
 use mathlib.Core.Bool.{Bool, true, false}
-use mathlib.Core.Path.{_≡_, _∙_, refl, ap}
+use mathlib.Core.List.{List, []}
+use mathlib.Core.Path.{_≡_, _∙_, refl, ap, sym}
+use native.Mathlib.Omega.{arith}
 use lib.ListN.{getD, List·getD-eq-default}
 use lib.Dec.{ltb}
 use borrow.Author.Tests.{lt-ltb, le-ltb, ltb-true, ltb-false}
+use Rattle.format.specs.Tests.{pick}
 use Rattle.format.specs.Bodies.{Body, fixed, attributes}
 use Rattle.format.specs.FileAndTags as paper
 use Rattle.format.specs.FileAndTags.{opaque, end, container, known, codes, classOf, isEnd, isContainer}
 use Rattle.classes.specs.declared.Class.{Class}
 use Rattle.classes.specs.declared.Class.the-variants.{Opaque, End, Container, Fixed, Attributes}
-use Rattle.classes.specs.Classes.{named, classAt}
-use Rattle.classes.proofs.Table.{tab, at}
+use Rattle.classes.specs.Classes.{named, ends, contains, classAt}
+use Rattle.classes.proofs.Table.{tab, at, grid, at-grid}
 
 -- ---- By its name alone.
 
@@ -28,21 +31,6 @@ is-opaque end e = cc
 is-opaque (container f) e = cc
 is-opaque (known (fixed f)) e = cc
 is-opaque (known (attributes rows)) e = cc
-
--- the two tests of a header look at the name only
-abbrev pub ends : Class → Bool
-ends Opaque = false
-ends End = true
-ends Container = false
-ends Fixed = false
-ends Attributes = false
-
-abbrev pub contains : Class → Bool
-contains Opaque = false
-contains End = false
-contains Container = true
-contains Fixed = false
-contains Attributes = false
 
 pub ends-named : (c : paper.Class) → isEnd c ≡ ends (named c)
 ends-named opaque = refl
@@ -113,3 +101,16 @@ module _ (y : ℕ → Body) (l : ℕ → paper.Class) (r : Right y l) (level cod
 
   pub container-by : classAt level code ≡ Container → classOf level code ≡ l code
   container-by e = by-code y l r level code ∙ ap (λ c. spelt y l c code) e
+
+-- ---- From the table.
+
+-- the code's own rows, by the test that they are the definition's
+pub table-at : (rows : List (List Class)) → rows ≡ grid (λ k. named (getD codes k opaque)) 32 32 → (level code i j : ℕ) (d : Class) → i ≡ code / 32 → j ≡ code % 32 → code < 1024
+    → pick (ltb level code) Opaque (getD (getD rows i []) j d) ≡ classAt level code
+table-at rows r level code i j d p q h = go (ltb level code) refl
+  where
+    go : (z : Bool) → ltb level code ≡ z → pick z Opaque (getD (getD rows i []) j d) ≡ classAt level code
+    go true e = sym (ap named (above-level level code (ltb-true level code e)))
+    go false e =
+        at-grid (λ k. named (getD codes k opaque)) d 32 32 rows r code i j (omega arith) (omega arith) (omega arith)
+        ∙ sym (ap named (up-to-level level code (ltb-false level code e)))

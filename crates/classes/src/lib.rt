@@ -1,7 +1,10 @@
 // The class of each of the 1,024 codes, from one table.
 ghost use mathlib.Core.Path.{_≡_};
 ghost use Prim.Native.Nat.{_<_};
+ghost use lib.Dec.{ltb};
+ghost use Rattle.format.specs.Tests.{pick};
 ghost use Rattle.classes.specs.Classes.{classAt};
+ghost use Rattle.classes.specs.declared.Class.the-variants.{Opaque};
 
 pub enum Class {
     Opaque,
@@ -49,7 +52,7 @@ const FIRST: [Class; 32] = [
 
 const OTHERS: [Class; 32] = [Class::Opaque; 32];
 
-const CLASSES: [[Class; 32]; 32] = [
+pub const CLASSES: [[Class; 32]; 32] = [
     FIRST,
     OTHERS,
     OTHERS,
@@ -83,6 +86,13 @@ const CLASSES: [[Class; 32]; 32] = [
     OTHERS,
     OTHERS,
 ];
+
+// The class of a code at a level, from its class in the table: a code above the level is opaque.
+pub fn at_level(level: u32, code: u32, listed: Class) -> Class
+    ensures { λ r. ⌜ r ≡ pick (ltb level code) Opaque listed ⌝ }
+{
+    if level < code { Class::Opaque } else { listed }
+}
 
 // The class of a code at a level: a code above the level is opaque, and so is one that no file can have.
 pub fn class_of(level: u32, code: u32) -> Class

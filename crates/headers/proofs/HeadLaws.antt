@@ -11,14 +11,14 @@ use lib.Dec.{ltb, eqb}
 use borrow.Author.Tests.{ltb-false, lt-ltb, le-ltb, eq-eqb, ne-eqb}
 use Rattle.format.specs.Tests.{pick}
 use Rattle.format.specs.FileAndTags as paper
-use Rattle.format.specs.FileAndTags.{head, noHead, le16, le32, rawHead, classOf, readHead}
-use Rattle.classes.specs.Classes.{classAt}
+use Rattle.format.specs.FileAndTags.{head, noHead, le16, le32, rawHead, classOf, passes, readHead}
+use Rattle.classes.specs.Classes.{ends, contains, classAt}
 use Rattle.classes.specs.declared.Class.{Class}
 use Rattle.classes.specs.declared.Class.the-variants.{End, Container}
-use Rattle.classes.proofs.ClassLaws.{ends, contains, ends-named, contains-named}
+use Rattle.classes.proofs.ClassLaws.{ends-named, contains-named}
 use Rattle.headers.specs.declared.Head.{Head}
 use Rattle.headers.specs.declared.Head.the-variants.{Tag, Fault}
-use Rattle.headers.specs.Heads.{seenHead}
+use Rattle.headers.specs.Heads.{seenHead, passesBy, headBy}
 
 -- ---- Numbers.
 
@@ -110,29 +110,85 @@ size-fits s i {size = size} at is =
     omega (arith, u .2, length-drop i s)
 
 -- the header that stands at r is code, len and size; rest bytes follow it
-module _ (level left : ℕ) (r : List ℕ) {h : Head} {code len size rest : ℕ} (at : seenHead h ≡ rawHead r) (is : h ≡ Tag code len size) (follow : length (drop size r) ≡ rest) where
+module _ (left : ℕ) (r : List ℕ) {h : Head} {code len size rest : ℕ} (class : Class) (at : seenHead h ≡ rawHead r) (is : h ≡ Tag code len size) (follow : length (drop size r) ≡ rest) where
   stands : rawHead r ≡ head code len size
   stands = sym at ∙ ap seenHead is
 
-  pub head-over : rest < len → noHead 9 ≡ readHead (classOf level) left r
+  pub head-over : rest < len → noHead 9 ≡ headBy class left r
   head-over h = rw (stands, follow, lt-ltb rest len h)
 
-  module _ {class : Class} (fits : len ≤ rest) (named : class ≡ classAt level code) where
-    pub head-end-body : class ≡ End → 0 < len → noHead 10 ≡ readHead (classOf level) left r
-    head-end-body e h = rw (stands, follow, le-ltb rest len fits, ends-named (classOf level code), ← named, e, lt-ltb 0 len h)
+  module _ (fits : len ≤ rest) where
+    pub head-end-body : class ≡ End → 0 < len → noHead 10 ≡ headBy class left r
+    head-end-body e h = rw (stands, follow, le-ltb rest len fits, e, lt-ltb 0 len h)
 
-    pub head-deep : class ≡ Container → left ≡ 0 → noHead 12 ≡ readHead (classOf level) left r
-    head-deep e h = rw (stands, follow, le-ltb rest len fits, ends-named (classOf level code), contains-named (classOf level code), ← named, e, h)
+    pub head-deep : class ≡ Container → left ≡ 0 → noHead 12 ≡ headBy class left r
+    head-deep e h = rw (stands, follow, le-ltb rest len fits, e, h)
 
-    pub head-end : class ≡ End → len ≤ 0 → head code len size ≡ readHead (classOf level) left r
-    head-end e h = rw (stands, follow, le-ltb rest len fits, ends-named (classOf level code), contains-named (classOf level code), ← named, e, le-ltb 0 len h)
+    pub head-end : class ≡ End → len ≤ 0 → head code len size ≡ headBy class left r
+    head-end e l = rw (stands, follow, le-ltb rest len fits, e, le-ltb 0 len l)
 
-    pub head-container : class ≡ Container → (left ≡ 0 → ⊥) → head code len size ≡ readHead (classOf level) left r
-    head-container e h = rw (stands, follow, le-ltb rest len fits, ends-named (classOf level code), contains-named (classOf level code), ← named, e, ne-eqb left 0 h)
+    pub head-container : class ≡ Container → (left ≡ 0 → ⊥) → head code len size ≡ headBy class left r
+    head-container e l = rw (stands, follow, le-ltb rest len fits, e, ne-eqb left 0 l)
 
     -- a class that is neither passes
-    pub head-other : ends class ≡ false → contains class ≡ false → head code len size ≡ readHead (classOf level) left r
-    head-other e f = rw (stands, follow, le-ltb rest len fits, ends-named (classOf level code), contains-named (classOf level code), ← named, e, f)
+    pub head-other : ends class ≡ false → contains class ≡ false → head code len size ≡ headBy class left r
+    head-other e f = rw (stands, follow, le-ltb rest len fits, e, f)
 
-pub head-none : (level left : ℕ) (r : List ℕ) {h : Head} {e : ℕ} → seenHead h ≡ rawHead r → h ≡ Fault e → seenHead h ≡ readHead (classOf level) left r
-head-none level left r at is = ap seenHead is ∙ rw (sym at ∙ ap seenHead is)
+pub head-none : (left : ℕ) (r : List ℕ) {h : Head} {e : ℕ} (class : Class) → seenHead h ≡ rawHead r → h ≡ Fault e → seenHead h ≡ headBy class left r
+head-none left r class at is = ap seenHead is ∙ rw (sym at ∙ ap seenHead is)
+
+-- ---- The definitions' header, by the name of the class of its code.
+pub head-by : (level left : ℕ) (r : List ℕ) → readHead (classOf level) left r ≡ headBy (classAt level (le16 r / 64)) left r
+head-by level left r = go (ltb (length r) 2) (eqb (le16 r % 64) 63) (ltb (length r) 6) (ltb (le32 (drop 2 r)) 63)
+  where
+    code : ℕ
+    code = le16 r / 64
+
+    one : (len size : ℕ) → passes (classOf level) left r (head code len size) ≡ passesBy (classAt level code) left r (head code len size)
+    one len size = rw (ends-named (classOf level code), contains-named (classOf level code))
+
+    go : (a b c d : Bool)
+        → passes (classOf level) left r (pick a (noHead 6) (pick b (pick c (noHead 6) (pick d (noHead 8) (head code (le32 (drop 2 r)) 6))) (head code (le16 r % 64) 2)))
+        ≡ passesBy (classAt level code) left r (pick a (noHead 6) (pick b (pick c (noHead 6) (pick d (noHead 8) (head code (le32 (drop 2 r)) 6))) (head code (le16 r % 64) 2)))
+    go true b c d = refl
+    go false true true d = refl
+    go false true false true = refl
+    go false true false false = one (le32 (drop 2 r)) 6
+    go false false c d = one (le16 r % 64) 2
+
+-- ---- The code of the header at i, by its two bytes.
+pub code-of : (s : List ℕ) (i j a b : ℕ) {n : ℕ} → i + 1 ≡ j → a ≡ getD s i 0 → b ≡ getD s j 0 → n ≡ a + 256 * b → n / 64 ≡ le16 (drop i s) / 64
+code-of s i j a b q x y e = ap (λ (m : ℕ). m / 64) (e ∙ two-bytes s i j a b q x y)
+
+-- ---- A header that passes stands in the room with its body, and its code is that of its first two bytes.
+abbrev RawBy : List ℕ → paper.Head → Type 0
+RawBy r (head code len size) = (2 ≤ size) × (size ≤ length r) × (code ≡ le16 r / 64)
+RawBy r (noHead e) = Unit {0}
+
+raw-by : (r : List ℕ) → RawBy r (rawHead r)
+raw-by r = go (ltb (length r) 2) refl (eqb (le16 r % 64) 63) (ltb (length r) 6) refl (ltb (le32 (drop 2 r)) 63)
+  where
+    go : (a : Bool) → ltb (length r) 2 ≡ a → (b c : Bool) → ltb (length r) 6 ≡ c → (d : Bool)
+        → RawBy r (pick a (noHead 6) (pick b (pick c (noHead 6) (pick d (noHead 8) (head (le16 r / 64) (le32 (drop 2 r)) 6))) (head (le16 r / 64) (le16 r % 64) 2)))
+    go true e b c f d = tt
+    go false e true true f d = tt
+    go false e true false f true = tt
+    go false e true false f false = (omega arith, ltb-false (length r) 6 f, refl)
+    go false e false c f d = (omega arith, ltb-false (length r) 2 e, refl)
+
+abbrev pub FitsBy : List ℕ → paper.Head → Type 0
+FitsBy r (head code len size) = (2 ≤ size) × (size + len ≤ length r) × (code ≡ le16 r / 64)
+FitsBy r (noHead e) = Unit {0}
+
+pub fits-by : (class : Class) (left : ℕ) (r : List ℕ) → FitsBy r (headBy class left r)
+fits-by class left r = go (rawHead r) (raw-by r)
+  where
+    go : (h : paper.Head) → RawBy r h → FitsBy r (passesBy class left r h)
+    go (noHead e) u = tt
+    go (head code len size) u = test (ltb (length (drop size r)) len) refl (pick (ends class) (ltb 0 len) false) (pick (contains class) (eqb left 0) false)
+      where
+        test : (a : Bool) → ltb (length (drop size r)) len ≡ a → (b c : Bool) → FitsBy r (pick a (noHead 9) (pick b (noHead 10) (pick c (noHead 12) (head code len size))))
+        test true e b c = tt
+        test false e true c = tt
+        test false e false true = tt
+        test false e false false = (u .0, omega (arith, u .1, ltb-false (length (drop size r)) len e, length-drop size r), u .2)

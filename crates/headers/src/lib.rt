@@ -1,9 +1,9 @@
 // Tag headers: a little-endian 16-bit number, and a 32-bit body length after it where its length is 63.
 ghost use mathlib.Core.Path.{_≡_};
-ghost use Prim.Native.Nat.{_+_, _<_, _≤_, _^_};
+ghost use Prim.Native.Nat.{_+_, _/_, _<_, _≤_, _^_};
 ghost use lib.ListN.{length, drop};
-ghost use Rattle.format.specs.FileAndTags.{le16, le32, rawHead, classOf, readHead};
-ghost use Rattle.headers.specs.Heads.{seenHead};
+ghost use Rattle.format.specs.FileAndTags.{le16, le32, rawHead};
+ghost use Rattle.headers.specs.Heads.{seenHead, headBy};
 use classes::Class;
 
 // A tag's code, body length and header size; or a reason.
@@ -61,20 +61,29 @@ pub fn raw_head(s: &[u8], i: usize) -> Head
     Head::Tag(code, long, 6)
 }
 
-// The header at i, if it passes: the body is longer than the list's rest (9); End has a body (10); a container, and no depth is left (12).
-pub fn read_head(level: u32, left: u32, s: &[u8], i: usize) -> Head
+// The code of the header at i; bytes past the room count as 0.
+pub fn code_at(s: &[u8], i: usize) -> u32
+    requires { ⌜ i < length (now s) ⌝ }
+    ensures { λ r. ⌜ (r ≡ le16 (drop i (now (s .entry))) / 64) × (r < 1024) ⌝ }
+{
+    let number = bits::byte_at(s, i) + 256 * bits::byte_at(s, i + 1);
+    (number / 64) as u32
+}
+
+// The header at i, if it passes; `class` is that of its code: the body is longer than the list's rest (9); End has a body (10); a container, and
+// no depth is left (12).
+pub fn read_head(class: Class, left: u32, s: &[u8], i: usize) -> Head
     requires { ⌜ i ≤ length (now s) ⌝ }
-    ensures { λ r. ⌜ seenHead r ≡ readHead (classOf level) left (drop i (now (s .entry))) ⌝ }
+    ensures { λ r. ⌜ seenHead r ≡ headBy class left (drop i (now (s .entry))) ⌝ }
 {
     let h = raw_head(s, i);
-    let Head::Tag(code, len, size) = h else {
+    let Head::Tag(_, len, size) = h else {
         return h;
     };
     let rest = s.len() - i - size as usize;
     if rest < len as usize {
         return Head::Fault(9);
     }
-    let class = classes::class_of(level, code);
     match class {
         Class::End => if 0 < len { Head::Fault(10) } else { h },
         Class::Container => if left == 0 { Head::Fault(12) } else { h },

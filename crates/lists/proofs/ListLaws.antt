@@ -6,7 +6,7 @@ use mathlib.Core.Bool.{Bool, true, false}
 use native.Mathlib.Nat.{add-zero, add-assoc}
 use native.Mathlib.Omega.{arith}
 use lib.ListN.{length, take, drop, length-append, length-drop}
-use lib.Seq.{sets, length-sets, length-take-le, drop-drop, drop-length, take-all}
+use lib.Seq.{sets, length-sets, length-take-le, drop-drop, drop-length, take-all, take-nil}
 use lib.Dec.{eqb}
 use borrow.Author.Tests.{eqb-true, eqb-false}
 use Rattle.format.specs.Tests.{pick}
@@ -15,7 +15,7 @@ use Rattle.format.specs.Reading.{Ending, At, Fault, Reading}
 use Rattle.format.specs.Items.{run}
 use Rattle.format.specs.Bodies.{readBody}
 use Rattle.format.specs.FileAndTags as paper
-use Rattle.format.specs.FileAndTags.{container, classOf, isEnd, isContainer, Tag, Outcome, whole, fault, Walk, noTags, broken, chain, head, noHead, readHead, blame, atEnd, afterTag, Inside, endAt, front, opened, within, tagThen, walkList}
+use Rattle.format.specs.FileAndTags.{le16, container, classOf, isEnd, isContainer, Tag, Outcome, whole, fault, Walk, noTags, broken, chain, head, noHead, readHead, blame, atEnd, afterTag, Inside, endAt, front, opened, within, tagThen, walkList}
 use Rattle.format.specs.TableOfNumbers.{numbers, tagTable}
 use Rattle.format.proofs.EngineLaws.{chain-chain, numbers-append, tagTable-append}
 use Rattle.format.proofs.ListLaws.{list-nil, list-fault, list-tag}
@@ -25,15 +25,14 @@ use Rattle.table.proofs.EngineLaws.{sets-append}
 use Rattle.attributes.specs.Rows.{attributesOf}
 use Rattle.fixed.specs.Fixed.{fixedOf}
 use Rattle.bodies.specs.Leaf.{leafBody}
-use Rattle.classes.specs.Classes.{classAt}
+use Rattle.classes.specs.Classes.{ends, contains, classAt}
 use Rattle.classes.specs.declared.Class.{Class}
 use Rattle.classes.specs.declared.Class.the-variants.{Opaque, End, Container, Fixed, Attributes}
-use Rattle.classes.proofs.ClassLaws.{Right, spelt, by-code, ends, contains, ends-named, contains-named}
-use Rattle.headers.specs.Heads.{seenHead}
-use Rattle.headers.specs.declared.Head.the-variants as heads
-use Rattle.headers.specs.declared.Head.{Head}
+use Rattle.classes.proofs.ClassLaws.{Right, spelt, by-code, ends-named, contains-named}
+use Rattle.headers.specs.Heads.{headBy}
+use Rattle.headers.proofs.HeadLaws.{head-by, FitsBy, fits-by}
 use Rattle.tags.specs.Shown.{stateOf, valuesOf}
-use Rattle.lists.specs.Lists.{ownerOf, tagShown, stepBy, stepOf, lastOf, Listed, listed, walkedOf, laid, Bounds}
+use Rattle.lists.specs.Lists.{ownerOf, tagShown, stepOf, Stepped, stepped, tagAt, lastOf, Listed, listed, walkedOf, laid, Bounds}
 use Rattle.lists.specs.declared.Owner.{Owner}
 use Rattle.lists.specs.declared.Step.{Step}
 use Rattle.lists.specs.declared.Step.the-variants as step
@@ -47,6 +46,12 @@ piece f t r = take (t - f) (drop f r)
 
 pub length-piece : (f t : ℕ) (r : List ℕ) → t ≤ length r → length (piece f t r) ≡ t - f
 length-piece f t r h = length-take-le (t - f) (drop f r) (rw length-drop (omega arith))
+
+drop-take : (q n : ℕ) (l : List ℕ) → drop q (take n l) ≡ take (n - q) (drop q l)
+drop-take zero n l = let e : n - 0 ≡ n = omega arith in rw e
+drop-take (suc q) zero l = let e : 0 - suc q ≡ 0 = omega arith in rw e
+drop-take (suc q) (suc n) [] = sym (take-nil (suc n - suc q))
+drop-take (suc q) (suc n) (x ∷ l) = let e : n - q ≡ suc n - suc q = omega arith in drop-take q n l ∙ ap (λ (m : ℕ). take m (drop q l)) e
 
 pub piece-rest : (f : ℕ) (r : List ℕ) → piece f (length r) r ≡ drop f r
 piece-rest f r = take-all (length r - f) (drop f r) (rw length-drop (omega arith))
@@ -103,30 +108,32 @@ within-is R level code a s body =
     go Fixed = leaf (readBody high (leafBody code) body .shown) (readBody high (leafBody code) body .ended)
     go Attributes = leaf-too (readBody high (leafBody code) body .shown) (readBody high (leafBody code) body .ended)
 
--- what a step says of the class c and of the walk inside the tag
-abbrev Follows : (paper.Owner → ℕ → List ℕ → Walk) → ℕ → ℕ → List ℕ → Class → Walk → ℕ → Step → Type 0
-Follows R a s body c w j (step.Fault e) = w ≡ broken e a
-Follows R a s body c w j (step.Next n) = (n ≡ j) × (ends c ≡ false) × (w ≡ noTags whole)
-Follows R a s body c w j (step.Last n) = (n ≡ j) × (ends c ≡ true) × (w ≡ noTags whole)
-Follows R a s body c w j (step.Open n p) =
-    (n ≡ j) × (ends c ≡ false) × (w ≡ R (paper.inside a) (s + p) (drop p body)) × (contains c ≡ true) × (p ≤ length body)
+-- what a step says of the class c and of the walk w inside the tag, whose body stands from `start` up to `stop` of the list at place a
+abbrev Follows : (paper.Owner → ℕ → List ℕ → Walk) → ℕ → ℕ → ℕ → ℕ → List ℕ → Class → Walk → ℕ → Step → Type 0
+Follows R a place start stop body c w j (step.Fault e) = w ≡ broken e place
+Follows R a place start stop body c w j (step.Next p n) = (p ≡ stop) × (n ≡ j) × (ends c ≡ false) × (w ≡ noTags whole)
+Follows R a place start stop body c w j (step.Last p n) = (p ≡ stop) × (n ≡ j) × (ends c ≡ true) × (w ≡ noTags whole)
+Follows R a place start stop body c w j (step.Open l p n) =
+    (p ≡ stop) × (n ≡ j) × (ends c ≡ false) × (contains c ≡ true) × (start ≤ l) × (l ≤ start + length body) × (w ≡ R (paper.inside place) (a + l) (drop (l - start) body))
 
-follows : (R : paper.Owner → ℕ → List ℕ → Walk) (a s code j : ℕ) (body : List ℕ) (c : Class)
-    → Follows R a s body c (walkOf R c a s body (valuesOf c code body .ended)) j (stepBy c j (valuesOf c code body .ended))
-follows R a s code j body c = go c (valuesOf c code body .ended) refl
+follows : (R : paper.Owner → ℕ → List ℕ → Walk) (a place start stop code j : ℕ) (body : List ℕ) (c : Class)
+    → Follows R a place start stop body c (walkOf R c place (a + start) body (valuesOf c code body .ended)) j (stepOf c start stop j (valuesOf c code body .ended))
+follows R a place start stop code j body c = go c (valuesOf c code body .ended) refl
   where
-    go : (c : Class) (z : Ending) → valuesOf c code body .ended ≡ z → Follows R a s body c (walkOf R c a s body z) j (stepBy c j z)
-    go Opaque (At p) e = (refl, refl, refl)
+    go : (c : Class) (z : Ending) → valuesOf c code body .ended ≡ z → Follows R a place start stop body c (walkOf R c place (a + start) body z) j (stepOf c start stop j z)
+    go Opaque (At p) e = (refl, refl, refl, refl)
     go Opaque (Fault x) e = refl
-    go End (At p) e = (refl, refl, refl)
+    go End (At p) e = (refl, refl, refl, refl)
     go End (Fault x) e = refl
     go Container (At p) e =
         let l : (0 ≤ p) × (p ≤ 8 * length body) = run-le high body (front (fixedOf code)) 0 p (omega arith) e in
-        (refl, refl, refl, refl, omega (arith, l .1))
+        let q : start + p / 8 - start ≡ p / 8 = omega arith in
+        let r : a + start + p / 8 ≡ a + (start + p / 8) = omega arith in
+        (refl, refl, refl, refl, omega arith, omega (arith, l .1), rw (q, r))
     go Container (Fault x) e = refl
-    go Fixed (At p) e = (refl, refl, refl)
+    go Fixed (At p) e = (refl, refl, refl, refl)
     go Fixed (Fault x) e = refl
-    go Attributes (At p) e = (refl, refl, refl)
+    go Attributes (At p) e = (refl, refl, refl, refl)
     go Attributes (Fault x) e = refl
 
 -- ---- tags laid over the two tables
@@ -259,76 +266,87 @@ module _ (level left : ℕ) (own : paper.Owner) (a : ℕ) (r t₀ : List ℕ) (k
       let f : from i ≡ broken 7 (blame own (a + i)) = rw d (list-nil high (classOf level) left own (a + i)) in
       seen-fault (from i) (go .seen) (f ∙ ap (λ (x : ℕ). broken 7 (blame own (a + x))) z ∙ ap (broken 7) (sym e))
 
-  -- ---- what stands at i
-  module _ {t g : List ℕ} {i j w : ℕ} (going : Going t g i j w) (some : i < length r) (h : Head) (at : seenHead h ≡ readHead (classOf level) left (drop i r)) where
+  -- the tag at i is a container, whose list has the room from l up to p; n and m′ are the next indexes
+  pub record Opens (t g : List ℕ) (i l p n m′ : ℕ) : Type 0 where
+    pub deep : 1 ≤ left
+    pub ahead : i < p
+    pub order : l ≤ p
+    pub inside : p ≤ length r
+    pub seen : Seen t g n m′
+        (chain (walkList high (classOf level) (pred left) (paper.inside (a + i)) (a + l) (piece l p r) .tags)
+        (walkList high (classOf level) (pred left) (paper.inside (a + i)) (a + l) (piece l p r) .ended) (from p))
+
+  -- ---- the tag at i
+  module _ {t g : List ℕ} {i j w : ℕ} (going : Going t g i j w) (some : i < length r) where
     left-over : 0 < length (drop i r)
     left-over = rw length-drop (omega arith)
 
-    pub head-fault : {e : ℕ} → h ≡ heads.Fault e → listed t g (walked.Fault e (a + i)) ≡ laid t₀ k g₀ m all
-    head-fault {e} is = seen-fault (from i) (going .seen) (list-fault high (classOf level) left own (a + i) (drop i r) e left-over (sym at ∙ ap seenHead is))
+    head-fault : {e : ℕ} → readHead (classOf level) left (drop i r) ≡ noHead e → listed t g (walked.Fault e (a + i)) ≡ laid t₀ k g₀ m all
+    head-fault {e} is = seen-fault (from i) (going .seen) (list-fault high (classOf level) left own (a + i) (drop i r) e left-over is)
 
-    module _ {code len size : ℕ} (is : h ≡ heads.Tag code len size) where
-      stands : readHead (classOf level) left (drop i r) ≡ head code len size
-      stands = sym at ∙ ap seenHead is
-
+    -- its header passes
+    module _ {code len size : ℕ} (stands : readHead (classOf level) left (drop i r) ≡ head code len size) where
       fits : Fits (classOf level) left (drop i r) (head code len size)
       fits = subst (Fits (classOf level) left (drop i r)) stands (head-fits (classOf level) left (drop i r))
 
-      pub tag-fits : (2 ≤ size) × (i + size + len ≤ length r)
-      tag-fits = (fits .0, omega (arith, fits .1, length-drop i r))
+      abbrev R : paper.Owner → ℕ → List ℕ → Walk
+      R = walkList high (classOf level) (pred left)
 
-      pub tag-piece : (start stop : ℕ) → start ≡ i + size → stop ≡ start + len → length (piece start stop r) ≡ len
-      tag-piece start stop e f = length-piece start stop r (omega (arith, tag-fits .1)) ∙ omega arith
+      abbrev start : ℕ
+      start = i + size
 
-      -- its body, its row, its own numbers, and the step after them
-      module _ {start stop : ℕ} {body t′ g′ : List ℕ} (S : Step) (begin : start ≡ i + size) (end : stop ≡ start + len) (part : body ≡ piece start stop r)
-          (row : g′ ≡ sets g w ((8 - left) ∷ code ∷ (a + i) ∷ size ∷ len ∷ [])) (shown : t′ ≡ sets t j (tagShown level code body .shown))
-          (next : S ≡ stepOf level code j (tagShown level code body)) where
-        abbrev R : paper.Owner → ℕ → List ℕ → Walk
-        R = walkList high (classOf level) (pred left)
+      abbrev stop : ℕ
+      stop = i + size + len
 
-        abbrev c : Class
-        c = classAt level code
+      abbrev body : List ℕ
+      body = take len (drop size (drop i r))
 
-        abbrev inner : Walk
-        inner = walkOf R c (a + i) (a + start) body (valuesOf c code body .ended)
+      abbrev c : Class
+      c = classAt level code
 
-        abbrev later : Bool → Walk
-        later b = afterTag b own (a + stop) (drop stop r) (walkList high (classOf level) left own)
+      abbrev inner : Walk
+      inner = walkOf R c (a + i) (a + start) body (valuesOf c code body .ended)
 
-        body-is : body ≡ take len (drop size (drop i r))
-        body-is =
-            let n : stop - start ≡ len = omega arith in
-            part ∙ rw (n, begin) (ap (take len) (sym (drop-drop size i r)))
+      abbrev later : Bool → Walk
+      later b = afterTag b own (a + stop) (drop stop r) (walkList high (classOf level) left own)
 
-        pub tag-body : length body ≡ len
-        tag-body = ap length part ∙ tag-piece start stop begin end
+      abbrev t′ : List ℕ
+      t′ = sets t j (tagShown c code body .shown)
 
-        tag-is : from i ≡ tagThen (8 - left) code (a + i) size len (insideOf R c code (a + i) (a + start) body) (later (ends c))
-        tag-is =
-            let p : a + i + size ≡ a + start = omega arith in
-            let q : a + i + size + len ≡ a + stop = omega arith in
-            let n : i + (size + len) ≡ stop = omega arith in
-            let d : drop (size + len) (drop i r) ≡ drop stop r = drop-drop (size + len) i r ∙ ap (λ (n : ℕ). drop n r) n in
-            list-tag high (classOf level) left own (a + i) (drop i r) code len size left-over stands
-            ∙ rw (q, p, d, ← body-is, ends-named (classOf level code), within-is R level code (a + i) (a + start) body)
+      abbrev g′ : List ℕ
+      g′ = sets g w ((8 - left) ∷ code ∷ (a + i) ∷ size ∷ len ∷ [])
 
-        tag-seen : Seen t′ g′ (j + length (tagShown level code body .shown)) (w + 5) (chain (inner .tags) (inner .ended) (later (ends c)))
-        tag-seen = seen-tag (8 - left) code (a + i) size len (insideOf R c code (a + i) (a + start) body) (later (ends c))
-            (seen-as (from i) (tagThen (8 - left) code (a + i) size len (insideOf R c code (a + i) (a + start) body) (later (ends c))) tag-is (going .seen)) shown row (omega arith) refl
+      abbrev j′ : ℕ
+      j′ = j + length (tagShown c code body .shown)
 
-        -- the lent tables keep their lengths
-        pub tag-sizes : (length t′ ≡ length t₀) × (length g′ ≡ length g₀)
-        tag-sizes = (seen-table _ tag-seen, seen-rows _ tag-seen)
+      stop-fits : (i < stop) × (stop ≤ length r)
+      stop-fits = (omega (arith, fits .0), omega (arith, fits .1, length-drop i r))
 
-        tag-follows : Follows R (a + i) (a + start) body c inner (j + length (tagShown level code body .shown)) S
-        tag-follows = subst (Follows R (a + i) (a + start) body c inner (j + length (tagShown level code body .shown))) (sym next)
-            (follows R (a + i) (a + start) code (j + length (tagShown level code body .shown)) body c)
+      body-length : length body ≡ len
+      body-length = length-take-le len (drop size (drop i r)) (rw (length-drop, length-drop) (omega (arith, stop-fits .1)))
+
+      tag-is : from i ≡ tagThen (8 - left) code (a + i) size len (insideOf R c code (a + i) (a + start) body) (later (ends c))
+      tag-is =
+          let p : a + i + size ≡ a + start = omega arith in
+          let q : a + i + size + len ≡ a + stop = omega arith in
+          let n : i + (size + len) ≡ stop = omega arith in
+          let d : drop (size + len) (drop i r) ≡ drop stop r = drop-drop (size + len) i r ∙ ap (λ (n : ℕ). drop n r) n in
+          list-tag high (classOf level) left own (a + i) (drop i r) code len size left-over stands
+          ∙ rw (q, p, d, ends-named (classOf level code), within-is R level code (a + i) (a + start) body)
+
+      tag-seen : Seen t′ g′ j′ (w + 5) (chain (inner .tags) (inner .ended) (later (ends c)))
+      tag-seen = seen-tag (8 - left) code (a + i) size len (insideOf R c code (a + i) (a + start) body) (later (ends c))
+          (seen-as (from i) (tagThen (8 - left) code (a + i) size len (insideOf R c code (a + i) (a + start) body) (later (ends c))) tag-is (going .seen)) refl refl (omega arith) refl
+
+      -- the step after it
+      module _ (S : Step) (next : S ≡ stepOf c start stop j′ (valuesOf c code body .ended)) where
+        tag-follows : Follows R a (a + i) start stop body c inner j′ S
+        tag-follows = subst (Follows R a (a + i) start stop body c inner j′) (sym next) (follows R a (a + i) start stop code j′ body c)
 
         -- a reason
-        pub tag-fault : {e : ℕ} → S ≡ step.Fault e → listed t′ g′ (walked.Fault e (a + i)) ≡ laid t₀ k g₀ m all
-        tag-fault {e} z =
-            let f : inner ≡ broken e (a + i) = subst (Follows R (a + i) (a + start) body c inner (j + length (tagShown level code body .shown))) z tag-follows in
+        stood-fault : {e : ℕ} → S ≡ step.Fault e → listed t′ g′ (walked.Fault e (a + i)) ≡ laid t₀ k g₀ m all
+        stood-fault {e} z =
+            let f : inner ≡ broken e (a + i) = subst (Follows R a (a + i) start stop body c inner j′) z tag-follows in
             seen-fault (chain (inner .tags) (inner .ended) (later (ends c))) tag-seen (ap (λ (v : Walk). chain (v .tags) (v .ended) (later (ends c))) f)
 
         -- nothing more stands in it
@@ -336,76 +354,128 @@ module _ (level left : ℕ) (own : paper.Owner) (a : ℕ) (r t₀ : List ℕ) (k
         nothing-inside {b} e f = ap (λ (v : Walk). chain (v .tags) (v .ended) (later (ends c))) f ∙ ap (λ (x : Bool). chain [] whole (later x)) e
 
         -- End
-        pub tag-last : {n : ℕ} {x : Walked} (o : Owner) → own ≡ ownerOf o → S ≡ step.Last n → x ≡ lastOf o a stop (length r) n (w + 5) → listed t′ g′ x ≡ laid t₀ k g₀ m all
-        tag-last {n} {x} o is z e =
-            let f : (n ≡ j + length (tagShown level code body .shown)) × (ends c ≡ true) × (inner ≡ noTags whole) =
-            subst (Follows R (a + i) (a + start) body c inner (j + length (tagShown level code body .shown))) z tag-follows in
-            ap (listed t′ g′) (e ∙ rw (f .0)) ∙ go (eqb stop (length r)) refl (drop stop r) refl
-            (seen-as (chain (inner .tags) (inner .ended) (later (ends c))) (later true) (nothing-inside (f .1) (f .2)) tag-seen)
+        stood-last : {p n : ℕ} {x : Walked} (o : Owner) → own ≡ ownerOf o → S ≡ step.Last p n → x ≡ lastOf o a p (length r) n (w + 5) → listed t′ g′ x ≡ laid t₀ k g₀ m all
+        stood-last {p} {n} {x} o is z e =
+            let f : (p ≡ stop) × (n ≡ j′) × (ends c ≡ true) × (inner ≡ noTags whole) = subst (Follows R a (a + i) start stop body c inner j′) z tag-follows in
+            ap (listed t′ g′) (e ∙ rw (f .0, f .1)) ∙ go (eqb stop (length r)) refl (drop stop r) refl
+            (seen-as (chain (inner .tags) (inner .ended) (later (ends c))) (later true) (nothing-inside (f .2) (f .3)) tag-seen)
           where
-            go : (y : Bool) → eqb stop (length r) ≡ y → (q : List ℕ) → drop stop r ≡ q → Seen t′ g′ (j + length (tagShown level code body .shown)) (w + 5) (atEnd own (a + stop) (drop stop r))
-                → listed t′ g′ (pick y (walked.Next (j + length (tagShown level code body .shown)) (w + 5)) (walked.Fault 11 (blame (ownerOf o) (a + stop)))) ≡ laid t₀ k g₀ m all
+            go : (y : Bool) → eqb stop (length r) ≡ y → (q : List ℕ) → drop stop r ≡ q → Seen t′ g′ j′ (w + 5) (atEnd own (a + stop) (drop stop r))
+                → listed t′ g′ (pick y (walked.Next j′ (w + 5)) (walked.Fault 11 (blame (ownerOf o) (a + stop)))) ≡ laid t₀ k g₀ m all
             go true u [] v s = seen-whole (atEnd own (a + stop) (drop stop r)) s (ap (atEnd own (a + stop)) v)
             go true u (y ∷ q) v s = absurd (omega (arith, eqb-true stop (length r) u, ap length v, length-drop stop r))
-            go false u [] v s = absurd (eqb-false stop (length r) u (omega (arith, ap length v, length-drop stop r, tag-fits .1)))
+            go false u [] v s = absurd (eqb-false stop (length r) u (omega (arith, ap length v, length-drop stop r, stop-fits .1)))
             go false u (y ∷ q) v s = seen-fault (atEnd own (a + stop) (drop stop r)) s (ap (atEnd own (a + stop)) v ∙ ap (λ (b : paper.Owner). broken 11 (blame b (a + stop))) is)
 
+        stood-stops : {p n : ℕ} → S ≡ step.Last p n → p ≤ length r
+        stood-stops {p} {n} z =
+            let f : (p ≡ stop) × (n ≡ j′) × (ends c ≡ true) × (inner ≡ noTags whole) = subst (Follows R a (a + i) start stop body c inner j′) z tag-follows in
+            omega (arith, f .0, stop-fits .1)
+
         -- another tag may follow
-        pub tag-next : {n : ℕ} → S ≡ step.Next n → Going t′ g′ stop n (w + 5)
-        tag-next {n} z =
-            let f : (n ≡ j + length (tagShown level code body .shown)) × (ends c ≡ false) × (inner ≡ noTags whole) =
-            subst (Follows R (a + i) (a + start) body c inner (j + length (tagShown level code body .shown))) z tag-follows in
+        stood-next : {p n : ℕ} → S ≡ step.Next p n → (i < p) × Going t′ g′ p n (w + 5)
+        stood-next {p} {n} z =
+            let f : (p ≡ stop) × (n ≡ j′) × (ends c ≡ false) × (inner ≡ noTags whole) = subst (Follows R a (a + i) start stop body c inner j′) z tag-follows in
+            rw (f .0, f .1) (stop-fits .0, record { inside = stop-fits .1; seen = seen-as (chain (inner .tags) (inner .ended) (later (ends c))) (from stop) (nothing-inside (f .2) (f .3)) tag-seen })
+
+        -- a container: its list starts at l
+        stood-open : {l p n : ℕ} → S ≡ step.Open l p n → Opens t′ g′ i l p n (w + 5)
+        stood-open {l} {p} {n} z =
+            let f : (p ≡ stop) × (n ≡ j′) × (ends c ≡ false) × (contains c ≡ true) × (start ≤ l) × (l ≤ start + length body) × (inner ≡ R (paper.inside (a + i)) (a + l) (drop (l - start) body)) =
+            subst (Follows R a (a + i) start stop body c inner j′) z tag-follows in
+            let o : pick true (eqb left 0) false ≡ false = subst (λ (b : Bool). pick b (eqb left 0) false ≡ false) (contains-named (classOf level code) ∙ f .3) (fits .3) in
+            let q : len - (l - start) ≡ stop - l = omega (arith, f .4) in
+            let q′ : i + (size + (l - start)) ≡ l = omega (arith, f .4) in
+            let room : drop (l - start) body ≡ piece l stop r =
+            drop-take (l - start) len (drop size (drop i r)) ∙ rw (q, drop-drop (l - start) size (drop i r), drop-drop (size + (l - start)) i r) (ap (λ (v : ℕ). take (stop - l) (drop v r)) q′) in
+            let e : chain (inner .tags) (inner .ended) (later (ends c)) ≡ chain (R (paper.inside (a + i)) (a + l) (piece l stop r) .tags) (R (paper.inside (a + i)) (a + l) (piece l stop r) .ended) (from stop) =
+            ap (λ (v : Walk). chain (v .tags) (v .ended) (later (ends c))) (f .6 ∙ ap (R (paper.inside (a + i)) (a + l)) room)
+            ∙ ap (λ (b : Bool). chain (R (paper.inside (a + i)) (a + l) (piece l stop r) .tags) (R (paper.inside (a + i)) (a + l) (piece l stop r) .ended) (later b)) (f .2) in
             record {
-              inside = omega (arith, tag-fits .1);
-              seen = rw (f .0) (seen-as (chain (inner .tags) (inner .ended) (later (ends c))) (from stop) (nothing-inside (f .1) (f .2)) tag-seen);
+              deep = positive left (eqb-false left 0 o);
+              ahead = omega (arith, f .0, stop-fits .0);
+              order = omega (arith, f .0, f .5, body-length);
+              inside = omega (arith, f .0, stop-fits .1);
+              seen = rw (f .0, f .1) (seen-as (chain (inner .tags) (inner .ended) (later (ends c))) _ e tag-seen);
             }
 
-        -- a container: its list starts p bytes into its body
-        pub tag-open : {n p : ℕ} → S ≡ step.Open n p → (1 ≤ left) × (p ≤ length body)
-            × Seen t′ g′ n (w + 5) (chain (R (paper.inside (a + i)) (a + start + p) (drop p body) .tags) (R (paper.inside (a + i)) (a + start + p) (drop p body) .ended) (from stop))
-        tag-open {n} {p} z =
-            let f : (n ≡ j + length (tagShown level code body .shown)) × (ends c ≡ false) × (inner ≡ R (paper.inside (a + i)) (a + start + p) (drop p body)) × (contains c ≡ true) × (p ≤ length body) =
-            subst (Follows R (a + i) (a + start) body c inner (j + length (tagShown level code body .shown))) z tag-follows in
-            let l : pick true (eqb left 0) false ≡ false = subst (λ (b : Bool). pick b (eqb left 0) false ≡ false) (contains-named (classOf level code) ∙ f .3) (fits .3) in
-            let e : chain (inner .tags) (inner .ended) (later (ends c)) ≡ chain (R (paper.inside (a + i)) (a + start + p) (drop p body) .tags) (R (paper.inside (a + i)) (a + start + p) (drop p body) .ended) (from stop) =
-            ap (λ (v : Walk). chain (v .tags) (v .ended) (later (ends c))) (f .2)
-            ∙ ap (λ (b : Bool). chain (R (paper.inside (a + i)) (a + start + p) (drop p body) .tags) (R (paper.inside (a + i)) (a + start + p) (drop p body) .ended) (later b)) (f .1) in
-            (positive left (eqb-false left 0 l), f .4, rw (f .0) (seen-as (chain (inner .tags) (inner .ended) (later (ends c))) _ e tag-seen))
+    -- reading it, by the class of its code, left this
+    module _ {class : Class} {t′ g′ : List ℕ} (x : Step) (named : class ≡ classAt level (le16 (drop i r) / 64))
+        (read : stepped t′ g′ x ≡ tagAt class left a r i t j g w (headBy class left (drop i r))) where
+      read-is : stepped t′ g′ x ≡ tagAt (classAt level (le16 (drop i r) / 64)) left a r i t j g w (readHead (classOf level) left (drop i r))
+      read-is = read ∙ rw (named, head-by level left (drop i r))
 
-        -- and its list was read from there
-        module _ {n p : ℕ} (z : S ≡ step.Open n p) where
-          pub open-bounds : Bounds left a (length r) k m → Bounds (left - 1) (a + start + p) (length (piece p (length body) body)) n (w + 5)
-          open-bounds b =
-              let f : (1 ≤ left) × (p ≤ length body)
-              × Seen t′ g′ n (w + 5) (chain (R (paper.inside (a + i)) (a + start + p) (drop p body) .tags) (R (paper.inside (a + i)) (a + start + p) (drop p body) .ended) (from stop)) = tag-open z in
-              let v : (n ≤ k + 8 * length r) × (w + 5 ≤ m + 5 * length r) = seen-room _ (f .2) in
-              let q : length body ≡ len = tag-body in
-              let y : length (piece p (length body) body) ≡ length body - p = length-piece p (length body) body (omega arith) in
-              record {
-                depth = omega (arith, b .depth);
-                place = omega (arith, b .place, f .1, q, y, tag-fits .1);
-                index = omega (arith, b .index, b .place, v .0, f .0, b .depth);
-                row = omega (arith, b .row, b .place, v .1, f .0, b .depth);
-              }
+      -- by what its header gives
+      by-head : (P : Stepped → Type 0) → ((e : ℕ) → readHead (classOf level) left (drop i r) ≡ noHead e → P (stepped t g (step.Fault e)))
+          → ((code len size : ℕ) → readHead (classOf level) left (drop i r) ≡ head code len size → P (tagAt (classAt level code) left a r i t j g w (head code len size))) → P (stepped t′ g′ x)
+      by-head P f h = subst P (sym read-is) (go (readHead (classOf level) left (drop i r)) refl)
+        where
+          go : (d : paper.Head) → readHead (classOf level) left (drop i r) ≡ d → P (tagAt (classAt level (le16 (drop i r) / 64)) left a r i t j g w d)
+          go (noHead e) q = f e q
+          go (head code len size) q =
+              let u : (2 ≤ size) × (size + len ≤ length (drop i r)) × (code ≡ le16 (drop i r) / 64) =
+              subst (FitsBy (drop i r)) (sym (head-by level left (drop i r)) ∙ q) (fits-by (classAt level (le16 (drop i r) / 64)) left (drop i r)) in
+              subst (λ (n : ℕ). P (tagAt (classAt level n) left a r i t j g w (head code len size))) (u .2) (h code len size q)
 
-          module _ {t″ g″ : List ℕ} (x : Walked) (read : listed t″ g″ x ≡ laid t′ n g′ (w + 5) (walkList high (classOf level) (left - 1) (paper.inside (a + i)) (a + start + p) (piece p (length body) body))) where
-            read-inner : listed t″ g″ x ≡ laid t′ n g′ (w + 5) (R (paper.inside (a + i)) (a + start + p) (drop p body))
-            read-inner = rw (pred-is left, ← piece-rest p body) read
+      -- the lent tables keep their lengths
+      pub tag-sizes : (length t′ ≡ length t₀) × (length g′ ≡ length g₀)
+      tag-sizes = by-head (λ (s : Stepped). (length (s .table) ≡ length t₀) × (length (s .rows) ≡ length g₀)) (λ e q. (seen-table (from i) (going .seen), seen-rows (from i) (going .seen)))
+          (λ code len size q. (seen-table _ (tag-seen q), seen-rows _ (tag-seen q)))
 
-            pub open-sizes : (length t″ ≡ length t₀) × (length g″ ≡ length g₀)
-            open-sizes =
-                let ts : List Tag = R (paper.inside (a + i)) (a + start + p) (drop p body) .tags in (
-                  ap (λ (l : Listed). length (l .table)) read-inner ∙ length-sets t′ n (numbers ts) ∙ tag-sizes .0,
-                  ap (λ (l : Listed). length (l .rows)) read-inner ∙ length-sets g′ (w + 5) (tagTable ts) ∙ tag-sizes .1,
-                )
+      pub tag-fault : {e : ℕ} → x ≡ step.Fault e → listed t′ g′ (walked.Fault e (a + i)) ≡ laid t₀ k g₀ m all
+      tag-fault {e} =
+          by-head (λ (s : Stepped). s .step ≡ step.Fault e → listed (s .table) (s .rows) (walked.Fault e (a + i)) ≡ laid t₀ k g₀ m all)
+          (λ e′ q z. let y : e ≡ e′ = cc in ap (λ (n : ℕ). listed t g (walked.Fault n (a + i))) y ∙ head-fault q)
+          (λ code len size q z. stood-fault q _ refl z)
 
-            pub open-next : {j′ w′ : ℕ} → x ≡ walked.Next j′ w′ → Going t″ g″ stop j′ w′
-            open-next e = record {
-              inside = omega (arith, tag-fits .1);
-              seen = inner-next (R (paper.inside (a + i)) (a + start + p) (drop p body)) (from stop) (tag-open z .2) (ap (listed t″ g″) (sym e) ∙ read-inner);
+      pub tag-stops : {p n : ℕ} → x ≡ step.Last p n → p ≤ length r
+      tag-stops {p} {n} =
+          by-head (λ (s : Stepped). s .step ≡ step.Last p n → p ≤ length r) (λ e q z. absurd (let z : _≡_ {A = ℕ} 0 1 = cc in omega arith)) (λ code len size q z. stood-stops q _ refl z)
+
+      pub tag-last : {p n : ℕ} {y : Walked} (o : Owner) → own ≡ ownerOf o → x ≡ step.Last p n → y ≡ lastOf o a p (length r) n (w + 5) → listed t′ g′ y ≡ laid t₀ k g₀ m all
+      tag-last {p} {n} {y} o is =
+          by-head (λ (s : Stepped). s .step ≡ step.Last p n → y ≡ lastOf o a p (length r) n (w + 5) → listed (s .table) (s .rows) y ≡ laid t₀ k g₀ m all)
+          (λ e q z v. absurd (let z : _≡_ {A = ℕ} 0 1 = cc in omega arith)) (λ code len size q z v. stood-last q _ refl o is z v)
+
+      pub tag-next : {p n : ℕ} → x ≡ step.Next p n → (i < p) × Going t′ g′ p n (w + 5)
+      tag-next {p} {n} =
+          by-head (λ (s : Stepped). s .step ≡ step.Next p n → (i < p) × Going (s .table) (s .rows) p n (w + 5)) (λ e q z. absurd (let z : _≡_ {A = ℕ} 0 1 = cc in omega arith))
+          (λ code len size q z. stood-next q _ refl z)
+
+      pub tag-open : {l p n : ℕ} → x ≡ step.Open l p n → Opens t′ g′ i l p n (w + 5)
+      tag-open {l} {p} {n} =
+          by-head (λ (s : Stepped). s .step ≡ step.Open l p n → Opens (s .table) (s .rows) i l p n (w + 5)) (λ e q z. absurd (let z : _≡_ {A = ℕ} 0 1 = cc in omega arith))
+          (λ code len size q z. stood-open q _ refl z)
+
+      -- and its list was read from there
+      module _ {l p n : ℕ} (z : x ≡ step.Open l p n) where
+        abbrev R′ : Walk
+        R′ = walkList high (classOf level) (pred left) (paper.inside (a + i)) (a + l) (piece l p r)
+
+        pub open-bounds : Bounds left a (length r) k m → Bounds (left - 1) (a + l) (length (piece l p r)) n (w + 5)
+        open-bounds b =
+            let o : Opens t′ g′ i l p n (w + 5) = tag-open z in
+            let v : (n ≤ k + 8 * length r) × (w + 5 ≤ m + 5 * length r) = seen-room _ (o .seen) in
+            let y : length (piece l p r) ≡ p - l = length-piece l p r (o .inside) in
+            record {
+              depth = omega (arith, b .depth);
+              place = omega (arith, b .place, o .order, o .inside, y);
+              index = omega (arith, b .index, b .place, v .0, o .deep, b .depth);
+              row = omega (arith, b .row, b .place, v .1, o .deep, b .depth);
             }
 
-            pub open-fault : {e o : ℕ} → x ≡ walked.Fault e o → listed t″ g″ x ≡ laid t₀ k g₀ m all
-            open-fault e =
-                ap (listed t″ g″) e
-                ∙ inner-fault (R (paper.inside (a + i)) (a + start + p) (drop p body)) (from stop) (tag-open z .2) (ap (listed t″ g″) (sym e) ∙ read-inner)
+        module _ {t″ g″ : List ℕ} (y : Walked) (done : listed t″ g″ y ≡ laid t′ n g′ (w + 5) (walkList high (classOf level) (left - 1) (paper.inside (a + i)) (a + l) (piece l p r))) where
+          read-inner : listed t″ g″ y ≡ laid t′ n g′ (w + 5) R′
+          read-inner = rw (pred-is left) done
+
+          pub open-sizes : (length t″ ≡ length t₀) × (length g″ ≡ length g₀)
+          open-sizes = (
+            ap (λ (l : Listed). length (l .table)) read-inner ∙ length-sets t′ n (numbers (R′ .tags)) ∙ tag-sizes .0,
+            ap (λ (l : Listed). length (l .rows)) read-inner ∙ length-sets g′ (w + 5) (tagTable (R′ .tags)) ∙ tag-sizes .1,
+          )
+
+          pub open-next : {j′ w′ : ℕ} → y ≡ walked.Next j′ w′ → (i < p) × Going t″ g″ p j′ w′
+          open-next e = (tag-open z .ahead, record { inside = tag-open z .inside; seen = inner-next R′ (from p) (tag-open z .seen) (ap (listed t″ g″) (sym e) ∙ read-inner) })
+
+          pub open-fault : {e o : ℕ} → y ≡ walked.Fault e o → listed t″ g″ y ≡ laid t₀ k g₀ m all
+          open-fault e = ap (listed t″ g″) e ∙ inner-fault R′ (from p) (tag-open z .seen) (ap (listed t″ g″) (sym e) ∙ read-inner)

@@ -1,55 +1,76 @@
--- A tag's own numbers, and what comes after them.
-use Prim.Native.Nat.{ℕ, _+_, _*_}
-use mathlib.Core.List.{List}
-use mathlib.Core.Path.{_≡_, refl, ap, sym, _∙_}
-use lib.ListN.{length}
-use lib.Seq.{sets}
+-- One tag: its header, its row, its own numbers, and what comes after them.
+use Prim.Native.Nat.{ℕ, _+_, _-_, _/_, _≤_}
+use mathlib.Core.List.{List, [], _∷_}
+use mathlib.Core.Path.{_≡_, refl, ap, sym, subst, _∙_}
+use native.Mathlib.Omega.{arith}
+use lib.ListN.{length, take, drop, length-drop}
+use lib.Seq.{sets, drop-drop}
 use lib.Dec.{eqb}
 use borrow.Author.Tests.{eq-eqb, ne-eqb}
 use Rattle.bits.specs.declared.BitPlace.{BitPlace}
-use Rattle.format.specs.Reading.{Ending, At, Fault, Reading}
+use Rattle.format.specs.Reading.{At, Fault, Reading}
+use Rattle.format.specs.FileAndTags as paper
 use Rattle.format.specs.FileAndTags.{blame}
 use Rattle.table.specs.State.{State, after}
 use Rattle.table.specs.Run.{left}
 use Rattle.table.specs.declared.Run.{Run}
 use Rattle.table.specs.declared.Run.the-variants.{Done, Stop}
-use Rattle.classes.specs.Classes.{classAt}
 use Rattle.classes.specs.declared.Class.{Class}
-use Rattle.tags.specs.Shown.{stateOf, valuesOf, headed}
-use Rattle.lists.specs.Lists.{ownerOf, tagShown, stepBy, stepOf, lastOf}
+use Rattle.headers.specs.Heads.{seenHead, headBy}
+use Rattle.headers.specs.declared.Head.{Head}
+use Rattle.headers.specs.declared.Head.the-variants as heads
+use Rattle.headers.proofs.HeadLaws.{FitsBy, fits-by}
+use Rattle.lists.specs.Lists.{ownerOf, tagShown, stepBy, stepOf, Stepped, stepped, tagAt, lastOf}
 use Rattle.lists.specs.declared.Owner.{Owner}
 use Rattle.lists.specs.declared.Step.{Step}
 use Rattle.lists.specs.declared.Step.the-variants as step
-use Rattle.lists.specs.declared.Walked.{Walked}
 use Rattle.lists.specs.declared.Walked.the-variants as walked
 
--- class: what was looked up. u and R: what showing the tag left in the table, and answered
-module _ (level code k : ℕ) (body t : List ℕ) (R : Run) {class : Class} {u : List ℕ} (named : class ≡ classAt level code)
-    (ran : left u R ≡ after t k (headed code (stateOf class) (valuesOf class code body))) where
-  shown : left u R ≡ after t k (tagShown level code body)
-  shown = ran ∙ ap (λ (c : Class). after t k (headed code (stateOf c) (valuesOf c code body))) named
+-- the class that a `match` tells
+pub step-of : (list stop k : ℕ) {class : Class} (told : Class) → class ≡ told → stepBy told list stop k ≡ stepBy class list stop k
+step-of list stop k told e = ap (λ (c : Class). stepBy c list stop k) (sym e)
 
-  pub step-table : u ≡ sets t k (tagShown level code body .shown)
-  unfolding after
-  step-table = ap (λ (s : State). s .table) shown
+stepped-eq : {t t′ g g′ : List ℕ} {x x′ : Step} → t ≡ t′ → g ≡ g′ → x ≡ x′ → stepped t g x ≡ stepped t′ g′ x′
+stepped-eq p q r = λ i. record { table = p i; rows = q i; step = r i }
 
-  step-count : left u R .count ≡ k + length (tagShown level code body .shown)
-  unfolding after
-  step-count = ap (λ (s : State). s .count) shown
+-- the tag at i of the list r at place a; H is its header, by its class
+module _ (class : Class) (depths a : ℕ) (r : List ℕ) (i : ℕ) (t : List ℕ) (k : ℕ) (g : List ℕ) (m : ℕ) (H : paper.Head) {h : Head} (at : seenHead h ≡ H) where
+  -- the header is refused
+  pub tag-none : {e : ℕ} → h ≡ heads.Fault e → stepped t g (step.Fault e) ≡ tagAt class depths a r i t k g m H
+  tag-none {e} is = ap (tagAt class depths a r i t k g m) (sym (ap seenHead is) ∙ at)
 
-  step-ended : left u R .ended ≡ tagShown level code body .ended
-  unfolding after
-  step-ended = ap (λ (s : State). s .ended) shown
+  -- it stands in the room with its body
+  pub tag-stands : {code len size : ℕ} → H ≡ headBy class depths (drop i r) → h ≡ heads.Tag code len size → (i ≤ length r) → i + size + len ≤ length r
+  tag-stands e is l =
+      let u : FitsBy (drop i r) (paper.head _ _ _) = subst (FitsBy (drop i r)) (sym e ∙ sym at ∙ ap seenHead is) (fits-by class depths (drop i r)) in
+      omega (arith, u .1, length-drop i r)
 
-  pub step-stop : {e j : ℕ} → R ≡ Stop e j → step.Fault e ≡ stepOf level code k (tagShown level code body)
-  step-stop {e} f = let z : tagShown level code body .ended ≡ Fault e = sym step-ended ∙ ap (λ (r : Run). left u r .ended) f in rw z
+  -- it passes, and the row and the numbers are stored
+  module _ {code len size start stop : ℕ} {body g′ t′ : List ℕ} (R : Run) (is : h ≡ heads.Tag code len size) (begin : start ≡ i + size) (end : stop ≡ start + len)
+      (part : body ≡ take (stop - start) (drop start r)) (row : g′ ≡ sets g m ((8 - depths) ∷ code ∷ (a + i) ∷ size ∷ len ∷ [])) (ran : left t′ R ≡ after t k (tagShown class code body)) where
+    body-is : body ≡ take len (drop size (drop i r))
+    body-is =
+        let n : stop - start ≡ len = omega arith in
+        part ∙ rw (n, begin) (ap (take len) (sym (drop-drop size i r)))
 
-  -- told: the class that a `match` tells
-  pub step-done : {p : BitPlace} {j : ℕ} (told : Class) → class ≡ told → R ≡ Done p j → stepBy told j (At (p .0)) ≡ stepOf level code k (tagShown level code body)
-  step-done {p} {j} told e f =
-      let z : tagShown level code body .ended ≡ At (p .0) = sym step-ended ∙ ap (λ (r : Run). left u r .ended) f in
-      let n : k + length (tagShown level code body .shown) ≡ j = sym step-count ∙ ap (λ (r : Run). left u r .count) f in
-      rw (← n, ← z, ← e, named)
+    head-is : paper.head code len size ≡ H
+    head-is = sym (ap seenHead is) ∙ at
+
+    ran-is : left t′ R ≡ after t k (tagShown class code (take len (drop size (drop i r))))
+    ran-is = ran ∙ ap (λ (b : List ℕ). after t k (tagShown class code b)) body-is
+
+    tag-done : {x : Step} → x ≡ stepOf class start stop (left t′ R .count) (left t′ R .ended) → stepped t′ g′ x ≡ tagAt class depths a r i t k g m H
+    unfolding after
+    tag-done {x} e =
+        let b : start + len ≡ i + size + len = omega arith in
+        stepped-eq (ap (λ (s : State). s .table) ran-is) row (e ∙ ap (λ (s : State). stepOf class start stop (s .count) (s .ended)) ran-is ∙ rw (end, b, begin))
+        ∙ ap (tagAt class depths a r i t k g m) head-is
+
+    pub tag-stop : {e j : ℕ} → R ≡ Stop e j → stepped t′ g′ (step.Fault e) ≡ tagAt class depths a r i t k g m H
+    tag-stop e = tag-done (ap (λ (q : Run). stepOf class start stop (left t′ q .count) (left t′ q .ended)) (sym e))
+
+    pub tag-shown : {p : BitPlace} {j : ℕ} {x : Step} → R ≡ Done p j → x ≡ stepBy class (start + p .0 / 8) stop j → stepped t′ g′ x ≡ tagAt class depths a r i t k g m H
+    tag-shown e f = tag-done (f ∙ ap (λ (q : Run). stepOf class start stop (left t′ q .count) (left t′ q .ended)) (sym e))
 
 -- after End
 pub last-whole : (own : Owner) (a stop room k m : ℕ) → stop ≡ room → walked.Next k m ≡ lastOf own a stop room k m

@@ -1,7 +1,7 @@
 -- What reading a tag list leaves: the lent table, the lent tag table, and the answer.
 use Prim.Native.Nat.{ℕ, _+_, _-_, _*_, _/_, _≤_}
-use mathlib.Core.List.{List}
-use lib.ListN.{length}
+use mathlib.Core.List.{List, [], _∷_}
+use lib.ListN.{length, take, drop}
 use lib.Seq.{sets}
 use lib.Dec.{eqb}
 use Rattle.format.specs.Tests.{pick}
@@ -10,7 +10,6 @@ use Rattle.format.specs.Reading as reading
 use Rattle.format.specs.FileAndTags as paper
 use Rattle.format.specs.FileAndTags.{Outcome, whole, fault, Walk, blame}
 use Rattle.format.specs.TableOfNumbers.{numbers, tagTable}
-use Rattle.classes.specs.Classes.{classAt}
 use Rattle.classes.specs.declared.Class.{Class}
 use Rattle.classes.specs.declared.Class.the-variants.{Opaque, End, Container, Fixed, Attributes}
 use Rattle.tags.specs.Shown.{stateOf, valuesOf, headed}
@@ -28,20 +27,36 @@ ownerOf (Inside c) = paper.inside c
 -- ---- one tag
 
 -- its code, state, count and values
-abbrev pub tagShown : ℕ → ℕ → List ℕ → Reading
-tagShown level code body = headed code (stateOf (classAt level code)) (valuesOf (classAt level code) code body)
+abbrev pub tagShown : Class → ℕ → List ℕ → Reading
+tagShown class code body = headed code (stateOf class) (valuesOf class code body)
 
--- what comes after it, by its class and how its values ended; j is the next index
-abbrev pub stepBy : Class → ℕ → Ending → Step
-stepBy c j (reading.Fault e) = step.Fault e
-stepBy Opaque j (At p) = step.Next j
-stepBy End j (At p) = step.Last j
-stepBy Container j (At p) = step.Open j (p / 8)
-stepBy Fixed j (At p) = step.Next j
-stepBy Attributes j (At p) = step.Next j
+-- what comes after it: it ends at `stop`, its list starts at `list`, and j is the next index
+abbrev pub stepBy : Class → ℕ → ℕ → ℕ → Step
+stepBy Opaque list stop j = step.Next stop j
+stepBy End list stop j = step.Last stop j
+stepBy Container list stop j = step.Open list stop j
+stepBy Fixed list stop j = step.Next stop j
+stepBy Attributes list stop j = step.Next stop j
 
-abbrev pub stepOf : ℕ → ℕ → ℕ → Reading → Step
-stepOf level code k r = stepBy (classAt level code) (k + length (r .shown)) (r .ended)
+-- by how its values ended; its body stands from `start` on
+abbrev pub stepOf : Class → ℕ → ℕ → ℕ → Ending → Step
+stepOf class start stop j (At p) = stepBy class (start + p / 8) stop j
+stepOf class start stop j (reading.Fault e) = step.Fault e
+
+pub record Stepped : Type 0 where
+  pub table : List ℕ
+  pub rows : List ℕ
+  pub step : Step
+
+abbrev pub stepped : List ℕ → List ℕ → Step → Stepped
+stepped t g x = record { table = t; rows = g; step = x }
+
+-- the tag at i of the list r, which stands at place a: its numbers over the table t from index k on, its row over the tag table g from index m on
+abbrev pub tagAt : Class → ℕ → ℕ → List ℕ → ℕ → List ℕ → ℕ → List ℕ → ℕ → paper.Head → Stepped
+tagAt class left a r i t k g m (paper.noHead e) = stepped t g (step.Fault e)
+tagAt class left a r i t k g m (paper.head code len size) =
+    stepped (sets t k (tagShown class code (take len (drop size (drop i r))) .shown)) (sets g m ((8 - left) ∷ code ∷ (a + i) ∷ size ∷ len ∷ []))
+    (stepOf class (i + size) (i + size + len) (k + length (tagShown class code (take len (drop size (drop i r))) .shown)) (tagShown class code (take len (drop size (drop i r))) .ended))
 
 -- after End, which ends at `stop` of the room
 abbrev pub lastOf : Owner → ℕ → ℕ → ℕ → ℕ → ℕ → Walked

@@ -1,12 +1,11 @@
 // Tag lists: the tags of a list one after the other, each container's own list by a call to the same function.
 ghost use mathlib.Core.Path.{_≡_};
-ghost use mathlib.Core.List.{[]};
-ghost use Prim.Native.Nat.{_+_, _-_, _*_, _<_, _≤_, _^_};
-ghost use lib.ListN.{length};
-ghost use lib.Seq.{sets};
+ghost use Prim.Native.Nat.{_+_, _<_, _≤_, _^_};
+ghost use lib.ListN.{length, drop};
 ghost use Rattle.format.specs.Bits.{high};
 ghost use Rattle.format.specs.FileAndTags.{classOf, blame as «blameOf», walkList};
-ghost use Rattle.lists.specs.Lists.{ownerOf, listed, laid, tagShown, stepOf, lastOf, Bounds};
+ghost use Rattle.headers.specs.Heads.{headBy};
+ghost use Rattle.lists.specs.Lists.{ownerOf, listed, laid, stepBy, stepped, tagAt, lastOf, Bounds};
 use classes::Class;
 use headers::Head;
 use table::Run;
@@ -23,12 +22,12 @@ pub enum Walked {
     Fault(u32, usize),
 }
 
-// After a tag's own numbers, with the next index of the table: another tag may follow; it was End; it is a container whose list starts so many
-// bytes into its body; or a reason.
+// After a tag that ends at the first number given, with the next index of the table: another tag may follow; it was End; it is a container, whose
+// list starts at the number before these two. Or a reason.
 pub enum Step {
-    Next(usize),
-    Last(usize),
-    Open(usize, usize),
+    Next(usize, usize),
+    Last(usize, usize),
+    Open(usize, usize, usize),
     Fault(u32),
 }
 
@@ -54,22 +53,46 @@ fn last(own: Owner, a: usize, stop: usize, room: usize, k: usize, m: usize) -> W
     }
 }
 
-// A tag's own numbers, and what comes next.
-fn show(level: u32, code: u32, body: &[u8], t: &mut [u64], k: usize) -> Step
-    requires { ⌜ (length (now body) < 2 ^ 60) × (k < 2 ^ 60) ⌝ }
-    ensures { λ r. ⌜ now (t .exit) ≡ sets (now (t .entry)) k (tagShown level code (now (body .entry)) .shown) ⌝ }
-    ensures { λ r. ⌜ r ≡ stepOf level code k (tagShown level code (now (body .entry))) ⌝ }
+// What comes after a tag's own numbers, by its class.
+fn next_step(class: Class, list: usize, stop: usize, k: usize) -> Step
+    ensures { λ r. ⌜ r ≡ stepBy class list stop k ⌝ }
 {
-    let class = classes::class_of(level, code);
-    match tags::show_tag(class, code, body, t, k) {
-        Run::Stop(why, _) => Step::Fault(why),
-        Run::Done(next, j) => match class {
-            Class::Opaque => Step::Next(j),
-            Class::End => Step::Last(j),
-            Class::Container => Step::Open(j, next.0 / 8),
-            Class::Fixed => Step::Next(j),
-            Class::Attributes => Step::Next(j),
-        },
+    match class {
+        Class::Opaque => Step::Next(stop, k),
+        Class::End => Step::Last(stop, k),
+        Class::Container => Step::Open(list, stop, k),
+        Class::Fixed => Step::Next(stop, k),
+        Class::Attributes => Step::Next(stop, k),
+    }
+}
+
+// The tag at i of the list at place a; `class` is that of its code. Its header, its row, and its own numbers.
+fn read_tag(
+    class: Class,
+    left: u32,
+    a: usize,
+    r: &[u8],
+    i: usize,
+    t: &mut [u64],
+    k: usize,
+    g: &mut [u32],
+    m: usize,
+) -> Step
+    requires { ⌜ (left ≤ 8) × (i ≤ length (now r)) × (a + length (now r) ≤ 16777216) × (k < 2 ^ 60) × (m < 2 ^ 60) ⌝ }
+    ensures { λ x. ⌜ stepped (now (t .exit)) (now (g .exit)) x ≡ tagAt class left a (now (r .entry)) i (now (t .entry)) k (now (g .entry)) m (headBy class left (drop i (now (r .entry)))) ⌝ }
+{
+    match headers::read_head(class, left, r, i) {
+        Head::Fault(why) => Step::Fault(why),
+        Head::Tag(code, len, size) => {
+            let start = i + size as usize;
+            let stop = start + len as usize;
+            let place = a + i;
+            tags::show_row(8 - left, code, place as u32, size, len, g, m);
+            match tags::show_tag(class, code, &r[start..stop], t, k) {
+                Run::Stop(why, _) => Step::Fault(why),
+                Run::Done(next, j) => next_step(class, start + next.0 / 8, stop, j),
+            }
+        }
     }
 }
 
@@ -89,52 +112,39 @@ pub fn read_list(
     requires { ⌜ Bounds left a (length (now r)) k m ⌝ }
     ensures { λ x. ⌜ listed (now (t .exit)) (now (g .exit)) x ≡ laid (now (t .entry)) k (now (g .entry)) m (walkList high (classOf level) left (ownerOf own) a (now (r .entry))) ⌝ }
 {
+    let classes = classes::CLASSES;
     let n = r.len();
     let mut i = 0;
     let mut j = k;
     let mut w = m;
     while i < n {
         let place = a + i;
-        match headers::read_head(level, left, r, i) {
-            Head::Fault(why) => {
+        let row = w + 5;
+        let code = headers::code_at(r, i);
+        let listed = classes[(code / 32) as usize][(code % 32) as usize];
+        let class = classes::at_level(level, code, listed);
+        match read_tag(class, left, a, r, i, t, j, g, w) {
+            Step::Fault(why) => {
                 return Walked::Fault(why, place);
             }
-            Head::Tag(code, len, size) => {
-                let start = i + size as usize;
-                let stop = start + len as usize;
-                let body = &r[start..stop];
-                tags::show_row(8 - left, code, place as u32, size, len, g, w);
-                w += 5;
-                match show(level, code, body, t, j) {
-                    Step::Fault(why) => {
-                        return Walked::Fault(why, place);
-                    }
-                    Step::Last(next) => {
-                        return last(own, a, stop, n, next, w);
-                    }
-                    Step::Next(next) => {
-                        j = next;
-                    }
-                    Step::Open(next, p) => {
-                        let x = read_list(
-                            level,
-                            left - 1,
-                            Owner::Inside(place),
-                            a + start + p,
-                            &body[p..],
-                            t,
-                            next,
-                            g,
-                            w,
-                        );
-                        let Walked::Next(j2, w2) = x else {
-                            return x;
-                        };
-                        j = j2;
-                        w = w2;
-                    }
-                }
+            Step::Last(stop, next) => {
+                return last(own, a, stop, n, next, row);
+            }
+            Step::Next(stop, next) => {
                 i = stop;
+                j = next;
+                w = row;
+            }
+            Step::Open(list, stop, next) => {
+                let inside = Owner::Inside(place);
+                let inner = &r[list..stop];
+                let x = read_list(level, left - 1, inside, a + list, inner, t, next, g, row);
+                let Walked::Next(j2, w2) = x else {
+                    return x;
+                };
+                i = stop;
+                j = j2;
+                w = w2;
             }
         }
     }
