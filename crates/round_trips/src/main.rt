@@ -184,13 +184,13 @@ fn load(body: &[u8], table: &mut [u64]) -> usize
 
 // What was written of a table, read: the same numbers.
 fn read_back(level: u32, file: &[u8], table: &[u64]) {
-    let mut again = [0u64; 4096];
+    let mut again = [0u64; 8192];
     match reader::read(level, file, &mut again) {
         Answer::Refused(reason, number) => say_refusal(reason, number),
         Answer::Accepted(n) => {
             say(b" read");
             say_number(n);
-            let m = least(n as usize, 4096);
+            let m = least(n as usize, 8192);
             say_same(same_numbers(table, &again[0..m]));
         }
     }
@@ -263,7 +263,7 @@ fn next_in(room: &mut [u8], table: &mut [u64], out: &mut [u8]) -> bool {
 // One record, if there is one more.
 fn try_next() -> bool {
     let mut room = io::buffer();
-    let mut table = [0u64; 4096];
+    let mut table = [0u64; 8192];
     let mut out = io::buffer();
     next_in(&mut room, &mut table, &mut out)
 }

@@ -19,8 +19,8 @@ use Rattle.format.proofs.ListLaws.{unlist-nil, unlist-one}
 use Rattle.format.proofs.ListTrip.{ListIf, list-back}
 use Rattle.classes.specs.declared.Class.{Class}
 use Rattle.classes.specs.declared.Class.the-variants.{Opaque, End, Container, Fixed, Attributes}
-use Rattle.classes.specs.Classes.{classAt}
-use Rattle.classes.proofs.ClassLaws.{ends, contains, ends-named, spelt, Right, by-code}
+use Rattle.classes.specs.Classes.{ends, contains, classAt}
+use Rattle.classes.proofs.ClassLaws.{ends-named, spelt, Right, by-code}
 use Rattle.attributes.specs.Rows.{attributesOf}
 use Rattle.fixed.specs.Fixed.{fixedOf}
 use Rattle.bodies.specs.Leaf.{leafBody}

@@ -6,7 +6,7 @@ ghost use lib.ListN.{length, getD, drop};
 ghost use Rattle.format.specs.Bits.{high};
 ghost use Rattle.format.specs.FileAndTags.{classOf};
 ghost use Rattle.format.specs.WritingFiles.{unwalkList};
-ghost use Rattle.classes.proofs.ClassLaws.{contains, ends};
+ghost use Rattle.classes.specs.Classes.{contains, ends};
 ghost use Rattle.sink.specs.Lain.{longest, lies, lainAs};
 ghost use Rattle.write_lists.specs.Stood.{over, stoodAs};
 ghost use Rattle.write_lists.specs.Tags.{asBytes, valuesIn, begun, shut as «shutBy», shutAs, After};

@@ -5,7 +5,7 @@ use mathlib.Core.Path.{_≡_, refl, sym, ap, _∙_}
 use native.Mathlib.Omega.{arith}
 use borrow.Author.Needs.{needs}
 use lib.ListN.{length, getD, drop}
-use Rattle.classes.proofs.ClassLaws.{contains}
+use Rattle.classes.specs.Classes.{contains}
 use Rattle.sink.specs.Lain.{longest}
 use Rattle.write_lists.specs.Stood.{stood, over, stoodAs}
 use Rattle.write_lists.specs.Tags.{begun, shut}
