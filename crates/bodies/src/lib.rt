@@ -15,7 +15,7 @@ use bits::BitPlace;
 use table::Run;
 
 // Is the code one of an attribute block?
-fn is_block(code: u32) -> bool
+pub fn is_block(code: u32) -> bool
     ensures { λ r. ⌜ r ≡ isBlock code ⌝ }
 {
     if code == 6 {

@@ -15,7 +15,7 @@ use bits::Got;
 use items::Item;
 use table::Run;
 
-const ITEMS: [Item; 18] = [
+pub const ITEMS: [Item; 18] = [
     // 2: id
     Item::U32,
     // 3: width, height, Time, Float, Color
@@ -43,9 +43,9 @@ const ITEMS: [Item; 18] = [
 ];
 
 // Items of the table: from row start on, up to row end.
-struct Rows {
-    start: usize,
-    end: usize,
+pub struct Rows {
+    pub start: usize,
+    pub end: usize,
 }
 
 // The items from row start on, up to row end.
@@ -106,7 +106,7 @@ fn read_fonts(s: &[u8], at: BitPlace, t: &mut [u64], k: usize) -> Run
 }
 
 // The rows of a code other than 1: those of a container stand before its list; a code that has no items has no rows.
-fn rows_of(code: u32) -> Rows
+pub fn rows_of(code: u32) -> Rows
     requires { ⌜ (code ≡ 1 → ⊥) ⌝ }
     ensures { λ r. ⌜ RowsOf code (r .start) (r .end) ⌝ }
 {

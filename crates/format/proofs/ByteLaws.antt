@@ -64,7 +64,7 @@ unshift o x b p [] h = omega arith
 unshift o x b p (y ∷ bs) h = (sym (shift-bit o x b p) ∙ h .0, unshift o x b (suc p) bs (subst (λ (n : ℕ). Has o (x ∷ b) n bs) (omega arith) (h .1)))
 
 -- ---- fields of a list of bits
-val-lt : (o : Order) (n : ℕ) (bs : List Bool) → val o n bs < 2 ^ n
+pub val-lt : (o : Order) (n : ℕ) (bs : List Bool) → val o n bs < 2 ^ n
 unfolding val
 val-lt o zero bs = pow-pos 0
 val-lt o (suc n) bs = join-lt o n _ _ (lt-bit (getD bs 0 false)) (val-lt o n (drop 1 bs))
@@ -73,7 +73,7 @@ val-lt o (suc n) bs = join-lt o n _ _ (lt-bit (getD bs 0 false)) (val-lt o n (dr
     lt-bit true = lit< tt
     lt-bit false = lit< tt
 
-dig-val : (o : Order) (n : ℕ) (bs : List Bool) → n ≤ length bs → dig o n (val o n bs) ≡ take n bs
+pub dig-val : (o : Order) (n : ℕ) (bs : List Bool) → n ≤ length bs → dig o n (val o n bs) ≡ take n bs
 unfolding val dig
 dig-val o zero bs h = refl
 dig-val o (suc n) [] h = absurd (omega arith)

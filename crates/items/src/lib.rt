@@ -81,7 +81,7 @@ fn between(a: u64, v: u64, z: u64) -> bool
 }
 
 // The reason that a number out of its range gets, 0 for a number in its range.
-fn out_of_range(kind: Item, v: u64) -> u32
+pub fn out_of_range(kind: Item, v: u64) -> u32
     ensures { λ r. ⌜ r ≡ rangeFault kind v ⌝ }
 {
     match kind {

@@ -30,7 +30,7 @@ pub struct Announced {
 // Coordinates by verb 0 to 7; four easing numbers for a Bezier frame.
 const COORDINATES: [usize; 8] = [0, 2, 2, 1, 1, 4, 4, 6];
 
-fn announced_by(kind: Field, v: u64) -> usize
+pub fn announced_by(kind: Field, v: u64) -> usize
     ensures { λ r. ⌜ (r ≡ announces kind v) × (r ≤ 6) ⌝ }
 {
     match kind {
@@ -46,7 +46,7 @@ fn announced_by(kind: Field, v: u64) -> usize
 }
 
 // An interpolation is not 0, and a byte value at most 255.
-fn allowed(kind: Field, v: u64) -> bool
+pub fn allowed(kind: Field, v: u64) -> bool
     ensures { λ r. ⌜ r ≡ allows kind v ⌝ }
 {
     match kind {

@@ -72,7 +72,7 @@ fn index(r: Run) -> usize
 }
 
 // 1 read, 0 opaque.
-fn state(class: Class) -> u64
+pub fn state(class: Class) -> u64
     ensures { λ r. ⌜ r ≡ stateOf class ⌝ }
 {
     match class {

@@ -1,0 +1,276 @@
+// Reads files and writes them back, and writes tables and reads them back: a line for each record on standard input.
+// tests/reference/make_round_trips.py makes the records, and what has to be printed.
+ghost use Prim.Native.Nat.{_+_, _≤_, _<_};
+ghost use lib.ListN.{length};
+use answers::Answer;
+use libc::STDIN_FILENO;
+use libc::STDOUT_FILENO;
+
+const FILE: u8 = 0;
+
+// What the output is filled with, to see what was written.
+const FILLED: u8 = 0xAA;
+
+// A record's kind, its level and the count of the bytes that follow.
+struct Head {
+    kind: u8,
+    level: u32,
+    count: usize,
+}
+
+fn wide(b: u8) -> u32
+    ensures { λ r. ⌜ r < 256 ⌝ }
+{
+    b as u32
+}
+
+fn wide64(n: u32) -> u64
+    ensures { λ r. ⌜ r < 4294967296 ⌝ }
+{
+    n as u64
+}
+
+fn say(text: &[u8]) {
+    io::write_all(STDOUT_FILENO, text);
+}
+
+fn say_number(n: u64) {
+    say(b" ");
+    io::print_decimal(STDOUT_FILENO, n);
+}
+
+fn say_refusal(reason: u32, number: u64) {
+    say(b" refused");
+    say_number(reason as u64);
+    say_number(number);
+}
+
+fn least(a: usize, b: usize) -> usize
+    ensures { λ r. ⌜ (r ≤ a) × (r ≤ b) ⌝ }
+{
+    if a < b { a } else { b }
+}
+
+fn fill(out: &mut [u8]) {
+    let mut i = 0;
+    while i < out.len() {
+        out[i] = FILLED;
+        i += 1;
+    }
+}
+
+fn is_filled(out: &[u8]) -> bool {
+    let mut i = 0;
+    while i < out.len() {
+        if out[i] != FILLED {
+            return false;
+        }
+        i += 1;
+    }
+    true
+}
+
+fn same_bytes(a: &[u8], b: &[u8]) -> bool {
+    if a.len() != b.len() {
+        return false;
+    }
+    let mut i = 0;
+    while i < a.len() {
+        if a[i] != b[i] {
+            return false;
+        }
+        i += 1;
+    }
+    true
+}
+
+fn same_numbers(a: &[u64], b: &[u64]) -> bool {
+    if a.len() != b.len() {
+        return false;
+    }
+    let mut i = 0;
+    while i < a.len() {
+        if a[i] != b[i] {
+            return false;
+        }
+        i += 1;
+    }
+    true
+}
+
+fn say_same(same: bool) {
+    if same {
+        say(b" same");
+    } else {
+        say(b" OTHER");
+    }
+}
+
+// What was read of a file, written: the same bytes, and nothing behind them is touched.
+fn write_back(level: u32, table: &[u64], file: &[u8], out: &mut [u8]) {
+    fill(out);
+    match writer::write(level, table, out) {
+        Answer::Refused(reason, number) => say_refusal(reason, number),
+        Answer::Accepted(n) => {
+            say(b" write");
+            say_number(n);
+            let m = least(n as usize, out.len());
+            say_same(same_bytes(file, &out[0..m]));
+            if !is_filled(&out[m..]) {
+                say(b" TOUCHED");
+            }
+        }
+    }
+}
+
+// And with one byte too few: 21, and nothing is touched.
+fn write_short(level: u32, table: &[u64], file: &[u8], out: &mut [u8]) {
+    let room = least(file.len(), out.len());
+    if room == 0 {
+        return;
+    }
+    let end = room - 1;
+    let part = &mut out[0..end];
+    fill(part);
+    match writer::write(level, table, part) {
+        Answer::Accepted(_) => say(b" TAKEN"),
+        Answer::Refused(reason, number) => {
+            say(b" short");
+            say_number(reason as u64);
+            say_number(number);
+        }
+    }
+    if is_filled(part) {
+        say(b" kept");
+    } else {
+        say(b" TOUCHED");
+    }
+}
+
+fn try_file(level: u32, file: &[u8], table: &mut [u64], out: &mut [u8]) {
+    say(b"file");
+    say_number(level as u64);
+    match reader::read(level, file, table) {
+        Answer::Refused(reason, number) => say_refusal(reason, number),
+        Answer::Accepted(n) => {
+            say(b" read");
+            say_number(n);
+            let m = least(n as usize, table.len());
+            write_back(level, &table[0..m], file, out);
+            write_short(level, &table[0..m], file, out);
+        }
+    }
+}
+
+// The number in the eight bytes from i on, the lowest first.
+fn number_at(body: &[u8], i: usize) -> u64
+    requires { ⌜ i + 8 ≤ length (now body) ⌝ }
+{
+    wide64(headers::le32_at(body, i)) + 4294967296 * wide64(headers::le32_at(body, i + 4))
+}
+
+// The numbers of a table, as many as there are and fit.
+fn load(body: &[u8], table: &mut [u64]) -> usize
+    ensures { λ r. ⌜ r ≤ length (now (table .entry)) ⌝ }
+{
+    let n = least(body.len() / 8, table.len());
+    let mut i = 0;
+    while i < n {
+        table[i] = number_at(body, i * 8);
+        i += 1;
+    }
+    n
+}
+
+// What was written of a table, read: the same numbers.
+fn read_back(level: u32, file: &[u8], table: &[u64]) {
+    let mut again = [0u64; 8192];
+    match reader::read(level, file, &mut again) {
+        Answer::Refused(reason, number) => say_refusal(reason, number),
+        Answer::Accepted(n) => {
+            say(b" read");
+            say_number(n);
+            let m = least(n as usize, 8192);
+            say_same(same_numbers(table, &again[0..m]));
+        }
+    }
+}
+
+fn try_table(level: u32, table: &[u64], out: &mut [u8]) {
+    say(b"table");
+    say_number(level as u64);
+    match writer::write(level, table, out) {
+        Answer::Refused(reason, number) => say_refusal(reason, number),
+        Answer::Accepted(n) => {
+            say(b" write");
+            say_number(n);
+            let m = least(n as usize, out.len());
+            read_back(level, &out[0..m], table);
+        }
+    }
+}
+
+// The next record's head; a count of no bytes and kind 255 at the end.
+fn read_head() -> Head {
+    let mut b = [0u8; 8];
+    let n = io::read_full(STDIN_FILENO, &mut b);
+    if n < 8 {
+        return Head {
+            kind: 255,
+            level: 0,
+            count: 0,
+        };
+    }
+    Head {
+        kind: b[0],
+        level: wide(b[2]) + 256 * wide(b[3]),
+        count: (wide(b[4]) + 256 * wide(b[5])) as usize,
+    }
+}
+
+// A record's bytes, at the start of the room: whether they are all there.
+fn read_body(room: &mut [u8], count: usize) -> bool
+    requires { ⌜ count ≤ length (now room) ⌝ }
+{
+    let part = &mut room[0..count];
+    let got = io::read_full(STDIN_FILENO, part);
+    got == count
+}
+
+fn try_record(kind: u8, level: u32, body: &[u8], table: &mut [u64], out: &mut [u8]) {
+    if kind == FILE {
+        try_file(level, body, table, out);
+        return;
+    }
+    let k = load(body, table);
+    try_table(level, &table[0..k], out);
+}
+
+fn next_in(room: &mut [u8], table: &mut [u64], out: &mut [u8]) -> bool {
+    let head = read_head();
+    let n = least(head.count, room.len());
+    if head.kind == 255 {
+        return false;
+    }
+    if !read_body(room, n) {
+        return false;
+    }
+    try_record(head.kind, head.level, &room[0..n], table, out);
+    say(b"\n");
+    true
+}
+
+// One record, if there is one more.
+fn try_next() -> bool {
+    let mut room = io::buffer();
+    let mut table = [0u64; 8192];
+    let mut out = io::buffer();
+    next_in(&mut room, &mut table, &mut out)
+}
+
+fn main() {
+    let mut left = 65536u64;
+    while 0 < left && try_next() {
+        left -= 1;
+    }
+}

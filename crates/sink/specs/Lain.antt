@@ -1,0 +1,28 @@
+-- A body's bytes put over an output from a byte place on; and the answer of a function that writes one, with the output that it leaves.
+use Prim.Native.Nat.{ℕ, _+_}
+use mathlib.Core.List.{List}
+use lib.Dec.{leb}
+use lib.ListN.{length}
+use lib.Seq.{sets}
+use Rattle.format.specs.Tests.{pick}
+use Rattle.format.specs.WritingBodies.{Bytes, bytes, impossible}
+use Rattle.sink.specs.declared.Body.{Body}
+use Rattle.sink.specs.declared.Body.the-variants.{To, No}
+
+-- in bytes: no file is longer
+abbrev pub longest : ℕ
+longest = 16777216
+
+-- the output after a body, and the next byte place; where there is no body, nothing is said of the output
+pub data Lain : Type 0 where
+  lain : List ℕ → ℕ → Lain
+  unlain : Lain
+
+-- bytes put over the output o from place a on; what does not fit the output is dropped, and what is longer than a file has no place
+unfoldable pub lies : List ℕ → ℕ → Bytes → Lain
+lies o a (bytes b) = pick (leb (a + length b) longest) (lain (sets o a b) (a + length b)) unlain
+lies o a impossible = unlain
+
+abbrev pub lainAs : List ℕ → Body → Lain
+lainAs o (To p) = lain o p
+lainAs o No = unlain

@@ -1,0 +1,6 @@
+pub mod RunLaws
+pub mod NumberLaws
+pub mod FieldLaws
+pub mod TextLaws
+pub mod ShiftLaws
+pub mod AlikeLaws

@@ -1,0 +1,272 @@
+-- How formats that are written follow one another. Nothing here speaks of one format.
+use Prim.Native.Nat.{ℕ, zero, suc, _+_, _-_, _%_, _≤_, _<_}
+use mathlib.Core.List.{List, [], _∷_, _++_}
+use mathlib.Core.Path.{_≡_, refl, sym, ap, ap₂, _∙_, subst}
+use mathlib.Core.Bool.{Bool, true, false}
+use native.Mathlib.Nat.{add-zero, add-assoc}
+use native.Mathlib.Omega.{arith}
+use lib.ListN.{length, take, drop, getD, length-append, length-drop}
+use lib.Seq.{drop-drop, drop-cons, take-append-seam, drop-append-seam}
+use lib.Pow.{pow-pos}
+use lib.Dec.{leb}
+use borrow.Author.Tests.{le-leb, lt-leb, leb-true, leb-false}
+use Rattle.format.specs.Tests.{pick}
+use Rattle.format.specs.Bits.{high}
+use Rattle.format.specs.Formats.{Item, Format, nothing, item, _▹_, _▸_, times, the}
+use Rattle.format.specs.Items.{skipped}
+use Rattle.format.specs.WritingItems.{dig, Bits, spelt, none, before, Written, wrote, cannot, put, single, writeItem}
+use Rattle.format.specs.WritingFormats.{adjoin, onward, unrun}
+use Rattle.format.proofs.BitLaws.{length-dig}
+use Rattle.format.proofs.ItemLaws.{round-trip}
+use Rattle.sink.specs.Laying.{State, mk, at, lay, Holds, Skipped}
+use Rattle.sink.specs.declared.Sink.{Sink}
+use Rattle.sink.proofs.LayingLaws.{lay-append, lay-none, lay-place, lay-ok}
+use Rattle.spelling.specs.declared.Put.{Put}
+use Rattle.spelling.specs.declared.Put.the-variants.{Done, Impossible}
+use Rattle.spelling.specs.declared.Spelt.{Spelt}
+use Rattle.spelling.specs.declared.Spelt.the-variants.{In, No}
+use Rattle.spelling.specs.Writing.{Sunk, sunk, unsunk, laid, got, Seen, here, gone, seen, ends, after, ran, limit, Fine, finish, OnByte}
+
+-- ---- where a format ends
+pub ends-in : (st : State) (k : ℕ) → st .place ≤ limit → ends st k ≡ here st k
+unfolding ends
+ends-in st k h = rw (le-leb _ _ h)
+
+pub ends-out : (st : State) (k : ℕ) → limit < st .place → ends st k ≡ gone
+unfolding ends
+ends-out st k h = rw (lt-leb _ _ h)
+
+pub finish-ends : (o : List ℕ) (s : Sink) (k : ℕ) → seen o (finish s k) ≡ ends (at o s) k
+unfolding ends
+finish-ends o s k = go (leb (s .place .0) limit)
+  where
+    go : (c : Bool) → seen o (pick c (Done s k) Impossible) ≡ pick c (here (at o s) k) gone
+    go true = refl
+    go false = refl
+
+-- ---- the values used, and those left
+pub parts : (f : Format) (ns : List ℕ) (p : ℕ) (xs ys : List ℕ) (bs : List Bool) → unrun high f ns p ≡ wrote xs bs ys → ns ≡ xs ++ ys
+parts f ns p xs ys bs e = (rw e at (round-trip high f .back ns p)) .parts
+
+module _ (t : List ℕ) (k : ℕ) (g : List ℕ → Format) where
+  -- what follows a format that was written from index k on
+  abbrev pub resume : Seen → Seen
+  resume (here st j) = ran t st j (g (take (j - k) (drop k t)))
+  resume gone = gone
+
+-- THE law: one format and then another
+pub ran-then : (t : List ℕ) (st : State) (k : ℕ) (f : Format) (g : List ℕ → Format) → ran t st k (f ▹ g) ≡ resume t k g (ran t st k f)
+unfolding ran unrun after ends
+ran-then t st k f g = go (unrun high f (drop k t) (st .place)) refl
+  where
+    bits : (xs : List ℕ) (bs : List Bool) (w : Written) → (c : Bool) → leb (lay st bs .place) limit ≡ c
+        → after st k (adjoin xs bs w) ≡ pick c (after (lay st bs) (k + length xs) w) gone
+    bits xs bs (wrote xs′ bs′ ys′) true e = ap₂ ends (lay-append st bs bs′) (rw (length-append, add-assoc))
+    bits xs bs (wrote xs′ bs′ ys′) false e =
+        ends-out (lay st (bs ++ bs′)) _ (omega (arith, leb-false (lay st bs .place) limit e, lay-place st (bs ++ bs′), lay-place st bs, length-append bs bs′))
+    bits xs bs cannot true e = refl
+    bits xs bs cannot false e = refl
+
+    back : (xs : List ℕ) (bs : List Bool) (ys : List ℕ) → drop k t ≡ xs ++ ys → (c : Bool) → leb (lay st bs .place) limit ≡ c
+        → pick c (after (lay st bs) (k + length xs) (unrun high (g xs) ys (st .place + length bs))) gone ≡ resume t k g (pick c (here (lay st bs) (k + length xs)) gone)
+    back xs bs ys d false e = refl
+    back xs bs ys d true e =
+        let n : k + length xs - k ≡ length xs = omega arith in
+        let a : take (k + length xs - k) (drop k t) ≡ xs = rw (n, d) (take-append-seam xs ys) in
+        let b : drop (k + length xs) t ≡ ys = sym (drop-drop (length xs) k t) ∙ rw d (drop-append-seam xs ys) in
+        rw (a, b, lay-place)
+
+    go : (w : Written) → unrun high f (drop k t) (st .place) ≡ w
+        → after st k (onward w (st .place) (λ xs ys q. unrun high (g xs) ys q)) ≡ resume t k g (after st k w)
+    go cannot e = refl
+    go (wrote xs bs ys) e =
+        bits xs bs (unrun high (g xs) ys (st .place + length bs)) (leb (lay st bs .place) limit) refl
+        ∙ back xs bs ys (parts f (drop k t) (st .place) xs ys bs e) (leb (lay st bs .place) limit) refl
+
+pub ran-nothing : (t : List ℕ) (st : State) (k : ℕ) → st .place ≤ limit → ran t st k nothing ≡ here st k
+unfolding ran unrun after
+ran-nothing t st k h = rw (lay-none, add-zero) (ends-in st k h)
+
+-- ---- one format and then another: R is the first one's answer, u the output that it left
+module _ (t : List ℕ) (st : State) (k : ℕ) (f : Format) (g : List ℕ → Format) (u : List ℕ) (R : Put) (first : seen u R ≡ ran t st k f) where
+  pub then-done : (s : Sink) (j : ℕ) → R ≡ Done s j → ran t st k (f ▹ g) ≡ ran t (at u s) j (g (take (j - k) (drop k t)))
+  then-done s j e = ran-then t st k f g ∙ ap (resume t k g) (sym first ∙ ap (seen u) e)
+
+  pub then-stop : R ≡ Impossible → ran t st k (f ▹ g) ≡ gone
+  then-stop e = ran-then t st k f g ∙ ap (resume t k g) (sym first ∙ ap (seen u) e)
+
+  -- the same as the code has it: x is what the second leaves
+  pub then-on : (s : Sink) (j : ℕ) {x : Seen} → R ≡ Done s j → x ≡ ran t (at u s) j (g (take (j - k) (drop k t))) → x ≡ ran t st k (f ▹ g)
+  then-on s j e d = d ∙ sym (then-done s j e)
+
+  pub then-off : R ≡ Impossible → seen u R ≡ ran t st k (f ▹ g)
+  then-off e = ap (seen u) e ∙ sym (then-stop e)
+
+-- ---- n in turn
+pub times-none : (t : List ℕ) (st : State) (k : ℕ) (f : Format) (n : ℕ) → st .place ≤ limit → n ≡ 0 → ran t st k (times n f) ≡ here st k
+unfolding times
+times-none t st k f n h e = rw e (ran-nothing t st k h)
+
+times-pred : (f : Format) (n : ℕ) → 0 < n → times n f ≡ (f ▹ λ xs. times (n - 1) f)
+unfolding times
+times-pred f zero h = absurd (omega arith)
+times-pred f (suc n) h = let e : suc n - 1 ≡ n = omega arith in rw e
+
+module _ (t : List ℕ) (st : State) (k : ℕ) (f : Format) (n : ℕ) (some : 0 < n) (u : List ℕ) (R : Put) (first : seen u R ≡ ran t st k f) where
+  pub times-next : (s : Sink) (j : ℕ) → R ≡ Done s j → ran t st k (times n f) ≡ ran t (at u s) j (times (n - 1) f)
+  times-next s j e = ap (ran t st k) (times-pred f n some) ∙ then-done t st k f (λ xs. times (n - 1) f) u R first s j e
+
+  pub times-stop : R ≡ Impossible → ran t st k (times n f) ≡ gone
+  times-stop e = ap (ran t st k) (times-pred f n some) ∙ then-stop t st k f (λ xs. times (n - 1) f) u R first e
+
+-- ---- what was written leaves a sink to go on with
+pub ran-fine : (t o : List ℕ) (s : Sink) (k : ℕ) (f : Format) (u : List ℕ) (R : Put) → Fine s → seen u R ≡ ran t (at o s) k f
+    → (s′ : Sink) (j : ℕ) → R ≡ Done s′ j → Fine s′
+unfolding ran after ends
+ran-fine t o s k f u R fine e s′ j d = go (unrun high f (drop k t) (s .place .0)) (sym e ∙ ap (seen u) d)
+  where
+    out-of : (bs : List Bool) (i : ℕ) (c : Bool) → leb (lay (at o s) bs .place) limit ≡ c → pick c (here (lay (at o s) bs) i) gone ≡ here (at u s′) j → Fine s′
+    out-of bs i true q h =
+        let z : lay (at o s) bs ≡ at u s′ = cc in
+        (subst (λ (x : State). Holds (x .place) (x .part)) z (lay-ok (at o s) bs (fine .0)), subst (λ (x : State). x .place ≤ limit) z (leb-true (lay (at o s) bs .place) limit q))
+    out-of bs i false q h = absurd (let z : _≡_ {A = ℕ} 0 1 = cc in omega arith)
+
+    go : (w : Written) → after (at o s) k w ≡ here (at u s′) j → Fine s′
+    go cannot h = absurd (let z : _≡_ {A = ℕ} 0 1 = cc in omega arith)
+    go (wrote xs bs ys) h = out-of bs (k + length xs) (leb (lay (at o s) bs .place) limit) refl h
+
+-- ---- a loop that writes the format f part by part: of it g is to come
+pub record Going (t o : List ℕ) (s : Sink) (k : ℕ) (f : Format) (u : List ℕ) (cur : Sink) (j : ℕ) (g : Format) : Type 0 where
+  pub size : length u ≡ length o
+  pub fine : Fine cur
+  pub rest : ran t (at o s) k f ≡ ran t (at u cur) j g
+
+pub going-none : (t o : List ℕ) (s : Sink) (k : ℕ) (f : Format) → Fine s → Going t o s k f o s k f
+going-none t o s k f fine = record { size = refl; fine = fine; rest = refl }
+
+pub times-more : (f : Format) (n : ℕ) → 0 < n → times n f ≡ f ▸ times (n - 1) f
+times-more f n h = times-pred f n h
+
+pub times-over : (f : Format) (n : ℕ) → n ≡ 0 → times n f ≡ nothing
+unfolding times
+times-over f n e = rw e
+
+module _ {t o : List ℕ} {s : Sink} {k : ℕ} {f : Format} {u : List ℕ} {cur : Sink} {j : ℕ} {g : Format} (going : Going t o s k f u cur j g) where
+  module _ (part rest : Format) (is : g ≡ part ▸ rest) (u′ : List ℕ) (R : Put) (first : seen u′ R ≡ ran t (at u cur) j part) where
+    pub going-stop : R ≡ Impossible → seen u′ R ≡ ran t (at o s) k f
+    going-stop e = ap (seen u′) e ∙ sym (going .rest ∙ ap (ran t (at u cur) j) is ∙ then-stop t (at u cur) j part (λ xs. rest) u′ R first e)
+
+    pub going-next : length u′ ≡ length u → (s′ : Sink) (i : ℕ) → R ≡ Done s′ i → Going t o s k f u′ s′ i rest
+    going-next size s′ i e = record {
+      size = size ∙ going .size;
+      fine = ran-fine t u cur j part u′ R (going .fine) first s′ i e;
+      rest = going .rest ∙ ap (ran t (at u cur) j) is ∙ then-done t (at u cur) j part (λ xs. rest) u′ R first s′ i e;
+    }
+
+  pub going-over : g ≡ nothing → here (at u cur) j ≡ ran t (at o s) k f
+  going-over e = sym (going .rest ∙ ap (ran t (at u cur) j) e ∙ ran-nothing t (at u cur) j (going .fine .1))
+
+-- ---- one number: g p v are the bits of v from place p on
+module _ (f : Format) (g : ℕ → ℕ → Bits) (is : (ns : List ℕ) (p : ℕ) → unrun high f ns p ≡ single (g p) ns) (t : List ℕ) (st : State) (k : ℕ) where
+  pub one-none : length t ≤ k → ran t st k f ≡ gone
+  unfolding ran after
+  one-none h = ap (after st k) (is (drop k t) (st .place)) ∙ go (drop k t) (omega (arith, length-drop k t))
+    where
+      go : (ns : List ℕ) → length ns ≡ 0 → after st k (single (g (st .place)) ns) ≡ gone
+      go [] e = refl
+      go (x ∷ ns) e = absurd (omega arith)
+
+  pub one-some : k < length t → ran t st k f ≡ after st k (put (getD t k 0 ∷ []) (g (st .place) (getD t k 0)) (drop (suc k) t))
+  unfolding ran
+  one-some h = ap (after st k) (is (drop k t) (st .place)) ∙ rw (drop-cons t k 0 h)
+
+  pub one-bad : k < length t → g (st .place) (getD t k 0) ≡ none → ran t st k f ≡ gone
+  unfolding after
+  one-bad h e = one-some h ∙ rw e
+
+  pub one-in : (u : List ℕ) (R : Spelt) → k < length t → got u R ≡ laid st (g (st .place) (getD t k 0)) → (s : Sink) → R ≡ In s → ran t st k f ≡ ends (at u s) (k + 1)
+  unfolding after
+  one-in u R h e s d = one-some h ∙ go (g (st .place) (getD t k 0)) (ap (got u) (sym d) ∙ e)
+    where
+      go : (b : Bits) → sunk (at u s) ≡ laid st b → after st k (put (getD t k 0 ∷ []) b (drop (suc k) t)) ≡ ends (at u s) (k + 1)
+      go (spelt bs) q = let z : lay st bs ≡ at u s = cc in ap (λ (x : State). ends x (k + 1)) z
+      go none q = absurd (let z : _≡_ {A = ℕ} 0 1 = cc in omega arith)
+
+  pub one-no : (u : List ℕ) (R : Spelt) → k < length t → got u R ≡ laid st (g (st .place) (getD t k 0)) → R ≡ No → ran t st k f ≡ gone
+  unfolding after
+  one-no u R h e d = one-some h ∙ go (g (st .place) (getD t k 0)) (ap (got u) (sym d) ∙ e)
+    where
+      go : (b : Bits) → unsunk ≡ laid st b → after st k (put (getD t k 0 ∷ []) b (drop (suc k) t)) ≡ gone
+      go (spelt bs) q = absurd (let z : _≡_ {A = ℕ} 0 1 = cc in omega arith)
+      go none q = refl
+
+  -- it used up one number, which has a spelling
+  pub record OneDone (j : ℕ) : Type 0 where
+    pub next : j ≡ k + 1
+    pub inside : k < length t
+    pub spells : g (st .place) (getD t k 0) ≡ none → ⊥
+
+  pub one-done : (st′ : State) (j : ℕ) → ran t st k f ≡ here st′ j → OneDone j
+  unfolding after ends
+  one-done st′ j e = go (leb (length t) k) refl
+    where
+      one : (c : Bool) (x : State) → pick c (here x (k + 1)) gone ≡ here st′ j → j ≡ k + 1
+      one true x q = cc
+      one false x q = absurd (let z : _≡_ {A = ℕ} 0 1 = cc in omega arith)
+
+      index : (b : Bits) → after st k (put (getD t k 0 ∷ []) b (drop (suc k) t)) ≡ here st′ j → j ≡ k + 1
+      index (spelt bs) q = one (leb (lay st bs .place) limit) (lay st bs) q
+      index none q = absurd (let z : _≡_ {A = ℕ} 0 1 = cc in omega arith)
+
+      go : (c : Bool) → leb (length t) k ≡ c → OneDone j
+      go true q = absurd (let m : gone ≡ here st′ j = sym (one-none (leb-true (length t) k q)) ∙ e in let z : _≡_ {A = ℕ} 0 1 = cc in omega arith)
+      go false q =
+          let h : k < length t = leb-false (length t) k q in
+          record {
+            next = index (g (st .place) (getD t k 0)) (sym (one-some h) ∙ e);
+            inside = h;
+            spells = λ m. let n : gone ≡ here st′ j = sym (one-bad h m) ∙ e in let z : _≡_ {A = ℕ} 0 1 = cc in omega arith;
+          }
+
+pub the-one : (t : List ℕ) (k j : ℕ) → j ≡ k + 1 → k < length t → the (take (j - k) (drop k t)) ≡ getD t k 0
+the-one t k j e h =
+    let z : j - k ≡ 1 = omega arith in
+    rw (z, drop-cons t k 0 h)
+
+-- ---- the skip to a whole byte
+skip-le : (p : ℕ) → p ≤ limit → p + skipped p ≤ limit
+skip-le p h = omega arith
+
+skip-end : (st : State) {st′ : State} → st .place ≤ limit → st′ ≡ lay st (dig high (skipped (st .place)) 0) → st′ .place ≤ limit
+skip-end st {st′} low e =
+    let p : st′ .place ≡ st .place + skipped (st .place) =
+    ap (λ (x : State). x .place) e ∙ lay-place st (dig high (skipped (st .place)) 0) ∙ ap (λ (n : ℕ). st .place + n) (length-dig high (skipped (st .place)) 0) in
+    omega (arith, p, skip-le (st .place) low)
+
+pub skip-place : (st : State) {u : List ℕ} {byte bit : ℕ} → st .place ≤ limit → Skipped st u byte bit → OnByte byte bit
+skip-place st low skip = (skip .whole, skip-end st low (skip .laid))
+
+pub skip-fine : (st : State) {u : List ℕ} {byte bit : ℕ} → st .place ≤ limit → Skipped st u byte bit → Holds bit 0 × (bit ≤ limit)
+skip-fine st {u} {byte} {bit} low skip = (pow-pos (bit % 8), skip-place st low skip .1)
+
+module _ (t : List ℕ) (st : State) (k : ℕ) {st′ : State} (low : st .place ≤ limit) (skip : st′ ≡ lay st (dig high (skipped (st .place)) 0)) where
+  pub ran-align : ran t st k (item Item.align) ≡ here st′ k
+  unfolding ran unrun writeItem after
+  ran-align = rw (add-zero, ← skip) (ends-in st′ k (skip-end st low skip))
+
+  pub align-then : (g : List ℕ → Format) → ran t st k (item Item.align ▹ g) ≡ ran t st′ k (g [])
+  align-then g = ran-then t st k (item Item.align) g ∙ ap (resume t k g) ran-align ∙ (let z : k - k ≡ 0 = omega arith in rw z)
+
+  pub align-on : (g : List ℕ → Format) {x : Seen} → x ≡ ran t st′ k (g []) → x ≡ ran t st k (item Item.align ▹ g)
+  align-on g d = d ∙ sym (align-then g)
+
+-- bits in front of a spelling
+pub laid-before : (st : State) (xs : List Bool) (b : Bits) → laid st (before xs b) ≡ laid (lay st xs) b
+laid-before st xs (spelt bs) = ap sunk (lay-append st xs bs)
+laid-before st xs none = refl
+
+pub laid-in : (st : State) (b : Bits) {bs : List Bool} {st′ : State} → b ≡ spelt bs → st′ ≡ lay st bs → sunk st′ ≡ laid st b
+laid-in st b e d = rw (e, d)
+
+pub laid-no : (st : State) (b : Bits) → b ≡ none → unsunk ≡ laid st b
+laid-no st b e = rw e

@@ -1,0 +1,112 @@
+// The spellings of one number, from a whole byte on.
+ghost use mathlib.Core.Path.{_≡_};
+ghost use Prim.Native.Nat.{_<_, _≤_};
+ghost use Rattle.format.specs.Bits.{high};
+ghost use Rattle.format.specs.WritingItems.{spellUB, spellVar, spellI32, spellLE};
+ghost use Rattle.sink.specs.Laying.{mk};
+ghost use Rattle.spelling.specs.Writing.{laid, got, OnByte};
+ghost use Rattle.spelling.specs.Spellings.{spellingOf};
+use crate::Spelt;
+use bits::BitPlace;
+use items::Item;
+use sink::Sink;
+use sink::Whole;
+use sink::put_byte;
+
+// One byte.
+fn spell_byte(out: &mut [u8], at: Whole, v: u64) -> Spelt
+    requires { ⌜ OnByte (at .byte .0) (at .bit .0) ⌝ }
+    ensures { λ r. ⌜ got (now (out .exit)) r ≡ laid (mk (now (out .entry)) (at .bit .0) 0) (spellUB high 8 v) ⌝ }
+{
+    if 255 < v {
+        return Spelt::No;
+    }
+    let i = at.byte.0;
+    put_byte(out, i, v);
+    Spelt::In(Sink {
+        place: BitPlace(at.bit.0 + 8),
+        part: 0,
+    })
+}
+
+// A Float: four bytes, lowest first.
+fn spell_float(out: &mut [u8], at: Whole, v: u64) -> Spelt
+    requires { ⌜ OnByte (at .byte .0) (at .bit .0) ⌝ }
+    ensures { λ r. ⌜ got (now (out .exit)) r ≡ laid (mk (now (out .entry)) (at .bit .0) 0) (spellLE high v 4) ⌝ }
+{
+    if 4294967295 < v {
+        return Spelt::No;
+    }
+    let i = at.byte.0;
+    put_byte(out, i, v % 256);
+    put_byte(out, i + 1, v / 256 % 256);
+    put_byte(out, i + 2, v / 65536 % 256);
+    put_byte(out, i + 3, v / 16777216);
+    Spelt::In(Sink {
+        place: BitPlace(at.bit.0 + 32),
+        part: 0,
+    })
+}
+
+// Seven bits a byte, lowest first: at most `most` bytes with the top bit set, and a last one, which is at most `top` after so many.
+fn spell_var(out: &mut [u8], at: Whole, v: u64, most: u64, top: u64) -> Spelt
+    requires { ⌜ OnByte (at .byte .0) (at .bit .0) × (most ≤ 9) × (top < 128) ⌝ }
+    ensures { λ r. ⌜ got (now (out .exit)) r ≡ laid (mk (now (out .entry)) (at .bit .0) 0) (spellVar high top v most) ⌝ }
+{
+    let mut i = at.byte.0;
+    let mut next = at.bit.0;
+    let mut rest = v;
+    let mut left = most;
+    while 128 <= rest {
+        if left == 0 {
+            return Spelt::No;
+        }
+        put_byte(out, i, 128 + rest % 128);
+        rest /= 128;
+        i += 1;
+        next += 8;
+        left -= 1;
+    }
+    if left == 0 {
+        if top < rest {
+            return Spelt::No;
+        }
+    }
+    put_byte(out, i, rest);
+    Spelt::In(Sink {
+        place: BitPlace(next + 8),
+        part: 0,
+    })
+}
+
+// I32: twice the magnitude, plus 1 for a negative number, which the wrapping difference turns back.
+fn spell_i32(out: &mut [u8], at: Whole, v: u64) -> Spelt
+    requires { ⌜ OnByte (at .byte .0) (at .bit .0) ⌝ }
+    ensures { λ r. ⌜ got (now (out .exit)) r ≡ laid (mk (now (out .entry)) (at .bit .0) 0) (spellI32 high v) ⌝ }
+{
+    if v < 9223372036854775808 {
+        return spell_var(out, at, v * 2, 4, 15);
+    }
+    let magnitude = std::num::wrapping_sub_u64(0, v);
+    if 2147483647 < magnitude {
+        return Spelt::No;
+    }
+    spell_var(out, at, magnitude * 2 + 1, 4, 15)
+}
+
+// One number by its kind; its range is looked at before.
+pub(crate) fn spell_item(kind: Item, out: &mut [u8], at: Whole, v: u64) -> Spelt
+    requires { ⌜ OnByte (at .byte .0) (at .bit .0) ⌝ }
+    ensures { λ r. ⌜ got (now (out .exit)) r ≡ laid (mk (now (out .entry)) (at .bit .0) 0) (spellingOf kind v) ⌝ }
+{
+    match kind {
+        Item::U32 => spell_var(out, at, v, 4, 15),
+        Item::Count(_) => spell_var(out, at, v, 4, 15),
+        Item::I32 => spell_i32(out, at, v),
+        Item::Time => spell_var(out, at, v, 9, 1),
+        Item::Float => spell_float(out, at, v),
+        Item::Byte => spell_byte(out, at, v),
+        Item::Enum(_) => spell_byte(out, at, v),
+        Item::BlendMode => spell_byte(out, at, v),
+    }
+}

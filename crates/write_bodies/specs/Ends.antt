@@ -1,0 +1,27 @@
+-- The end of a body: its values are used up, and zero bits go up to a whole byte.
+use Prim.Native.Nat.{ℕ, _/_}
+use mathlib.Core.List.{List}
+use lib.Dec.{eqb}
+use Rattle.format.specs.Tests.{pick}
+use Rattle.format.specs.Bits.{high}
+use Rattle.format.specs.Items.{skipped}
+use Rattle.format.specs.WritingItems.{dig}
+use Rattle.sink.specs.Lain.{Lain, lain, unlain}
+use Rattle.sink.specs.Laying.{State, lay}
+use Rattle.spelling.specs.Writing.{Seen, here, gone, Fine}
+use Rattle.spelling.specs.declared.Put.{Put}
+use Rattle.spelling.specs.declared.Put.the-variants.{Done, Impossible}
+
+-- the state after the skip to a whole byte
+abbrev pub skippedTo : State → State
+skippedTo st = lay st (dig high (skipped (st .place)) 0)
+
+-- n values are to be used up
+abbrev pub concluded : ℕ → Seen → Lain
+concluded n (here st k) = pick (eqb k n) (lain (skippedTo st .bytes) (skippedTo st .place / 8)) unlain
+concluded n gone = unlain
+
+-- a sink that code may go on with, if there is one
+abbrev pub FineAfter : Put → Type 0
+FineAfter (Done s k) = Fine s
+FineAfter Impossible = Unit {0}

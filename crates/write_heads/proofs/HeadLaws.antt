@@ -1,0 +1,90 @@
+-- Numbers stored byte by byte, bytes moved up, and the header before a body.
+use Prim.Native.Nat.{ℕ, suc, _+_, _-_, _*_, _≤_, _<_, min}
+use mathlib.Core.Bool.{Bool, true, false}
+use mathlib.Core.List.{List, [], _∷_, _++_}
+use mathlib.Core.Path.{_≡_, refl, ap, ap₂, sym, _∙_}
+use native.Mathlib.Numerals.{add-one}
+use native.Mathlib.Nat.{add-zero}
+use native.Mathlib.Omega.{arith}
+use lib.Dec.{ltb}
+use borrow.Author.Tests.{lt-ltb, le-ltb, ltb-true, ltb-false}
+use lib.ListN.{length, set, getD, take, drop, length-take, length-drop}
+use lib.Seq.{sets, getD-take, getD-drop, drop-cons}
+use Rattle.format.specs.WritingFiles.{spell16, spell32, spellHead}
+use Rattle.table.proofs.EngineLaws.{sets-append}
+use Rattle.table.proofs.TextLaws.{set-sets}
+use Rattle.write_heads.specs.Heads.{Closed}
+use Rattle.write_heads.proofs.StoreLaws.{at-low, none-left, sets-out, sets-same, drop-sets, sets-comm}
+
+pub two-stored : (l : List ℕ) (a x y : ℕ) {u w : List ℕ} → u ≡ set l a x → w ≡ set u (a + 1) y → w ≡ sets l a (x ∷ y ∷ [])
+two-stored l a x y e d = d ∙ rw (e, add-one a)
+
+pub four-stored : (l : List ℕ) (a x y z v : ℕ) {u w s t : List ℕ} → u ≡ set l a x → w ≡ set u (a + 1) y → s ≡ set w (a + 2) z → t ≡ set s (a + 3) v → t ≡ sets l a (x ∷ y ∷ z ∷ v ∷ [])
+four-stored l a x y z v e d f g =
+    let p : a + 1 ≡ suc a = omega arith in
+    let q : a + 2 ≡ suc (suc a) = omega arith in
+    let r : a + 3 ≡ suc (suc (suc a)) = omega arith in
+    g ∙ rw (f, d, e, p, q, r)
+
+-- ---- n bytes at a, moved up by four from the last one on: those from the i-th on have been moved
+abbrev pub movedFrom : List ℕ → ℕ → ℕ → ℕ → List ℕ
+movedFrom l a n i = sets l (a + 4 + i) (drop i (take n (drop a l)))
+
+module _ (l : List ℕ) (a n : ℕ) where
+  pub move-none : (i : ℕ) → i ≡ min n (length l - (a + 4)) → l ≡ movedFrom l a n i
+  move-none i e = go (ltb i n) refl
+    where
+      go : (c : Bool) → ltb i n ≡ c → l ≡ movedFrom l a n i
+      go true q = sym (sets-out l (a + 4 + i) (drop i (take n (drop a l))) (omega (arith, ltb-true i n q)))
+      go false q = rw (none-left (take n (drop a l)) i (rw length-take (omega (arith, ltb-false i n q))))
+
+  pub move-next : (i : ℕ) (u : List ℕ) → 0 < i → i ≤ min n (length l - (a + 4)) → u ≡ movedFrom l a n i
+      → set u (a + (i - 1) + 4) (getD u (a + (i - 1)) 0) ≡ movedFrom l a n (i - 1)
+  move-next i u h g e =
+      let v : getD u (a + (i - 1)) 0 ≡ getD (take n (drop a l)) (i - 1) 0 =
+      ap (λ (s : List ℕ). getD s (a + (i - 1)) 0) e ∙ at-low l (a + 4 + i) (drop i (take n (drop a l))) (a + (i - 1)) (omega arith)
+      ∙ sym (getD-take n (drop a l) (i - 1) 0 (omega arith) ∙ getD-drop a l (i - 1) 0) in
+      let p : a + (i - 1) + 4 ≡ a + 4 + (i - 1) = omega arith in
+      let q : a + 4 + i ≡ suc (a + 4 + (i - 1)) = omega arith in
+      let r : i ≡ suc (i - 1) = omega arith in
+      let long : i - 1 < length (take n (drop a l)) = rw (length-take, length-drop) (omega arith) in
+      let e′ : u ≡ sets l (suc (a + 4 + (i - 1))) (drop (suc (i - 1)) (take n (drop a l))) = e ∙ ap₂ (λ (x y : ℕ). sets l x (drop y (take n (drop a l)))) q r in
+      ap₂ (λ (x y : ℕ). set u x y) p v ∙ ap (λ (s : List ℕ). set s (a + 4 + (i - 1)) (getD (take n (drop a l)) (i - 1) 0)) e′
+      ∙ set-sets l (a + 4 + (i - 1)) (suc (a + 4 + (i - 1))) (getD (take n (drop a l)) (i - 1) 0) (drop (suc (i - 1)) (take n (drop a l))) (omega arith)
+      ∙ ap (sets l (a + 4 + (i - 1))) (sym (drop-cons (take n (drop a l)) (i - 1) 0 long))
+
+  pub move-all : (i : ℕ) (u : List ℕ) → i ≡ 0 → u ≡ movedFrom l a n i → u ≡ sets l (a + 4) (take n (drop a l))
+  move-all i u z e = e ∙ rw z (ap (λ (k : ℕ). sets l k (take n (drop a l))) (add-zero (a + 4)))
+
+-- ---- the header before a body of n bytes
+module _ (l : List ℕ) (a code n : ℕ) where
+  short : n < 63 → spellHead code n ≡ spell16 (code * 64 + n)
+  short h = rw (lt-ltb n 63 h)
+
+  long : 63 ≤ n → spellHead code n ≡ spell16 (code * 64 + 63) ++ spell32 n
+  long h = rw (le-ltb n 63 h)
+
+  pub close-short : {u : List ℕ} {stop : ℕ} → a + 2 + n ≡ stop → n < 63 → u ≡ sets l a (spell16 (code * 64 + n)) → Closed l a code n u stop
+  close-short e h d = record {
+    put = d ∙ sym (
+        ap (λ (x : List ℕ). sets l a (x ++ take n (drop (a + 2) l))) (short h)
+        ∙ sets-append l a (spell16 (code * 64 + n)) (take n (drop (a + 2) l))
+        ∙ ap (λ (x : List ℕ). sets (sets l a (spell16 (code * 64 + n))) (a + 2) (take n x)) (sym (drop-sets l a (spell16 (code * 64 + n)) (a + 2) (omega arith)))
+        ∙ sets-same n (sets l a (spell16 (code * 64 + n))) (a + 2)
+        );
+    place = rw (short h) (omega arith);
+  }
+
+  pub close-long : {u v w : List ℕ} {next : ℕ} → a + 6 + n ≡ next → 63 ≤ n → u ≡ sets l (a + 2 + 4) (take n (drop (a + 2) l)) → v ≡ sets u a (spell16 (code * 64 + 63))
+      → w ≡ sets v (a + 2) (spell32 n) → Closed l a code n w next
+  close-long e h d f g =
+      let q : a + 2 + 4 ≡ a + 6 = omega arith in
+      record {
+        put = g ∙ rw (f, d, q) (sym (sets-append (sets l (a + 6) (take n (drop (a + 2) l))) a (spell16 (code * 64 + 63)) (spell32 n)))
+            ∙ sets-comm l (a + 6) (take n (drop (a + 2) l)) a (spell16 (code * 64 + 63) ++ spell32 n) (omega arith)
+            ∙ sym (
+            ap (λ (x : List ℕ). sets l a (x ++ take n (drop (a + 2) l))) (long h)
+            ∙ sets-append l a (spell16 (code * 64 + 63) ++ spell32 n) (take n (drop (a + 2) l))
+            );
+        place = rw (long h) (omega arith);
+      }

@@ -1,0 +1,2 @@
+pub mod Stood
+pub mod Tags

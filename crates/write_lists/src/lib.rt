@@ -1,0 +1,182 @@
+// Tag lists, written from the numbers of a lent table. What stands in a tag is put first, two bytes after the tag's place, and then its header
+// before it (`write_heads::close`). So a container's body is not walked again to measure it: a byte moves at most once for each depth.
+ghost use mathlib.Core.Path.{_≡_};
+ghost use Prim.Native.Nat.{_+_, _≤_, _<_};
+ghost use lib.ListN.{length, getD, drop};
+ghost use Rattle.format.specs.Bits.{high};
+ghost use Rattle.format.specs.FileAndTags.{classOf};
+ghost use Rattle.format.specs.WritingFiles.{unwalkList};
+ghost use Rattle.classes.specs.Classes.{contains, ends};
+ghost use Rattle.sink.specs.Lain.{longest, lies, lainAs};
+ghost use Rattle.write_lists.specs.Stood.{over, stoodAs};
+ghost use Rattle.write_lists.specs.Tags.{asBytes, valuesIn, begun, shut as «shutBy», shutAs, After};
+use classes::Class;
+use sink::Body;
+
+// The next byte place and the index of the next number; or no file has the tags.
+pub enum Wrote {
+    Done(usize, usize),
+    Impossible,
+}
+
+// The values of an opaque tag are its bytes, in one plain loop.
+fn copy_bytes(values: &[u64], out: &mut [u8], at: usize) -> Body
+    requires { ⌜ at ≤ longest ⌝ }
+    ensures { λ r. ⌜ lainAs (now (out .exit)) r ≡ lies (now (out .entry)) at (asBytes (now (values .entry))) ⌝ }
+{
+    let n = values.len();
+    if 16777216 - at < n {
+        return Body::No;
+    }
+    let mut i = 0;
+    while i < n {
+        let x = values[i];
+        if 255 < x {
+            return Body::No;
+        }
+        sink::put_byte(out, at + i, x);
+        i += 1;
+    }
+    Body::To(at + n)
+}
+
+// The values of a tag, by its class.
+fn write_values(class: Class, code: u32, values: &[u64], out: &mut [u8], at: usize) -> Body
+    requires { ⌜ at ≤ longest ⌝ }
+    ensures { λ r. ⌜ lainAs (now (out .exit)) r ≡ lies (now (out .entry)) at (valuesIn class code (now (values .entry))) ⌝ }
+{
+    match class {
+        Class::Opaque => copy_bytes(values, out, at),
+        Class::End => if values.len() == 0 {
+            Body::To(at)
+        } else {
+            Body::No
+        },
+        Class::Container => write_bodies::write_front(code, values, out, at),
+        Class::Fixed => write_bodies::write_body(code, values, out, at),
+        Class::Attributes => write_bodies::write_body(code, values, out, at),
+    }
+}
+
+// The tag at index k without its header, and a container without its list too.
+fn begin_tag(class: Class, code: u32, out: &mut [u8], at: usize, t: &[u64], k: usize) -> Wrote
+    requires { ⌜ (at ≤ longest + 2) × (k < length (now t)) × (code ≡ getD (now t) k 0) ⌝ }
+    ensures { λ r. ⌜ stoodAs (now (out .exit)) r ≡ over (now (out .entry)) at k (begun class (drop k (now (t .entry)))) ⌝ }
+{
+    if 16777216 < at {
+        return Wrote::Impossible;
+    }
+    let rest = t.len() - k;
+    if rest < 3 {
+        return Wrote::Impossible;
+    }
+    let state = t[k + 1];
+    let count = t[k + 2];
+    if ((rest - 3) as u64) < count {
+        return Wrote::Impossible;
+    }
+    if state != tags::state(class) {
+        return Wrote::Impossible;
+    }
+    let from = k + 3;
+    let to = from + count as usize;
+    let body = write_values(class, code, &t[from..to], out, at);
+    let Body::To(stop) = body else {
+        return Wrote::Impossible;
+    };
+    Wrote::Done(stop, to)
+}
+
+// The header of the tag at a place, before what was put two bytes after it.
+fn shut(out: &mut [u8], place: usize, code: u32, w: Wrote) -> Wrote
+    requires { ⌜ After place w × (code < 1024) ⌝ }
+    ensures { λ r. ⌜ stoodAs (now (out .exit)) r ≡ shutAs (now (out .entry)) place code w ⌝ }
+{
+    let Wrote::Done(stop, j) = w else {
+        return w;
+    };
+    let next = write_heads::close(out, place, code, stop);
+    if 16777216 < next {
+        return Wrote::Impossible;
+    }
+    Wrote::Done(next, j)
+}
+
+// A whole tag that is no container.
+fn write_leaf(class: Class, code: u32, out: &mut [u8], place: usize, t: &[u64], k: usize) -> Wrote
+    requires { ⌜ (place ≤ longest) × (k < length (now t)) × (code ≡ getD (now t) k 0) × (code < 1024) ⌝ }
+    ensures { λ r. ⌜ stoodAs (now (out .exit)) r ≡ over (now (out .entry)) place k («shutBy» code (begun class (drop k (now (t .entry))))) ⌝ }
+{
+    let w = begin_tag(class, code, out, place + 2, t, k);
+    shut(out, place, code, w)
+}
+
+// Whether a list stands in a tag of this class.
+fn holds_list(class: Class) -> bool
+    ensures { λ r. ⌜ r ≡ contains class ⌝ }
+{
+    match class {
+        Class::Container => true,
+        Class::End => false,
+        Class::Opaque => false,
+        Class::Fixed => false,
+        Class::Attributes => false,
+    }
+}
+
+// Whether a tag of this class ends its list.
+fn ends_list(class: Class) -> bool
+    ensures { λ r. ⌜ r ≡ ends class ⌝ }
+{
+    match class {
+        Class::End => true,
+        Class::Container => false,
+        Class::Opaque => false,
+        Class::Fixed => false,
+        Class::Attributes => false,
+    }
+}
+
+// The tag list whose numbers start at an index; `left` depths may lie below it. It calls itself for the list in a container.
+pub fn write_list(level: u32, left: u32, out: &mut [u8], at: usize, t: &[u64], from: usize) -> Wrote
+    requires { ⌜ (at ≤ longest) × (from ≤ length (now t)) ⌝ }
+    ensures { λ r. ⌜ stoodAs (now (out .exit)) r ≡ over (now (out .entry)) at from (unwalkList high (classOf level) left (drop from (now (t .entry)))) ⌝ }
+{
+    let mut place = at;
+    let mut k = from;
+    while k < t.len() {
+        let number = t[k];
+        if 1023 < number {
+            return Wrote::Impossible;
+        }
+        let code = number as u32;
+        let class = classes::class_of(level, code);
+        if holds_list(class) {
+            if left == 0 {
+                return Wrote::Impossible;
+            }
+            let b = begin_tag(class, code, out, place + 2, t, k);
+            let Wrote::Done(p, j) = b else {
+                return b;
+            };
+            let list = write_list(level, left - 1, out, p, t, j);
+            let w = shut(out, place, code, list);
+            let Wrote::Done(next, i) = w else {
+                return w;
+            };
+            place = next;
+            k = i;
+        } else {
+            let w = write_leaf(class, code, out, place, t, k);
+            let Wrote::Done(next, i) = w else {
+                return w;
+            };
+            if ends_list(class) {
+                return w;
+            }
+            place = next;
+            k = i;
+        }
+    }
+    Wrote::Impossible
+}

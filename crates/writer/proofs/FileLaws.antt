@@ -1,0 +1,152 @@
+-- From the writer's definition, and how its tags stand over an output, to the promise of `write`.
+use Prim.Native.Nat.{ℕ, _+_, _-_, _≤_, _<_}
+use mathlib.Core.Bool.{Bool, true, false}
+use mathlib.Core.List.{List, [], _∷_, _++_}
+use mathlib.Core.Path.{_≡_, refl, ap, sym, _∙_, subst}
+use native.Mathlib.Nat.{zero-add}
+use native.Mathlib.Omega.{arith}
+use lib.Dec.{leb}
+use borrow.Author.Tests.{le-leb, lt-ltb, le-ltb}
+use lib.ListN.{length, set, getD, drop, length-append, length-drop}
+use lib.Seq.{sets, sets-eq, drop-cons}
+use Rattle.format.specs.Tests.{pick}
+use Rattle.format.specs.Bits.{high}
+use Rattle.format.specs.FileAndTags.{classOf}
+use Rattle.format.specs.WritingBodies.{bytes, impossible}
+use Rattle.format.specs.WritingFiles.{Made, made, unmade, spell32, unwalkList, wholeFile, writeFile}
+use Rattle.format.specs.Reasons as paper
+use Rattle.format.specs.Reasons.{Left, accepted, refusesWith, FileOf, Writes, tooHigh, tooShort, written}
+use Rattle.format.proofs.RoundTrip.{back, no-file}
+use Rattle.table.proofs.EngineLaws.{sets-append}
+use Rattle.sink.specs.Lain.{longest}
+use Rattle.write_heads.proofs.StoreLaws.{sets-comm}
+use Rattle.write_lists.specs.declared.Wrote.{Wrote}
+use Rattle.write_lists.specs.declared.Wrote.the-variants.{Done, Impossible}
+use Rattle.write_lists.specs.Stood.{stood, fell, over, stoodAs}
+use Rattle.write_lists.proofs.StoodLaws.{StoodBy, stood-by, parts-of}
+use Rattle.write_lists.proofs.ListLaws.{parts-list}
+use Rattle.writer.specs.Files.{start}
+
+pub start-stored : (l : List ℕ) (n comp : ℕ) {u v w : List ℕ} → u ≡ sets l 0 (spell32 0x01474150) → v ≡ sets u 4 (spell32 n) → w ≡ set v 8 comp → w ≡ sets l 0 (start n comp)
+start-stored l n comp e d f = f ∙ rw (d, e)
+
+-- the empty output of the run that measures
+pub nothing-lent : (l : List ℕ) → length l ≡ 0 → l ≡ []
+nothing-lent [] h = refl
+nothing-lent (x ∷ l) h = absurd (omega arith)
+
+-- the tags that follow the compression byte
+abbrev pub tags : ℕ → List ℕ → Made
+tags level t = unwalkList high (classOf level) 8 (drop 1 t)
+
+module _ (level : ℕ) (t : List ℕ) where
+  -- ---- what the definition's two answers promise
+  none : level ≤ 1023 → writeFile high level t ≡ impossible → (m : List ℕ) → Writes high level t m (refusesWith m 20 0)
+  none h e m = paper.impossible h (λ f r. no-file high level t e f (r .bytes) (r .reads))
+
+  file-of : (f : List ℕ) → writeFile high level t ≡ bytes f → FileOf high level t f
+  file-of f e = let b = back high level f t e in record { bytes = b .0; reads = b .1 }
+
+  -- ---- by the branches of `write`
+  pub level-high : 1023 < level → (m : List ℕ) → Writes high level t m (refusesWith m 1 0)
+  level-high h m = tooHigh h
+
+  pub no-numbers : level ≤ 1023 → length t ≡ 0 → (m : List ℕ) → Writes high level t m (refusesWith m 20 0)
+  unfolding writeFile
+  no-numbers h z m = none h (go t z) m
+    where
+      go : (t : List ℕ) → length t ≡ 0 → writeFile high level t ≡ impossible
+      go [] e = refl
+      go (x ∷ t) e = absurd (omega arith)
+
+  module _ (h : level ≤ 1023) (some : 0 < length t) where
+    cons : t ≡ getD t 0 0 ∷ drop 1 t
+    cons = drop-cons t 0 0 some
+
+    pub no-byte : 255 < getD t 0 0 → (m : List ℕ) → Writes high level t m (refusesWith m 20 0)
+    unfolding writeFile
+    no-byte l m = none h (ap (writeFile high level) cons ∙ rw (le-ltb 1023 level h, le-ltb (getD t 0 0) 256 (omega arith))) m
+
+    module _ (l : getD t 0 0 ≤ 255) where
+      is : writeFile high level t ≡ wholeFile (getD t 0 0) (tags level t)
+      unfolding writeFile
+      is = ap (writeFile high level) cons ∙ rw (le-ltb 1023 level h, lt-ltb (getD t 0 0) 256 (omega arith))
+
+      pub no-list : fell ≡ over [] 9 1 (tags level t) → (m : List ℕ) → Writes high level t m (refusesWith m 20 0)
+      unfolding over
+      no-list e m = none h (is ∙ go (tags level t) e) m
+        where
+          lim : (b u : List ℕ) (p j : ℕ) (c : Bool) → fell ≡ pick c (stood u p j) fell → pick c (bytes b) impossible ≡ impossible
+          lim b u p j true w = absurd (let z : _≡_ {A = ℕ} 0 1 = cc in omega arith)
+          lim b u p j false w = refl
+
+          go : (m : Made) → fell ≡ over [] 9 1 m → wholeFile (getD t 0 0) m ≡ impossible
+          go unmade q = refl
+          go (made xs b (y ∷ ys)) q = refl
+          go (made xs b []) q = lim (0x50 ∷ 0x41 ∷ 0x47 ∷ 1 ∷ (spell32 (9 + length b) ++ getD t 0 0 ∷ b)) (sets [] 9 b) (9 + length b) (1 + length xs) (leb (9 + length b) longest) q
+
+      -- the tags end at n, and their numbers at k
+      module _ {u : List ℕ} {n k : ℕ} (e : stood u n k ≡ over [] 9 1 (tags level t)) where
+        s : StoodBy [] 9 1 u n k (tags level t)
+        s = stood-by [] 9 1 u n k (tags level t) e
+
+        left : length (s .ys) + k ≡ length t
+        left =
+            let d : drop 1 t ≡ s .xs ++ s .ys = parts-of (drop 1 t) (s .xs) (s .b) (s .ys) (tags level t) (s .is) (parts-list level 8 (drop 1 t)) in
+            omega (arith, ap length d, length-append (s .xs) (s .ys), length-drop 1 t, s .index)
+
+        pub small : n ≤ longest
+        small = s .small
+
+        pub numbers-left : k < length t → (m : List ℕ) → Writes high level t m (refusesWith m 20 0)
+        numbers-left q m = none h (is ∙ ap (wholeFile (getD t 0 0)) (s .is) ∙ go (s .ys) (omega (arith, left))) m
+          where
+            go : (ys : List ℕ) → 0 < length ys → wholeFile (getD t 0 0) (made (s .xs) (s .b) ys) ≡ impossible
+            go [] w = absurd (omega arith)
+            go (y ∷ ys) w = refl
+
+        module _ (q : length t ≤ k) where
+          -- the file
+          file : List ℕ
+          file = start n (getD t 0 0) ++ s .b
+
+          long : length file ≡ n
+          unfolding file
+          long = omega (arith, s .place, length-append (start n (getD t 0 0)) (s .b))
+
+          file-is : FileOf high level t file
+          unfolding file
+          file-is = file-of file (is ∙ ap (wholeFile (getD t 0 0)) (s .is) ∙ go (s .ys) (omega (arith, left)))
+            where
+              go : (ys : List ℕ) → length ys ≡ 0 → wholeFile (getD t 0 0) (made (s .xs) (s .b) ys) ≡ bytes (start n (getD t 0 0) ++ s .b)
+              go (y ∷ ys) w = absurd (omega arith)
+              go [] w = rw (le-leb (9 + length (s .b)) longest (omega (arith, s .place, s .small)), ← s .place)
+
+          pub no-room : (m : List ℕ) → length m < n → Writes high level t m (refusesWith m 21 n)
+          no-room m w = subst (λ (x : ℕ). Writes high level t m (refusesWith m 21 x)) long (tooShort file file-is (omega (arith, long)))
+
+          -- the tags once more, on the lent output
+          laid : (m v : List ℕ) (R : Wrote) → stoodAs v R ≡ over m 9 1 (tags level t) → v ≡ sets m 9 (s .b)
+          unfolding over
+          laid m v (Done n′ k′) e′ =
+              let s′ = stood-by m 9 1 v n′ k′ (tags level t) e′ in
+              let z : made (s′ .xs) (s′ .b) (s′ .ys) ≡ made (s .xs) (s .b) (s .ys) = sym (s′ .is) ∙ s .is in
+              let same : s′ .b ≡ s .b = cc in
+              s′ .out ∙ ap (sets m 9) same
+          laid m v Impossible e′ =
+              let w : fell ≡ stood (sets m 9 (s .b)) (9 + length (s .b)) (1 + length (s .xs)) =
+              e′ ∙ ap (over m 9 1) (s .is) ∙ rw (le-leb (9 + length (s .b)) longest (omega (arith, s .place, s .small))) in
+              absurd (let z : _≡_ {A = ℕ} 0 1 = cc in omega arith)
+
+          -- and the start before them
+          pub file-put : (m v w : List ℕ) (R : Wrote) → n ≤ length m → stoodAs v R ≡ over m 9 1 (tags level t) → w ≡ sets v 0 (start n (getD t 0 0))
+              → Writes high level t m (record { answer = accepted n; lent = w })
+          unfolding file
+          file-put m v w R room e′ d =
+              let put : w ≡ file ++ drop (length file) m =
+              d ∙ ap (λ (x : List ℕ). sets x 0 (start n (getD t 0 0))) (laid m v R e′)
+              ∙ sets-comm m 9 (s .b) 0 (start n (getD t 0 0)) (omega arith)
+              ∙ sym (sets-append m 0 (start n (getD t 0 0)) (s .b))
+              ∙ sets-eq file m 0 (omega (arith, long))
+              ∙ ap (λ (x : ℕ). file ++ drop x m) (zero-add (length file)) in
+              subst (λ (x : Left). Writes high level t m x) (λ i. record { answer = accepted (long i); lent = sym put i }) (written file file-is (omega (arith, long)))

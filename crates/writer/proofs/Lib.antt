@@ -1,0 +1,3 @@
+-- What the proofs of this crate cite, and its theorems.
+pub mod FileLaws
+pub mod Demands
