@@ -3,7 +3,7 @@ ghost use mathlib.Core.Path.{_≡_};
 ghost use Rattle.format.specs.Bits.{high};
 ghost use Rattle.format.specs.Reasons.{readFile, readTags, into};
 ghost use Rattle.bit_reader.specs.Fields.{fieldOf};
-ghost use Rattle.pag.specs.Plain.{plain, leavesPlain};
+ghost use Rattle.pag.specs.Plain.{plain, leavesPlain, WritesPlain};
 ghost use Rattle.pag.specs.PlainBits.{plainStep, plainField, isSigned};
 use answers::Answer;
 use bit_reader::Field;
@@ -41,6 +41,13 @@ pub extern "C" fn pag_read(level: u32, file: &[u8], table: &mut [u64]) -> PagAns
 #[no_mangle]
 pub extern "C" fn pag_tags(level: u32, file: &[u8], tags: &mut [u32]) -> PagAnswer
     ensures { λ r. ⌜ leavesPlain (now (tags .exit)) r (into (now (tags .entry)) (readTags high level (now (file .entry)))) ⌝ }
+
+#[no_mangle]
+pub extern "C" fn pag_write(level: u32, table: &[u64], out: &mut [u8]) -> PagAnswer
+    ensures { λ r. ⌜ WritesPlain level (now (table .entry)) (now (out .entry)) (now (out .exit)) r ⌝ }
+{
+    plain(writer::write(level, table, out))
+}
 {
     plain(reader::tags(level, file, tags))
 }
