@@ -3,11 +3,10 @@ use mathlib.Core.Path.{_≡_, refl, sym, ap, ap₂, _∙_, subst}
 use mathlib.Core.List.{List, [], _∷_, _++_}
 use mathlib.Core.Bool.{Bool, true, false}
 use Prim.Native.Nat.{ℕ, zero, suc, _+_, _-_, _*_, _/_, _%_, _^_, _≤_, _<_}
-use native.Mathlib.Nat.{add-zero, zero-add, add-suc, suc-add, add-assoc, mul-assoc, mul-comm, mul-one, zero-mul, pow-zero, pow-suc, mod-lt, add-mul, div-lt-iff-lt-mul, div-add-mod'}
-use native.Mathlib.Numerals.{add-one}
+use native.Mathlib.Nat.{add-zero, zero-add, suc-add, mul-assoc, mul-comm, zero-mul, pow-zero, pow-suc, mod-lt, add-mul, div-lt-iff-lt-mul}
 use native.Mathlib.Omega.{arith}
-use lib.ListN.{length, set, take, drop, length-append, length-set, length-drop, take-append-drop}
-use lib.Seq.{sets, set-out}
+use lib.ListN.{length, set, drop, length-drop, take-append-drop}
+use lib.Seq.{sets}
 use lib.Arith.{digits-lt}
 use lib.Pow.{pow-pos, pow-lt, pow-add, high as hi, low as lo, split, shr-lt}
 use lib.Dec.{eqb}

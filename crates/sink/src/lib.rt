@@ -5,7 +5,7 @@ ghost use lib.ListN.{set};
 ghost use Rattle.format.specs.Bits.{high};
 ghost use Rattle.format.specs.Items.{skipped};
 ghost use Rattle.format.specs.WritingItems.{dig};
-ghost use Rattle.sink.specs.Laying.{mk, at as «under», lay, Holds, Skipped};
+ghost use Rattle.sink.specs.Laying.{at as «under», lay, Holds, Skipped};
 use bits::BitPlace;
 use bits::BytePlace;
 

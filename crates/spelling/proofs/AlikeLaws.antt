@@ -5,8 +5,8 @@ use mathlib.Core.Path.{_≡_, refl, sym, ap, ap₂, _∙_, subst}
 use mathlib.Core.Bool.{Bool, true, false}
 use native.Mathlib.Omega.{arith}
 use lib.ListN.{length, length-append, drop}
-use Rattle.format.specs.Bits.{high, bitAt}
-use Rattle.format.specs.Reading.{At, Fault, Ending, Reading, shows}
+use Rattle.format.specs.Bits.{high}
+use Rattle.format.specs.Reading.{Reading, shows}
 use Rattle.format.specs.Formats.{Format}
 use Rattle.format.specs.Items.{run}
 use Rattle.format.specs.WritingItems.{dig, Written, wrote, cannot}
@@ -15,7 +15,7 @@ use Rattle.format.specs.WritingBodies.{bit, pack}
 use Rattle.format.proofs.BitLaws.{Has, length-dig}
 use Rattle.format.proofs.ByteLaws.{has-pack, length-pack}
 use Rattle.format.proofs.ItemLaws.{round-trip}
-use Rattle.format.proofs.Trip.{has-split, There, ThereIf, Back, BackIf}
+use Rattle.format.proofs.Trip.{has-split, There, ThereIf, Back}
 use Rattle.sink.specs.Laying.{State}
 use Rattle.spelling.specs.Writing.{after, ran}
 

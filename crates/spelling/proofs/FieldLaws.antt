@@ -1,19 +1,18 @@
 -- Fields, widths and runs of fields, written.
 use Prim.Native.Nat.{ℕ, zero, suc, pred, _+_, _-_, _*_, _/_, _%_, _^_, _≤_, _<_}
-use mathlib.Core.List.{List, [], _∷_, _++_}
+use mathlib.Core.List.{List, [], _∷_}
 use mathlib.Core.Path.{_≡_, refl, sym, ap, _∙_, subst}
 use mathlib.Core.Bool.{Bool, true, false}
-use native.Mathlib.Nat.{add-zero, pow-suc}
-use native.Mathlib.Numerals.{add-one}
+use native.Mathlib.Nat.{pow-suc}
 use native.Mathlib.Omega.{arith}
 use lib.ListN.{length, getD, take, drop, length-drop}
 use lib.Seq.{getD-drop}
 use lib.Pow.{pow-pos, pow-lt}
-use lib.Dec.{leb, ltb, eqb}
+use lib.Dec.{leb, ltb}
 use borrow.Author.Tests.{lt-ltb, le-ltb, eq-eqb, ne-eqb, ltb-false, leb-true, leb-false}
 use Rattle.format.specs.Tests.{pick}
 use Rattle.format.specs.Bits.{high}
-use Rattle.format.specs.Formats.{item, Item, Format, _▹_, times, the}
+use Rattle.format.specs.Formats.{item, Item, _▹_, times, the}
 use Rattle.format.specs.Items.{signExtend}
 use Rattle.format.specs.WritingItems.{dig, Bits, spelt, none, single, writeItem, spellUB, undo, unextend}
 use Rattle.format.specs.WritingFormats.{unrun}
@@ -24,10 +23,10 @@ use Rattle.sink.specs.Laying.{State, at}
 use Rattle.sink.specs.declared.Sink.{Sink}
 use Rattle.spelling.specs.declared.Put.{Put}
 use Rattle.spelling.specs.declared.Put.the-variants.{Done, Impossible}
-use Rattle.spelling.specs.Writing.{Sunk, sunk, unsunk, laid, Seen, here, gone, seen, ran, limit, Fine}
+use Rattle.spelling.specs.Writing.{Sunk, laid, gone, seen, ran, Fine}
 use Rattle.spelling.specs.Spellings.{fieldSpelling, Announces}
 use Rattle.spelling.proofs.RunLaws.{then-done, then-stop, times-none, times-next, times-stop, ran-fine, one-done, OneDone, the-one}
-use Rattle.spelling.proofs.NumberLaws.{single-eq, passing-single}
+use Rattle.spelling.proofs.NumberLaws.{passing-single}
 
 -- ---- UB[w]
 pub ub-in : (w v : ℕ) → v < 2 ^ w → spellUB high w v ≡ spelt (dig high w v)

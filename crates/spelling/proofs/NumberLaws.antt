@@ -1,22 +1,22 @@
 -- The spellings of one number as the code has them, and the items of one number.
 use Prim.Native.Nat.{ℕ, zero, suc, _+_, _-_, _*_, _/_, _%_, _^_, _≤_, _<_}
 use mathlib.Core.List.{List, [], _∷_}
-use mathlib.Core.Path.{_≡_, refl, sym, ap, _∙_, subst}
+use mathlib.Core.Path.{_≡_, refl, sym, ap, _∙_}
 use mathlib.Core.Bool.{Bool, true, false}
 use native.Mathlib.Omega.{arith}
 use lib.ListN.{length, getD, set}
 use lib.Dec.{leb, ltb, eqb}
-use borrow.Author.Tests.{lt-ltb, le-ltb, le-leb, lt-leb, eq-eqb, ne-eqb, eqb-true, leb-true, leb-false}
+use borrow.Author.Tests.{lt-ltb, le-ltb, le-leb, lt-leb, eq-eqb, ne-eqb, leb-true}
 use Rattle.format.specs.Tests.{pick, _and_, _or_}
 use Rattle.format.specs.Bits.{high}
 use Rattle.format.specs.Formats.{Format, _▹_, the}
 use Rattle.format.specs.Items.{skipped}
-use Rattle.format.specs.WritingItems.{dig, Bits, spelt, none, before, Written, wrote, cannot, put, single, writeItem, spellUB, spellVar, spellI32, spellLE}
+use Rattle.format.specs.WritingItems.{dig, Bits, spelt, none, before, put, single, writeItem, spellUB, spellVar, spellI32, spellLE}
 use Rattle.format.specs.WritingFormats.{passing, adjoin, unrun}
-use Rattle.items.specs.Kinds.{formatOf, rangeFault, between}
+use Rattle.items.specs.Kinds.{formatOf, rangeFault}
 use Rattle.items.specs.declared.Item.{Item}
 use Rattle.items.specs.declared.Item.the-variants.{U32, I32, Time, Float, Byte, Enum, BlendMode, Count}
-use Rattle.sink.specs.Laying.{State, mk, at, lay, Skipped}
+use Rattle.sink.specs.Laying.{State, mk, at, Skipped}
 use Rattle.sink.specs.declared.Sink.{Sink}
 use Rattle.sink.proofs.LayingLaws.{lay-byte, lay-none}
 use Rattle.spelling.specs.declared.Put.{Put}

@@ -18,14 +18,14 @@ use Rattle.format.specs.WritingItems.{dig, Bits, spelt, none, before, Written, 
 use Rattle.format.specs.WritingFormats.{adjoin, onward, unrun}
 use Rattle.format.proofs.BitLaws.{length-dig}
 use Rattle.format.proofs.ItemLaws.{round-trip}
-use Rattle.sink.specs.Laying.{State, mk, at, lay, Holds, Skipped}
+use Rattle.sink.specs.Laying.{State, at, lay, Holds, Skipped}
 use Rattle.sink.specs.declared.Sink.{Sink}
 use Rattle.sink.proofs.LayingLaws.{lay-append, lay-none, lay-place, lay-ok}
 use Rattle.spelling.specs.declared.Put.{Put}
 use Rattle.spelling.specs.declared.Put.the-variants.{Done, Impossible}
 use Rattle.spelling.specs.declared.Spelt.{Spelt}
 use Rattle.spelling.specs.declared.Spelt.the-variants.{In, No}
-use Rattle.spelling.specs.Writing.{Sunk, sunk, unsunk, laid, got, Seen, here, gone, seen, ends, after, ran, limit, Fine, finish, OnByte}
+use Rattle.spelling.specs.Writing.{sunk, unsunk, laid, got, Seen, here, gone, seen, ends, after, ran, limit, Fine, finish, OnByte}
 
 -- ---- where a format ends
 pub ends-in : (st : State) (k : ℕ) → st .place ≤ limit → ends st k ≡ here st k

@@ -6,7 +6,7 @@ use mathlib.Core.Bool.{Bool}
 use native.Mathlib.Omega.{arith}
 use lib.ListN.{length, length-append}
 use Rattle.format.specs.Bits.{high}
-use Rattle.format.specs.Formats.{Item, Format, nothing, item, only, _▹_, _▸_}
+use Rattle.format.specs.Formats.{Item, Format, nothing, item, only, _▹_}
 use Rattle.format.specs.Items.{skipped}
 use Rattle.format.specs.WritingItems.{dig, Written, wrote, cannot, writeItem}
 use Rattle.format.specs.WritingFormats.{passing, adjoin, onward, unrun}

@@ -3,12 +3,11 @@ use Prim.Native.Nat.{ℕ, zero, suc, _+_, _-_, _*_, _≤_, _<_}
 use mathlib.Core.List.{List, [], _∷_, _++_}
 use mathlib.Core.Path.{_≡_, refl, sym, ap, ap₂, _∙_}
 use mathlib.Core.Bool.{Bool, true, false}
-use native.Mathlib.Nat.{add-zero}
 use native.Mathlib.Numerals.{add-one}
 use native.Mathlib.Omega.{arith}
 use lib.ListN.{length, getD, set, take, drop, length-append, length-drop}
 use lib.Seq.{drop-cons, length-take-le}
-use lib.Dec.{leb, ltb, eqb}
+use lib.Dec.{leb}
 use borrow.Author.Tests.{lt-ltb, le-ltb, le-leb, lt-leb, eq-eqb, ne-eqb, leb-true}
 use Rattle.format.specs.Tests.{pick}
 use Rattle.format.specs.Bits.{high}
@@ -21,8 +20,8 @@ use Rattle.sink.specs.declared.Sink.{Sink}
 use Rattle.sink.proofs.LayingLaws.{lay-append, lay-byte, lay-place}
 use Rattle.spelling.specs.declared.Spelt.{Spelt}
 use Rattle.spelling.specs.declared.Spelt.the-variants.{In, No}
-use Rattle.spelling.specs.Writing.{Sunk, sunk, unsunk, laid, got, Seen, here, gone, ends, after, ran, limit}
-use Rattle.spelling.proofs.RunLaws.{ends-out, laid-no}
+use Rattle.spelling.specs.Writing.{sunk, unsunk, laid, got, gone, ends, after, ran}
+use Rattle.spelling.proofs.RunLaws.{ends-out}
 use Rattle.spelling.proofs.NumberLaws.{byte-then}
 
 -- ---- the bytes, one by one: i of them are put

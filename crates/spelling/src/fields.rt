@@ -1,6 +1,6 @@
 // Runs of bit fields: verbs, coordinates, interpolations, keyframed Bools and bytes, easing.
 ghost use mathlib.Core.Path.{_≡_};
-ghost use Prim.Native.Nat.{_*_, _≤_, _<_, _^_};
+ghost use Prim.Native.Nat.{_≤_, _<_, _^_};
 ghost use Rattle.format.specs.Bits.{high};
 ghost use Rattle.format.specs.Formats.{item, Item, times, the, _▹_};
 ghost use Rattle.format.specs.Items.{signExtend};

@@ -1,5 +1,5 @@
 -- An attribute block, an attribute at a time: first the flags of all, then the contents.
-use Prim.Native.Nat.{ℕ, suc, _+_, _-_, _≤_, _<_}
+use Prim.Native.Nat.{ℕ, suc, _+_, _≤_, _<_}
 use mathlib.Core.List.{List, [], _∷_, _++_, append-nil}
 use mathlib.Core.Path.{_≡_, refl, sym, ap, _∙_, subst}
 use mathlib.Core.Bool.{Bool, true, false}
@@ -11,7 +11,7 @@ use lib.Dec.{leb}
 use borrow.Author.Tests.{leb-true, leb-false, eq-eqb}
 use Rattle.format.specs.Tests.{pick}
 use Rattle.format.specs.Bits.{high}
-use Rattle.format.specs.Formats.{Item, Format, nothing, item, _▸_}
+use Rattle.format.specs.Formats.{Item, Format, item, _▸_}
 use Rattle.format.specs.Bodies.{Attribute, flagsOf, content, allFlags, rows}
 use Rattle.format.specs.WritingItems.{Written, wrote, cannot, writeItem}
 use Rattle.format.specs.WritingFormats.{adjoin, unrun}

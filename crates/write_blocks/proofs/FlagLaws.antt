@@ -1,7 +1,7 @@
 -- Flag numbers as bits; and what a `match` tells of a content.
 use Prim.Native.Nat.{ℕ, zero, suc, _+_, _/_, _%_, _≤_, _<_}
 use mathlib.Core.List.{List, [], _∷_}
-use mathlib.Core.Path.{_≡_, refl, sym, ap, _∙_, subst}
+use mathlib.Core.Path.{_≡_, refl, sym, ap, _∙_}
 use mathlib.Core.Bool.{Bool, true, false}
 use native.Mathlib.Omega.{arith}
 use lib.ListN.{length, getD, drop}
@@ -14,7 +14,7 @@ use Rattle.format.specs.Bodies as bodies
 use Rattle.format.specs.Bodies.{flagsOf, value, contentOf}
 use Rattle.format.specs.WritingItems.{dig, Bits, spelt, none, put, single, writeItem, spellFlag}
 use Rattle.format.specs.WritingFormats.{unrun}
-use Rattle.attributes.specs.Rows.{kindOf, typeOf}
+use Rattle.attributes.specs.Rows.{kindOf}
 use Rattle.attributes.specs.declared.DataType.{DataType}
 use Rattle.attributes.specs.declared.Kind.{Kind}
 use Rattle.bodies.specs.Leaf.{animatable}

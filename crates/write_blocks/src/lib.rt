@@ -1,7 +1,6 @@
 // Attribute blocks, written: the flags of all attributes, then their contents. In the values each attribute's flag number stands before its content.
 ghost use mathlib.Core.Path.{_≡_};
 ghost use mathlib.Core.List.{[]};
-ghost use Prim.Native.Nat.{_≤_};
 ghost use lib.ListN.{length};
 ghost use Rattle.format.specs.Bits.{high};
 ghost use Rattle.format.specs.Formats.{item};

@@ -1,6 +1,5 @@
 -- The end of a body: its values are used up, and zero bits go up to a whole byte.
 use Prim.Native.Nat.{ℕ, _/_}
-use mathlib.Core.List.{List}
 use lib.Dec.{eqb}
 use Rattle.format.specs.Tests.{pick}
 use Rattle.format.specs.Bits.{high}

@@ -1,17 +1,17 @@
 -- Paths, values and keyframed content, written: the formats of their parts, and what a `match` tells.
 use Prim.Native.Nat.{ℕ, suc, _+_, _-_, _*_, _≤_}
-use mathlib.Core.List.{List, []}
-use mathlib.Core.Path.{_≡_, refl, sym, ap, subst, _∙_}
+use mathlib.Core.List.{List}
+use mathlib.Core.Path.{_≡_, sym, ap, subst, _∙_}
 use native.Mathlib.Numerals.{add-one}
 use native.Mathlib.Omega.{arith}
 use lib.ListN.{take, drop}
 use Rattle.format.specs.Bits.{high}
-use Rattle.format.specs.Formats.{Item, Format, nothing, item, _▸_, times}
+use Rattle.format.specs.Formats.{nothing, _▸_, times}
 use Rattle.format.specs.Items.{skipped, coordinates, time}
 use Rattle.format.specs.Bodies as bodies
 use Rattle.format.specs.Bodies.{value, values, interpolations, beziers, aligned}
 use Rattle.format.specs.WritingItems.{dig}
-use Rattle.table.specs.Fields.{fieldOf, announced}
+use Rattle.table.specs.Fields.{fieldOf}
 use Rattle.table.specs.declared.fields.Field.the-variants.{Verb, Interpolation}
 use Rattle.table.proofs.EngineLaws.{alike-assoc, alike-after}
 use Rattle.table.proofs.FieldLaws.{announced-verbs, announced-frames}

@@ -1,3 +1,4 @@
+-- `sink::power` meets its contract.
 use Prim.Native.Nat.{_*_, _%_, _^_}
 use mathlib.Core.Path.{_≡_, refl}
 use native.Mathlib.Nat.{one-mul, mod-eq-of-lt}

@@ -1,29 +1,23 @@
+-- `sink::put_byte` meets its contract.
 use mathlib.Core.Path.{sym}
 use denote.Ref.{now}
 use lib.Seq.{set-out}
 use borrow.Author.Needs.{needs}
 use Rattle.sink.proofs.put_byte.Statement.{statement}
 use Rattle.sink.proofs.put_byte.Tie as tie
-use Rattle.sink.proofs.put_byte.Reads as reads
-use Rattle.sink.proofs.put_byte.Lts as lts
 
--- src/lib.rt:21:18
 cast-out : tie.Need-cast-out
 cast-out c = search needs
 
--- src/lib.rt:21:9
 slice-write-out : tie.Need-slice-write-out
 slice-write-out c = search needs
 
--- src/lib.rt:16:1
 same-length : tie.Need-same-length
 same-length c = search needs
 
--- src/lib.rt:16:1
 returns : tie.Need-returns
 returns c = search needs
 
--- src/lib.rt:16:1
 returns-2 : tie.Need-returns-2
 returns-2 c = sym (set-out (now (c .before .args .out)) (c .before .args .i) (c .before .args .v) (c .if1 .left))
 

@@ -1,14 +1,11 @@
+-- `spelling::ended` meets its contract.
 use borrow.Author.Tests.{le-leb, lt-leb}
 use Rattle.spelling.proofs.ended.Statement.{statement}
 use Rattle.spelling.proofs.ended.Tie as tie
-use Rattle.spelling.proofs.ended.Reads as reads
-use Rattle.spelling.proofs.ended.Lts as lts
 
--- src/lib.rt:27:1
 returns : tie.Need-returns
 returns c = simp (le-leb _ _ (c .if1 .taken))
 
--- src/lib.rt:27:1
 returns-2 : tie.Need-returns-2
 returns-2 c = simp (lt-leb _ _ (c .if1 .left))
 

@@ -1,3 +1,4 @@
+-- `spelling::write_one` meets its contract.
 use Prim.Native.Nat.{_+_}
 use mathlib.Core.Path.{sym, ap, _∙_}
 use denote.Ref.{now}
@@ -10,72 +11,51 @@ use Rattle.spelling.proofs.NumberLaws.{bitsOf, item-is, item-out, item-
 use borrow.Author.Needs.{needs}
 use Rattle.spelling.proofs.write_one.Statement.{statement}
 use Rattle.spelling.proofs.write_one.Tie as tie
-use Rattle.spelling.proofs.write_one.Reads as reads
-use Rattle.spelling.proofs.write_one.Lts as lts
-use Rattle.items.proofs.out_of_range.Reads as out-of-range-reads
-use Rattle.sink.proofs.align.Reads as align-reads
-use Rattle.spelling.proofs.ended.Reads as ended-reads
-use Rattle.spelling.proofs.numbers.spell_item.Reads as spell-item-reads
 
--- src/lib.rt:44:9
 returns : tie.Need-returns
 returns c = let a = c .before .before .before .args in sym (one-none (formatOf (a .kind)) (bitsOf (a .kind)) (item-is (a .kind)) (now (a .t)) (at (now (a .out)) (a .s)) (a .k) (c .if1 .taken))
 
--- src/lib.rt:46:13
 mul-v : tie.Need-mul-v
 mul-v c = search needs
 
--- src/lib.rt:46:13
 shared-slice-read-v : tie.Need-shared-slice-read-v
 shared-slice-read-v c = search needs
 
--- src/lib.rt:47:8
 out-of-range-requires : tie.Need-out-of-range-requires
 out-of-range-requires c κs = search needs
 
--- src/lib.rt:48:9
 returns-2 : tie.Need-returns-2
 returns-2 c = let a = c .before .before .before .before .before .before .args in sym (one-bad (formatOf (a .kind)) (bitsOf (a .kind)) (item-is (a .kind)) (now (a .t)) (at (now (a .out)) (a .s)) (a .k) (c .before .before .before .if1 .left) (item-out (a .kind) (a .s .place .0) (getD (now (a .t)) (a .k) 0) (c .before .out-of-range .ensures) (c .if2 .taken)))
 
--- src/lib.rt:50:9
 align-requires : tie.Need-align-requires
 align-requires c κs = search needs
 
--- src/lib.rt:51:9
 spell-item-requires : tie.Need-spell-item-requires
 spell-item-requires c κs = let a = c .before .before .before .before .before .before .before .before .before .before .before .args in skip-place (at (now (a .out)) (a .s)) (c .before .before .before .before .before .before .before .before .before .before .before .pre .1) (c .before .before .before .align .ensures)
 
--- src/lib.rt:53:19
 enum-known-r : tie.Need-enum-known-r
 enum-known-r c = search needs
 
--- src/lib.rt:53:40
 add-ended : tie.Need-add-ended
 add-ended c = search needs
 
--- src/lib.rt:53:28
 ended-requires : tie.Need-ended-requires
 ended-requires c κs = search needs
 
--- src/lib.rt:54:22
 enum-told : tie.Need-enum-told
 enum-told c = search needs
 
--- src/lib.rt:39:1
 same-length : tie.Need-same-length
 same-length c = search needs
 
--- src/lib.rt:39:1
 returns-3 : tie.Need-returns-3
 returns-3 c = let a = c .before .before .before .before .before .before .before .before .before .before .before .before .before .before .before .before .before .before .args in let u = c .before .before .before .before .before .before .spell-item .last .1 .0 in
     ap (seen u) (c .ended .ensures) ∙ finish-ends u (c .before .before .r .given .0 .0) (a .k + 1)
     ∙ sym (one-in (formatOf (a .kind)) (bitsOf (a .kind)) (item-is (a .kind)) (now (a .t)) (at (now (a .out)) (a .s)) (a .k) u (c .before .before .before .before .before .before .spell-item .result) (c .before .before .before .before .before .before .before .before .before .before .before .before .before .before .before .if1 .left) (item-in (a .kind) (at (now (a .out)) (a .s)) (getD (now (a .t)) (a .k) 0) (c .before .before .before .before .before .before .before .before .before .before .before .before .before .out-of-range .ensures) (c .before .before .before .before .before .before .before .before .before .before .before .before .if2 .left) (c .before .before .before .before .before .before .before .before .before .before .align .ensures) (c .before .before .before .before .before .before .spell-item .ensures)) (c .before .before .r .given .0 .0) (c .before .before .r .given .1))
 
--- src/lib.rt:39:1
 same-length-2 : tie.Need-same-length-2
 same-length-2 c = search needs
 
--- src/lib.rt:39:1
 returns-4 : tie.Need-returns-4
 returns-4 c = let a = c .before .before .before .before .before .before .before .before .before .before .before .before .before .before .before .before .args in let u = c .before .before .before .before .spell-item .last .1 .0 in sym (one-no (formatOf (a .kind)) (bitsOf (a .kind)) (item-is (a .kind)) (now (a .t)) (at (now (a .out)) (a .s)) (a .k) u (c .before .before .before .before .spell-item .result) (c .before .before .before .before .before .before .before .before .before .before .before .before .before .if1 .left) (item-in (a .kind) (at (now (a .out)) (a .s)) (getD (now (a .t)) (a .k) 0) (c .before .before .before .before .before .before .before .before .before .before .before .out-of-range .ensures) (c .before .before .before .before .before .before .before .before .before .before .if2 .left) (c .before .before .before .before .before .before .before .before .align .ensures) (c .before .before .before .before .spell-item .ensures)) (c .enum-told .given .1))
 

@@ -1,3 +1,4 @@
+-- `write_blocks::measure_content` meets its contract.
 use Prim.Native.Nat.{ℕ}
 use mathlib.Core.List.{List}
 use mathlib.Core.Path.{sym, ap, _∙_}
@@ -6,23 +7,16 @@ use Rattle.write_blocks.proofs.BlockLaws.{empty}
 use borrow.Author.Needs.{needs}
 use Rattle.write_blocks.proofs.measure_content.Statement.{statement}
 use Rattle.write_blocks.proofs.measure_content.Tie as tie
-use Rattle.write_blocks.proofs.measure_content.Reads as reads
-use Rattle.write_blocks.proofs.measure_content.Lts as lts
-use Rattle.write_blocks.proofs.write_content.Reads as write-content-reads
 
--- src/lib.rt:138:36
 array-borrow-prefix-none : tie.Need-array-borrow-prefix-none
 array-borrow-prefix-none c = search needs
 
--- src/lib.rt:138:36
 slice-aggregate-write-content : tie.Need-slice-aggregate-write-content
 slice-aggregate-write-content c = search needs
 
--- src/lib.rt:138:5
 write-content-requires : tie.Need-write-content-requires
 write-content-requires c κs = search needs
 
--- src/lib.rt:130:1
 returns : tie.Need-returns
 returns c = ap (λ (l : List ℕ). seen l (c .before .write-content .result)) (sym (empty _ (c .before .write-content .kept .1 .1 .0))) ∙ c .before .write-content .ensures
 

@@ -1,3 +1,4 @@
+-- `write_blocks::spell_two_flags` meets its contract.
 use denote.Ref.{now}
 use Rattle.sink.specs.Laying.{at}
 use Rattle.spelling.proofs.RunLaws.{laid-in, laid-no}
@@ -5,47 +6,34 @@ use Rattle.write_blocks.proofs.FlagLaws.{two-zero, two-one, two-three, 
 use borrow.Author.Needs.{needs}
 use Rattle.write_blocks.proofs.spell_two_flags.Statement.{statement}
 use Rattle.write_blocks.proofs.spell_two_flags.Tie as tie
-use Rattle.write_blocks.proofs.spell_two_flags.Reads as reads
-use Rattle.write_blocks.proofs.spell_two_flags.Lts as lts
-use Rattle.sink.proofs.put_bits.Reads as put-bits-reads
 
--- src/lib.rt:43:24
 put-bits-requires : tie.Need-put-bits-requires
 put-bits-requires c κs = search needs
 
--- src/lib.rt:44:24
 put-bits-requires-2 : tie.Need-put-bits-requires-2
 put-bits-requires-2 c κs = search needs
 
--- src/lib.rt:45:24
 put-bits-requires-3 : tie.Need-put-bits-requires-3
 put-bits-requires-3 c κs = search needs
 
--- src/lib.rt:38:1
 same-length : tie.Need-same-length
 same-length c = search needs
 
--- src/lib.rt:38:1
 returns : tie.Need-returns
 returns c = laid-in (at (now (c .before .before .before .before .before .before .args .out)) (c .before .before .before .before .before .before .args .s)) _ (two-zero (c .before .before .before .before .before .before .args .v) (c .before .before .before .before .match .keys1)) (c .before .before .put-bits .ensures)
 
--- src/lib.rt:38:1
 same-length-2 : tie.Need-same-length-2
 same-length-2 c = search needs
 
--- src/lib.rt:38:1
 returns-2 : tie.Need-returns-2
 returns-2 c = laid-in (at (now (c .before .before .before .before .before .before .args .out)) (c .before .before .before .before .before .before .args .s)) _ (two-one (c .before .before .before .before .before .before .args .v) (c .before .before .before .before .match .keys2)) (c .before .before .put-bits2 .ensures)
 
--- src/lib.rt:38:1
 same-length-3 : tie.Need-same-length-3
 same-length-3 c = search needs
 
--- src/lib.rt:38:1
 returns-3 : tie.Need-returns-3
 returns-3 c = laid-in (at (now (c .before .before .before .before .before .before .args .out)) (c .before .before .before .before .before .before .args .s)) _ (two-three (c .before .before .before .before .before .before .args .v) (c .before .before .before .before .match .keys3)) (c .before .before .put-bits3 .ensures)
 
--- src/lib.rt:38:1
 returns-4 : tie.Need-returns-4
 returns-4 c = laid-no (at (now (c .before .before .args .out)) (c .before .before .args .s)) _ (two-no (c .before .before .args .v) (c .match .rest .0 .0 .1) (c .match .rest .0 .1) (c .match .rest .1))
 

@@ -1,3 +1,4 @@
+-- `write_blocks::write_animatable` meets its contract.
 use denote.Ref.{now}
 use Rattle.sink.specs.Laying.{at}
 use Rattle.format.specs.Bodies.{value, keyframed}
@@ -7,36 +8,25 @@ use Rattle.write_blocks.proofs.FlagLaws.{content-none, content-is, anim
 use borrow.Author.Needs.{needs}
 use Rattle.write_blocks.proofs.write_animatable.Statement.{statement}
 use Rattle.write_blocks.proofs.write_animatable.Tie as tie
-use Rattle.write_blocks.proofs.write_animatable.Reads as reads
-use Rattle.write_blocks.proofs.write_animatable.Lts as lts
-use Rattle.write_values.proofs.keyframes.write_keyframed.Reads as write-keyframed-reads
-use Rattle.write_values.proofs.write_value.Reads as write-value-reads
 
--- src/lib.rt:94:9
 returns : tie.Need-returns
 returns c = let a = c .before .before .before .args in content-none (now (a .t)) (at (now (a .out)) (a .s)) (a .k) (animatable (kindOf (a .kind)) (typeOf (a .what)) (a .flag)) (animatable-none (kindOf (a .kind)) (typeOf (a .what)) (a .flag) (c .if1 .taken)) (c .before .before .before .pre .1)
 
--- src/lib.rt:97:9
 write-value-requires : tie.Need-write-value-requires
 write-value-requires c κs = search needs
 
--- src/lib.rt:97:9
 same-length : tie.Need-same-length
 same-length c = search needs
 
--- src/lib.rt:97:9
 returns-2 : tie.Need-returns-2
 returns-2 c = let a = c .before .before .before .before .before .before .before .before .args in content-is (now (a .t)) (at (now (a .out)) (a .s)) (a .k) (value (typeOf (a .what))) (animatable (kindOf (a .kind)) (typeOf (a .what)) (a .flag)) (animatable-value (kindOf (a .kind)) (typeOf (a .what)) (a .flag) (c .before .before .before .before .before .if1 .left) (c .before .before .before .before .if2 .taken)) (c .before .before .write-value .ensures)
 
--- src/lib.rt:99:5
 write-keyframed-requires : tie.Need-write-keyframed-requires
 write-keyframed-requires c κs = search needs
 
--- src/lib.rt:81:1
 same-length-2 : tie.Need-same-length-2
 same-length-2 c = search needs
 
--- src/lib.rt:81:1
 returns-3 : tie.Need-returns-3
 returns-3 c = let a = c .before .before .before .before .before .before .before .before .args in content-is (now (a .t)) (at (now (a .out)) (a .s)) (a .k) (keyframed (kindOf (a .kind)) (typeOf (a .what))) (animatable (kindOf (a .kind)) (typeOf (a .what)) (a .flag)) (animatable-frames (kindOf (a .kind)) (typeOf (a .what)) (a .flag) (c .before .before .before .before .before .if1 .left) (c .before .before .before .before .if2 .left)) (c .before .before .write-keyframed .ensures)
 

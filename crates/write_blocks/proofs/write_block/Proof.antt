@@ -1,3 +1,4 @@
+-- `write_blocks::write_block` meets its contract.
 use mathlib.Core.Path.{sym, _∙_}
 use denote.Ref.{now}
 use Rattle.attributes.specs.Rows.{rowsFrom}
@@ -6,40 +7,28 @@ use Rattle.write_blocks.proofs.BlockLaws.{flagged-done, flagged-gone}
 use borrow.Author.Needs.{needs}
 use Rattle.write_blocks.proofs.write_block.Statement.{statement}
 use Rattle.write_blocks.proofs.write_block.Tie as tie
-use Rattle.write_blocks.proofs.write_block.Reads as reads
-use Rattle.write_blocks.proofs.write_block.Lts as lts
-use Rattle.write_blocks.proofs.write_contents.Reads as write-contents-reads
-use Rattle.write_blocks.proofs.write_flags.Reads as write-flags-reads
 
--- src/lib.rt:197:9
 write-flags-requires : tie.Need-write-flags-requires
 write-flags-requires c κs = search needs
 
--- src/lib.rt:199:19
 enum-known-f : tie.Need-enum-known-f
 enum-known-f c = search needs
 
--- src/lib.rt:199:31
 write-contents-requires : tie.Need-write-contents-requires
 write-contents-requires c κs = let a = c .before .before .before .before .before .before .before .before .before .before .args in let h = flagged-done (rowsFrom (a .rows .start) (a .rows .end)) (now (a .t)) (at (now (a .out)) (a .s)) (c .before .before .before .before .before .before .write-flags .last .1 .0) (c .before .before .before .before .before .before .write-flags .ensures) (c .before .before .f .given .1) in (c .before .before .before .before .before .before .before .before .before .before .pre .0, h .0, h .1)
 
--- src/lib.rt:200:28
 enum-told : tie.Need-enum-told
 enum-told c = search needs
 
--- src/lib.rt:193:1
 same-length : tie.Need-same-length
 same-length c = search needs
 
--- src/lib.rt:193:1
 returns : tie.Need-returns
 returns c = let a = c .before .before .before .before .before .before .before .before .before .before .before .before .before .args in let h = flagged-done (rowsFrom (a .rows .start) (a .rows .end)) (now (a .t)) (at (now (a .out)) (a .s)) (c .before .before .before .before .before .before .before .before .before .write-flags .last .1 .0) (c .before .before .before .before .before .before .before .before .before .write-flags .ensures) (c .before .before .before .before .before .f .given .1) in c .before .before .write-contents .ensures ∙ sym (h .2)
 
--- src/lib.rt:193:1
 same-length-2 : tie.Need-same-length-2
 same-length-2 c = search needs
 
--- src/lib.rt:193:1
 returns-2 : tie.Need-returns-2
 returns-2 c = let a = c .before .before .before .before .before .before .before .before .args in sym (flagged-gone (rowsFrom (a .rows .start) (a .rows .end)) (now (a .t)) (at (now (a .out)) (a .s)) (c .before .before .before .before .write-flags .last .1 .0) (c .before .before .before .before .write-flags .ensures) (c .enum-told .given .1))
 

@@ -1,3 +1,4 @@
+-- `write_blocks::write_flag` meets its contract.
 use denote.Ref.{now}
 use Rattle.sink.specs.Laying.{at}
 use Prim.Native.Nat.{_+_}
@@ -11,59 +12,43 @@ use Rattle.write_blocks.proofs.FlagLaws.{flagBits, flag-is}
 use borrow.Author.Needs.{needs}
 use Rattle.write_blocks.proofs.write_flag.Statement.{statement}
 use Rattle.write_blocks.proofs.write_flag.Tie as tie
-use Rattle.write_blocks.proofs.write_flag.Reads as reads
-use Rattle.write_blocks.proofs.write_flag.Lts as lts
-use Rattle.spelling.proofs.ended.Reads as ended-reads
-use Rattle.write_blocks.proofs.spell_flags.Reads as spell-flags-reads
 
--- src/lib.rt:70:9
 returns : tie.Need-returns
 returns c = let a = c .before .before .before .args in sym (one-none (item (flagsOf (kindOf (a .kind)))) (flagBits (kindOf (a .kind))) (flag-is (kindOf (a .kind))) (now (a .t)) (at (now (a .out)) (a .s)) (a .k) (c .if1 .taken))
 
--- src/lib.rt:72:13
 mul-v : tie.Need-mul-v
 mul-v c = search needs
 
--- src/lib.rt:72:13
 shared-slice-read-v : tie.Need-shared-slice-read-v
 shared-slice-read-v c = search needs
 
--- src/lib.rt:73:9
 spell-flags-requires : tie.Need-spell-flags-requires
 spell-flags-requires c κs = search needs
 
--- src/lib.rt:75:19
 enum-known-r : tie.Need-enum-known-r
 enum-known-r c = search needs
 
--- src/lib.rt:75:50
 add-ended : tie.Need-add-ended
 add-ended c = search needs
 
--- src/lib.rt:75:28
 ended-requires : tie.Need-ended-requires
 ended-requires c κs = search needs
 
--- src/lib.rt:76:22
 enum-told : tie.Need-enum-told
 enum-told c = search needs
 
--- src/lib.rt:65:1
 same-length : tie.Need-same-length
 same-length c = search needs
 
--- src/lib.rt:65:1
 returns-2 : tie.Need-returns-2
 unfolding flagBits
 returns-2 c = let a = c .before .before .before .before .before .before .before .before .before .before .before .before .args in let u = c .before .before .before .before .before .before .spell-flags .last .1 .0 in
     ap (seen u) (c .ended .ensures) ∙ finish-ends u (c .before .before .r .given .0 .0) (a .k + 1)
     ∙ sym (one-in (item (flagsOf (kindOf (a .kind)))) (flagBits (kindOf (a .kind))) (flag-is (kindOf (a .kind))) (now (a .t)) (at (now (a .out)) (a .s)) (a .k) u (c .before .before .before .before .before .before .spell-flags .result) (c .before .before .before .before .before .before .before .before .before .if1 .left) (c .before .before .before .before .before .before .spell-flags .ensures) (c .before .before .r .given .0 .0) (c .before .before .r .given .1))
 
--- src/lib.rt:65:1
 same-length-2 : tie.Need-same-length-2
 same-length-2 c = search needs
 
--- src/lib.rt:65:1
 returns-3 : tie.Need-returns-3
 unfolding flagBits
 returns-3 c = let a = c .before .before .before .before .before .before .before .before .before .before .args in let u = c .before .before .before .before .spell-flags .last .1 .0 in sym (one-no (item (flagsOf (kindOf (a .kind)))) (flagBits (kindOf (a .kind))) (flag-is (kindOf (a .kind))) (now (a .t)) (at (now (a .out)) (a .s)) (a .k) u (c .before .before .before .before .spell-flags .result) (c .before .before .before .before .before .before .before .if1 .left) (c .before .before .before .before .spell-flags .ensures) (c .enum-told .given .1))

@@ -1,3 +1,4 @@
+-- `write_blocks::write_flags` meets its contract. The loop's invariant: the flags of all rows are those of the rows from here on; if the contents from here on fail anywhere, all do.
 use Prim.Native.Nat.{_+_, _-_, _≤_}
 use mathlib.Core.Path.{_∙_}
 use native.Mathlib.Omega.{arith}
@@ -8,10 +9,6 @@ use Rattle.attributes.proofs.FlagLaws.{rowAt, rows-next}
 use Rattle.write_blocks.proofs.BlockLaws.{Flagging, flags-start, flags-stop, flag-inside, content-stop, flags-next, flags-done, no-rows}
 use Rattle.write_blocks.proofs.write_flags.Statement.{statement}
 use Rattle.write_blocks.proofs.write_flags.Tie as tie
-use Rattle.write_blocks.proofs.write_flags.Reads as reads
-use Rattle.write_blocks.proofs.write_flags.Lts as lts
-use Rattle.write_blocks.proofs.measure_content.Reads as measure-content-reads
-use Rattle.write_blocks.proofs.write_flag.Reads as write-flag-reads
 
 abbrev Inv-loop : tie.InvT-loop
 Inv-loop out₀ t attributes end cur₀ k₀ row₀ out cur k row = (row₀ ≤ row) × (row ≤ end) × Flagging (rowsFrom row₀ end) t out₀ cur₀ out cur (row - row₀) k (rowsFrom row end)
@@ -19,83 +16,63 @@ Inv-loop out₀ t attributes end cur₀ k₀ row₀ out cur k row = (row₀ ≤ 
 abbrev μ-loop : tie.MeasureT-loop
 μ-loop out₀ t attributes end cur₀ k₀ row₀ out cur k row = end - row
 
--- src/lib.rt:151:5
 loop-holds : tie.Need-loop-holds Inv-loop μ-loop
 loop-holds c = (omega arith, c .before .before .pre .0 .up, flags-start (rowsFrom (c .before .before .args .rows .start) (c .before .before .args .rows .end)) (now (c .before .before .args .t)) (now (c .before .before .args .out)) (c .before .before .args .s) (c .before .before .args .rows .start - c .before .before .args .rows .start) (omega arith) (c .before .before .pre .1))
 
--- src/lib.rt:152:25
 mul-attribute : tie.Need-mul-attribute Inv-loop μ-loop
 mul-attribute c = search needs
 
--- src/lib.rt:152:25
 array-copy-out-attribute : tie.Need-array-copy-out-attribute Inv-loop μ-loop
 array-copy-out-attribute c = omega (arith, c .before .before .before .before .pre .0 .inside)
 
--- src/lib.rt:154:13
 write-flag-requires : tie.Need-write-flag-requires Inv-loop μ-loop
 write-flag-requires c κs = c .before .before .before .loop .inv .2 .fine
 
--- src/lib.rt:155:23
 enum-known-r : tie.Need-enum-known-r Inv-loop μ-loop
 enum-known-r c = search needs
 
--- src/lib.rt:156:13
 enum-told : tie.Need-enum-told Inv-loop μ-loop
 enum-told c = search needs
 
--- src/lib.rt:156:13
 same-length : tie.Need-same-length Inv-loop μ-loop
 same-length c = c .before .before .before .before .write-flag .kept .1 .0 ∙ c .before .before .before .before .before .before .before .before .loop .inv .2 .size
 
--- src/lib.rt:156:13
 returns : tie.Need-returns Inv-loop μ-loop
 returns c = flags-stop (rowsFrom (c .before .before .before .before .before .before .before .before .before .before .before .args .rows .start) (c .before .before .before .before .before .before .before .before .before .before .before .args .rows .end)) (now (c .before .before .before .before .before .before .before .before .before .before .before .args .t)) (c .before .before .before .before .before .before .before .before .loop .inv .2) (attributeOf (rowAt (c .before .before .before .before .before .before .before .before .loop .row))) (rowsFrom (c .before .before .before .before .before .before .before .before .loop .row + 1) (c .before .before .before .before .before .before .before .before .before .before .before .args .rows .end)) (rows-next (c .before .before .before .before .before .before .before .loop-test .taken) (c .before .before .before .before .before .before .before .before .before .before .before .pre .0 .inside)) (c .before .before .before .before .write-flag .last .1 .0) (c .before .before .before .before .write-flag .result) (c .before .before .before .before .write-flag .ensures) (c .enum-told .given .1)
 
--- src/lib.rt:158:44
 mul-measure-content : tie.Need-mul-measure-content Inv-loop μ-loop
 mul-measure-content c = let h = flag-inside (rowsFrom (c .before .before .before .before .before .before .before .before .before .before .before .before .args .rows .start) (c .before .before .before .before .before .before .before .before .before .before .before .before .args .rows .end)) (now (c .before .before .before .before .before .before .before .before .before .before .before .before .args .t)) (c .before .before .before .before .before .before .before .before .before .loop .inv .2) (attributeOf (rowAt (c .before .before .before .before .before .before .before .before .before .loop .row))) (rowsFrom (c .before .before .before .before .before .before .before .before .before .loop .row + 1) (c .before .before .before .before .before .before .before .before .before .before .before .before .args .rows .end)) (rows-next (c .before .before .before .before .before .before .before .before .loop-test .taken) (c .before .before .before .before .before .before .before .before .before .before .before .before .pre .0 .inside)) (c .before .before .before .before .before .write-flag .last .1 .0) (c .before .before .before .before .before .write-flag .result) (c .before .before .before .before .before .write-flag .ensures) (c .before .r .given .0 .0) (c .before .r .given .0 .1 .0) (c .before .r .given .1) in omega (arith, h)
 
--- src/lib.rt:158:44
 shared-slice-read-measure-content : tie.Need-shared-slice-read-measure-content Inv-loop μ-loop
 shared-slice-read-measure-content c = flag-inside (rowsFrom (c .before .before .before .before .before .before .before .before .before .before .before .before .before .args .rows .start) (c .before .before .before .before .before .before .before .before .before .before .before .before .before .args .rows .end)) (now (c .before .before .before .before .before .before .before .before .before .before .before .before .before .args .t)) (c .before .before .before .before .before .before .before .before .before .before .loop .inv .2) (attributeOf (rowAt (c .before .before .before .before .before .before .before .before .before .before .loop .row))) (rowsFrom (c .before .before .before .before .before .before .before .before .before .before .loop .row + 1) (c .before .before .before .before .before .before .before .before .before .before .before .before .before .args .rows .end)) (rows-next (c .before .before .before .before .before .before .before .before .before .loop-test .taken) (c .before .before .before .before .before .before .before .before .before .before .before .before .before .pre .0 .inside)) (c .before .before .before .before .before .before .write-flag .last .1 .0) (c .before .before .before .before .before .before .write-flag .result) (c .before .before .before .before .before .before .write-flag .ensures) (c .before .before .r .given .0 .0) (c .before .before .r .given .0 .1 .0) (c .before .before .r .given .1)
 
--- src/lib.rt:158:13
 measure-content-requires : tie.Need-measure-content-requires Inv-loop μ-loop
 measure-content-requires c κs = search needs
 
--- src/lib.rt:159:26
 enum-known-m : tie.Need-enum-known-m Inv-loop μ-loop
 enum-known-m c = search needs
 
--- src/lib.rt:160:13
 enum-told-2 : tie.Need-enum-told-2 Inv-loop μ-loop
 enum-told-2 c = search needs
 
--- src/lib.rt:160:13
 same-length-2 : tie.Need-same-length-2 Inv-loop μ-loop
 same-length-2 c = c .before .before .before .before .before .before .before .before .before .write-flag .kept .1 .0 ∙ c .before .before .before .before .before .before .before .before .before .before .before .before .before .loop .inv .2 .size
 
--- src/lib.rt:160:13
 returns-2 : tie.Need-returns-2 Inv-loop μ-loop
 returns-2 c = content-stop (rowsFrom (c .before .before .before .before .before .before .before .before .before .before .before .before .before .before .before .before .args .rows .start) (c .before .before .before .before .before .before .before .before .before .before .before .before .before .before .before .before .args .rows .end)) (now (c .before .before .before .before .before .before .before .before .before .before .before .before .before .before .before .before .args .t)) (c .before .before .before .before .before .before .before .before .before .before .before .before .before .loop .inv .2) (attributeOf (rowAt (c .before .before .before .before .before .before .before .before .before .before .before .before .before .loop .row))) (rowsFrom (c .before .before .before .before .before .before .before .before .before .before .before .before .before .loop .row + 1) (c .before .before .before .before .before .before .before .before .before .before .before .before .before .before .before .before .args .rows .end)) (rows-next (c .before .before .before .before .before .before .before .before .before .before .before .before .loop-test .taken) (c .before .before .before .before .before .before .before .before .before .before .before .before .before .before .before .before .pre .0 .inside)) (c .before .before .before .before .before .before .before .before .before .write-flag .last .1 .0) (c .before .before .before .before .before .before .before .before .before .write-flag .result) (c .before .before .before .before .before .before .before .before .before .write-flag .ensures) (c .before .before .before .before .before .r .given .0 .0) (c .before .before .before .before .before .r .given .0 .1 .0) (c .before .before .before .before .before .r .given .1) (c .before .before .measure-content .result) (c .before .before .measure-content .ensures) (c .enum-told2 .given .1)
 
--- src/lib.rt:164:9
 add-row : tie.Need-add-row Inv-loop μ-loop
 add-row c = omega (arith, c .before .before .before .before .before .before .before .before .before .before .before .before .before .before .before .before .before .pre .0 .inside, c .before .before .before .before .before .before .before .before .before .before .before .before .before .loop-test .taken)
 
--- src/lib.rt:151:5
 loop-less : tie.Need-loop-less Inv-loop μ-loop
 loop-less c = omega (arith, c .before .before .before .before .before .before .before .before .before .before .before .before .before .loop-test .taken)
 
--- src/lib.rt:151:5
 loop-again : tie.Need-loop-again Inv-loop μ-loop
 loop-again c = (omega (arith, c .before .before .before .before .before .before .before .before .before .before .before .before .before .before .loop .inv .0), omega (arith, c .before .before .before .before .before .before .before .before .before .before .before .before .before .loop-test .taken), flags-next (rowsFrom (c .before .before .before .before .before .before .before .before .before .before .before .before .before .before .before .before .before .args .rows .start) (c .before .before .before .before .before .before .before .before .before .before .before .before .before .before .before .before .before .args .rows .end)) (now (c .before .before .before .before .before .before .before .before .before .before .before .before .before .before .before .before .before .args .t)) (c .before .before .before .before .before .before .before .before .before .before .before .before .before .before .loop .inv .2) (attributeOf (rowAt (c .before .before .before .before .before .before .before .before .before .before .before .before .before .before .loop .row))) (rowsFrom (c .before .before .before .before .before .before .before .before .before .before .before .before .before .before .loop .row + 1) (c .before .before .before .before .before .before .before .before .before .before .before .before .before .before .before .before .before .args .rows .end)) (rows-next (c .before .before .before .before .before .before .before .before .before .before .before .before .before .loop-test .taken) (c .before .before .before .before .before .before .before .before .before .before .before .before .before .before .before .before .before .pre .0 .inside)) (c .before .before .before .before .before .before .before .before .before .before .write-flag .last .1 .0) (c .before .before .before .before .before .before .before .before .before .before .write-flag .result) (c .before .before .before .before .before .before .before .before .before .before .write-flag .ensures) (c .before .before .before .before .before .before .r .given .0 .0) (c .before .before .before .before .before .before .r .given .0 .1 .0) (c .before .before .before .before .before .before .r .given .1) (c .before .before .before .measure-content .result) (c .before .before .before .measure-content .ensures) (c .before .m .given .0 .0) (c .before .m .given .0 .1 .0) (c .before .before .before .before .before .before .before .before .before .before .before .before .before .before .loop .row + 1 - c .before .before .before .before .before .before .before .before .before .before .before .before .before .before .before .before .before .args .rows .start) (c .before .m .given .1) (c .before .before .before .before .before .before .before .before .before .before .write-flag .kept .1 .0) (omega (arith, c .before .before .before .before .before .before .before .before .before .before .before .before .before .before .loop .inv .0)))
 
--- src/lib.rt:142:1
 same-length-3 : tie.Need-same-length-3 Inv-loop μ-loop
 same-length-3 c = c .before .loop .inv .2 .size
 
--- src/lib.rt:142:1
 returns-3 : tie.Need-returns-3 Inv-loop μ-loop
 returns-3 c = flags-done (rowsFrom (c .before .before .before .before .args .rows .start) (c .before .before .before .before .args .rows .end)) (now (c .before .before .before .before .args .t)) (c .before .loop .inv .2) (no-rows (c .before .loop .row) (c .before .before .before .before .args .rows .end) (omega (arith, c .before .loop .inv .1, c .loop-test .left)))
 

@@ -1,3 +1,4 @@
+-- `write_bodies::write_front` meets its contract.
 use Prim.Native.Nat.{_*_}
 use denote.Ref.{now}
 use Rattle.fixed.specs.Fixed.{fixedOf}
@@ -5,32 +6,22 @@ use Rattle.write_bodies.proofs.BodyLaws.{lies-over, start-fine, front-f
 use borrow.Author.Needs.{needs}
 use Rattle.write_bodies.proofs.write_front.Statement.{statement}
 use Rattle.write_bodies.proofs.write_front.Tie as tie
-use Rattle.write_bodies.proofs.write_front.Reads as reads
-use Rattle.write_bodies.proofs.write_front.Lts as lts
-use Rattle.write_bodies.proofs.conclude.Reads as conclude-reads
-use Rattle.write_fixed.proofs.write_fixed.Reads as write-fixed-reads
 
--- src/lib.rt:67:9
 returns : tie.Need-returns
 returns c = let a = c .before .before .before .args in lies-over (now (a .out)) (a .at) _ (c .if1 .taken)
 
--- src/lib.rt:70:25
 mul-conclude : tie.Need-mul-conclude
 mul-conclude c = search needs
 
--- src/lib.rt:73:9
 write-fixed-requires : tie.Need-write-fixed-requires
 write-fixed-requires c κs = start-fine (c .before .before .before .before .args .at) (c .before .if1 .left)
 
--- src/lib.rt:74:5
 conclude-requires : tie.Need-conclude-requires
 conclude-requires c κs = let a = c .before .before .before .before .before .before .before .before .args in front-fine (now (a .values)) (now (a .out)) (record { place = record { 0 = 8 * a .at }; part = 0 }) (fixedOf (a .code)) (c .before .before .before .write-fixed .last .1 .0) (c .before .before .before .write-fixed .result) (start-fine (a .at) (c .before .before .before .before .before .if1 .left)) (c .before .before .before .write-fixed .ensures)
 
--- src/lib.rt:62:1
 same-length : tie.Need-same-length
 same-length c = search needs
 
--- src/lib.rt:62:1
 returns-2 : tie.Need-returns-2
 returns-2 c = let a = c .before .before .before .before .before .before .before .before .before .before .before .args in front-done (fixedOf (a .code)) (now (a .values)) (now (a .out)) (a .at) (c .before .before .conclude .ensures) (c .before .before .before .before .before .before .write-fixed .ensures)
 

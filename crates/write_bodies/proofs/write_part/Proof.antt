@@ -1,3 +1,4 @@
+-- `write_bodies::write_part` meets its contract.
 use denote.Ref.{now}
 use Rattle.sink.specs.Laying.{at}
 use mathlib.Core.Path.{sym, _∙_}
@@ -6,42 +7,28 @@ use Rattle.write_bodies.proofs.BodyLaws.{part-block, part-fixed}
 use borrow.Author.Needs.{needs}
 use Rattle.write_bodies.proofs.write_part.Statement.{statement}
 use Rattle.write_bodies.proofs.write_part.Tie as tie
-use Rattle.write_bodies.proofs.write_part.Reads as reads
-use Rattle.write_bodies.proofs.write_part.Lts as lts
-use Rattle.attributes.proofs.rows_of.Reads as rows-of-reads
-use Rattle.bodies.proofs.is_block.Reads as is-block-reads
-use Rattle.write_blocks.proofs.write_block.Reads as write-block-reads
-use Rattle.write_fixed.proofs.write_fixed.Reads as write-fixed-reads
 
--- src/lib.rt:24:8
 is-block-requires : tie.Need-is-block-requires
 is-block-requires c κs = search needs
 
--- src/lib.rt:25:42
 rows-of-requires : tie.Need-rows-of-requires
 rows-of-requires c κs = search needs
 
--- src/lib.rt:25:9
 write-block-requires : tie.Need-write-block-requires
 write-block-requires c κs = (rows-are (c .before .before .before .before .before .before .args .code) (c .before .rows-of .result) (c .before .rows-of .ensures) .0, c .before .before .before .before .before .before .pre)
 
--- src/lib.rt:25:9
 same-length : tie.Need-same-length
 same-length c = search needs
 
--- src/lib.rt:25:9
 returns : tie.Need-returns
 returns c = let a = c .before .before .before .before .before .before .before .before .before .args in part-block (now (a .values)) (at (now (a .out)) (a .s)) (a .code) (sym (c .before .before .before .before .before .before .is-block .ensures) ∙ c .before .before .before .before .before .if1 .taken) (rows-are (a .code) (c .before .before .before .before .rows-of .result) (c .before .before .before .before .rows-of .ensures) .1) (c .before .before .write-block .ensures)
 
--- src/lib.rt:27:5
 write-fixed-requires : tie.Need-write-fixed-requires
 write-fixed-requires c κs = search needs
 
--- src/lib.rt:20:1
 same-length-2 : tie.Need-same-length-2
 same-length-2 c = search needs
 
--- src/lib.rt:20:1
 returns-2 : tie.Need-returns-2
 returns-2 c = let a = c .before .before .before .before .before .before .before .before .args in part-fixed (now (a .values)) (at (now (a .out)) (a .s)) (a .code) (sym (c .before .before .before .before .before .is-block .ensures) ∙ c .before .before .before .before .if1 .left) (c .before .before .write-fixed .ensures)
 

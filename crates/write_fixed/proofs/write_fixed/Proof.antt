@@ -1,3 +1,4 @@
+-- `write_fixed::write_fixed` meets its contract.
 use mathlib.Core.Path.{sym, ap, _∙_}
 use denote.Ref.{now}
 use Rattle.fixed.specs.Fixed.{inOrder, itemsFrom, fixedOf}
@@ -8,37 +9,25 @@ use Rattle.spelling.proofs.AlikeLaws.{ran-alike}
 use borrow.Author.Needs.{needs}
 use Rattle.write_fixed.proofs.write_fixed.Statement.{statement}
 use Rattle.write_fixed.proofs.write_fixed.Tie as tie
-use Rattle.write_fixed.proofs.write_fixed.Reads as reads
-use Rattle.write_fixed.proofs.write_fixed.Lts as lts
-use Rattle.fixed.proofs.rows_of.Reads as rows-of-reads
-use Rattle.write_fixed.proofs.write_fonts.Reads as write-fonts-reads
-use Rattle.write_fixed.proofs.write_items.Reads as write-items-reads
 
--- src/lib.rt:74:9
 write-fonts-requires : tie.Need-write-fonts-requires
 write-fonts-requires c κs = search needs
 
--- src/lib.rt:74:9
 same-length : tie.Need-same-length
 same-length c = search needs
 
--- src/lib.rt:74:9
 returns : tie.Need-returns
 returns c = let a = c .before .before .before .before .before .before .before .args in c .before .before .write-fonts .ensures ∙ ap (ran (now (a .t)) (at (now (a .out)) (a .s)) (a .k)) (sym (fixed-fonts (a .code) (c .before .before .before .before .if1 .taken)))
 
--- src/lib.rt:76:9
 rows-of-requires : tie.Need-rows-of-requires
 rows-of-requires c κs = search needs
 
--- src/lib.rt:77:5
 write-items-requires : tie.Need-write-items-requires
 write-items-requires c κs = search needs
 
--- src/lib.rt:69:1
 same-length-2 : tie.Need-same-length-2
 same-length-2 c = search needs
 
--- src/lib.rt:69:1
 returns-2 : tie.Need-returns-2
 returns-2 c = let a = c .before .before .before .before .before .before .before .before .args in let r = c .before .before .before .before .rows-of in c .before .before .write-items .ensures ∙ ran-alike (now (a .t)) (at (now (a .out)) (a .s)) (a .k) (inOrder (itemsFrom (r .result .start) (r .result .end))) (fixedOf (a .code)) (r .ensures .items)
 

@@ -1,3 +1,4 @@
+-- `write_fixed::write_fonts` meets its contract.
 use mathlib.Core.Path.{sym, _∙_}
 use native.Mathlib.Omega.{arith}
 use denote.Ref.{now}
@@ -10,52 +11,37 @@ use Rattle.write_fixed.proofs.FixedLaws.{fonts, fonts-done}
 use borrow.Author.Needs.{needs}
 use Rattle.write_fixed.proofs.write_fonts.Statement.{statement}
 use Rattle.write_fixed.proofs.write_fonts.Tie as tie
-use Rattle.write_fixed.proofs.write_fonts.Reads as reads
-use Rattle.write_fixed.proofs.write_fonts.Lts as lts
-use Rattle.spelling.proofs.write_one.Reads as write-one-reads
-use Rattle.write_fixed.proofs.write_strings.Reads as write-strings-reads
 
--- src/lib.rt:61:9
 write-one-requires : tie.Need-write-one-requires
 write-one-requires c κs = search needs
 
--- src/lib.rt:62:19
 enum-known-r : tie.Need-enum-known-r
 enum-known-r c = search needs
 
--- src/lib.rt:63:9
 enum-told : tie.Need-enum-told
 enum-told c = search needs
 
--- src/lib.rt:63:9
 same-length : tie.Need-same-length
 same-length c = search needs
 
--- src/lib.rt:63:9
 returns : tie.Need-returns
 returns c = let a = c .before .before .before .before .before .before .before .before .args in counted-stop 0 fonts (now (a .t)) (at (now (a .out)) (a .s)) (a .k) (c .before .before .before .before .write-one .last .1 .0) (c .before .before .before .before .write-one .result) (c .before .before .before .before .write-one .ensures) (c .enum-told .given .1)
 
--- src/lib.rt:65:24
 mul-write-strings : tie.Need-mul-write-strings
 mul-write-strings c = let a = c .before .before .before .before .before .before .before .before .before .args in let h = counted-inside 0 fonts (now (a .t)) (at (now (a .out)) (a .s)) (a .k) (c .before .before .before .before .before .write-one .last .1 .0) (c .before .before .before .before .before .write-one .result) (c .before .before .before .before .before .write-one .ensures) (c .before .r .given .0 .0) (c .before .r .given .0 .1 .0) (c .before .r .given .1) in omega (arith, h)
 
--- src/lib.rt:65:24
 shared-slice-read-write-strings : tie.Need-shared-slice-read-write-strings
 shared-slice-read-write-strings c = let a = c .before .before .before .before .before .before .before .before .before .before .args in counted-inside 0 fonts (now (a .t)) (at (now (a .out)) (a .s)) (a .k) (c .before .before .before .before .before .before .write-one .last .1 .0) (c .before .before .before .before .before .before .write-one .result) (c .before .before .before .before .before .before .write-one .ensures) (c .before .before .r .given .0 .0) (c .before .before .r .given .0 .1 .0) (c .before .before .r .given .1)
 
--- src/lib.rt:65:19
 mul-write-strings-2 : tie.Need-mul-write-strings-2
 mul-write-strings-2 c = let a = c .before .before .before .before .before .before .before .before .before .before .args in let h = counted-most 0 fonts (now (a .t)) (at (now (a .out)) (a .s)) (a .k) (c .before .before .before .before .before .before .write-one .last .1 .0) (c .before .before .before .before .before .before .write-one .result) (c .before .before .before .before .before .before .write-one .ensures) (c .before .before .r .given .0 .0) (c .before .before .r .given .0 .1 .0) (c .before .before .r .given .1) in omega (arith, h)
 
--- src/lib.rt:65:5
 write-strings-requires : tie.Need-write-strings-requires
 write-strings-requires c κs = let a = c .before .before .before .before .before .before .before .before .before .before .before .args in ran-fine (now (a .t)) (now (a .out)) (a .s) (a .k) (formatOf (Count 0)) (c .before .before .before .before .before .before .before .write-one .last .1 .0) (c .before .before .before .before .before .before .before .write-one .result) (c .before .before .before .before .before .before .before .before .before .before .before .pre) (c .before .before .before .before .before .before .before .write-one .ensures) (c .before .before .before .r .given .0 .0) (c .before .before .before .r .given .0 .1 .0) (c .before .before .before .r .given .1)
 
--- src/lib.rt:57:1
 same-length-2 : tie.Need-same-length-2
 same-length-2 c = search needs
 
--- src/lib.rt:57:1
 returns-2 : tie.Need-returns-2
 returns-2 c = let a = c .before .before .before .before .before .before .before .before .before .before .before .before .before .before .args in c .before .before .write-strings .ensures ∙ sym (fonts-done (now (a .t)) (at (now (a .out)) (a .s)) (a .k) (c .before .before .before .before .before .before .before .before .before .before .write-one .last .1 .0) (c .before .before .before .before .before .before .before .before .before .before .write-one .result) (c .before .before .before .before .before .before .before .before .before .before .write-one .ensures) (c .before .before .before .before .before .before .r .given .0 .0) (c .before .before .before .before .before .before .r .given .0 .1 .0) (c .before .before .before .before .before .before .r .given .1))
 

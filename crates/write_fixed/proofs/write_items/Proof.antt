@@ -1,3 +1,4 @@
+-- `write_fixed::write_items` meets its contract. The loop's invariant: the items of all rows are those of the rows from here on.
 use Prim.Native.Nat.{_+_, _-_, _≤_}
 use mathlib.Core.Path.{refl, _∙_}
 use native.Mathlib.Omega.{arith}
@@ -11,9 +12,6 @@ use Rattle.fixed.proofs.FixedLaws.{items-more, items-none}
 use Rattle.spelling.proofs.RunLaws.{Going, going-none, going-stop, going-next, going-over}
 use Rattle.write_fixed.proofs.write_items.Statement.{statement}
 use Rattle.write_fixed.proofs.write_items.Tie as tie
-use Rattle.write_fixed.proofs.write_items.Reads as reads
-use Rattle.write_fixed.proofs.write_items.Lts as lts
-use Rattle.spelling.proofs.write_one.Reads as write-one-reads
 
 abbrev Inv-loop : tie.InvT-loop
 Inv-loop start end out₀ t k rows cur₀ j₀ row₀ out cur j row = (row ≤ end) × Going t out₀ cur₀ k (inOrder (itemsFrom start end)) out cur j (inOrder (itemsFrom row end))
@@ -21,55 +19,42 @@ Inv-loop start end out₀ t k rows cur₀ j₀ row₀ out cur j row = (row ≤ e
 abbrev μ-loop : tie.MeasureT-loop
 μ-loop start end out₀ t k rows cur₀ j₀ row₀ out cur j row = end - row
 
--- src/lib.rt:23:5
 loop-holds : tie.Need-loop-holds Inv-loop μ-loop
 loop-holds c = (c .before .before .pre .0, going-none (now (c .before .before .args .t)) (now (c .before .before .args .out)) (c .before .before .args .s) (c .before .before .args .k) (inOrder (itemsFrom (c .before .before .args .start) (c .before .before .args .end))) (c .before .before .pre .2))
 
--- src/lib.rt:24:20
 mul-kind : tie.Need-mul-kind Inv-loop μ-loop
 mul-kind c = search needs
 
--- src/lib.rt:24:20
 array-copy-out-kind : tie.Need-array-copy-out-kind Inv-loop μ-loop
 array-copy-out-kind c = omega (arith, c .before .before .before .before .pre .1)
 
--- src/lib.rt:25:13
 write-one-requires : tie.Need-write-one-requires Inv-loop μ-loop
 write-one-requires c κs = c .before .before .before .loop .inv .1 .fine
 
--- src/lib.rt:26:23
 enum-known-r : tie.Need-enum-known-r Inv-loop μ-loop
 enum-known-r c = search needs
 
--- src/lib.rt:27:13
 enum-told : tie.Need-enum-told Inv-loop μ-loop
 enum-told c = search needs
 
--- src/lib.rt:27:13
 same-length : tie.Need-same-length Inv-loop μ-loop
 same-length c = c .before .before .before .before .write-one .kept .1 .0 ∙ c .before .before .before .before .before .before .before .before .loop .inv .1 .size
 
--- src/lib.rt:27:13
 returns : tie.Need-returns Inv-loop μ-loop
 returns c = going-stop (c .before .before .before .before .before .before .before .before .loop .inv .1) (formatOf (getD allItems (c .before .before .before .before .before .before .before .before .loop .row) U32)) (inOrder (itemsFrom (c .before .before .before .before .before .before .before .before .loop .row + 1) (c .before .before .before .before .before .before .before .before .before .before .before .args .end))) (items-more (c .before .before .before .before .before .before .before .before .loop .row) (c .before .before .before .before .before .before .before .before .before .before .before .args .end) refl (c .before .before .before .before .before .before .before .loop-test .taken) (c .before .before .before .before .before .before .before .before .before .before .before .pre .1)) (c .before .before .before .before .write-one .last .1 .0) (c .before .before .before .before .write-one .result) (c .before .before .before .before .write-one .ensures) (c .enum-told .given .1)
 
--- src/lib.rt:31:9
 add-row : tie.Need-add-row Inv-loop μ-loop
 add-row c = omega (arith, c .before .before .before .before .before .before .before .before .before .before .before .before .pre .1)
 
--- src/lib.rt:23:5
 loop-less : tie.Need-loop-less Inv-loop μ-loop
 loop-less c = omega arith
 
--- src/lib.rt:23:5
 loop-again : tie.Need-loop-again Inv-loop μ-loop
 loop-again c = (omega arith, going-next (c .before .before .before .before .before .before .before .before .before .loop .inv .1) (formatOf (getD allItems (c .before .before .before .before .before .before .before .before .before .loop .row) U32)) (inOrder (itemsFrom (c .before .before .before .before .before .before .before .before .before .loop .row + 1) (c .before .before .before .before .before .before .before .before .before .before .before .before .args .end))) (items-more (c .before .before .before .before .before .before .before .before .before .loop .row) (c .before .before .before .before .before .before .before .before .before .before .before .before .args .end) refl (c .before .before .before .before .before .before .before .before .loop-test .taken) (c .before .before .before .before .before .before .before .before .before .before .before .before .pre .1)) (c .before .before .before .before .before .write-one .last .1 .0) (c .before .before .before .before .before .write-one .result) (c .before .before .before .before .before .write-one .ensures) (c .before .before .before .before .before .write-one .kept .1 .0) (c .before .r .given .0 .0) (c .before .r .given .0 .1 .0) (c .before .r .given .1))
 
--- src/lib.rt:15:1
 same-length-2 : tie.Need-same-length-2 Inv-loop μ-loop
 same-length-2 c = c .before .loop .inv .1 .size
 
--- src/lib.rt:15:1
 returns-2 : tie.Need-returns-2 Inv-loop μ-loop
 returns-2 c = going-over (c .before .loop .inv .1) (items-none (c .before .loop .row) (c .before .before .before .before .args .end) (omega (arith, c .before .loop .inv .0)))
 

@@ -1,5 +1,6 @@
-use Prim.Native.Nat.{_+_, _-_, _≤_}
-use mathlib.Core.Path.{refl, _∙_}
+-- `write_fixed::write_strings` meets its contract. The loop's invariant: the Strings are those that are left from here on.
+use Prim.Native.Nat.{_-_}
+use mathlib.Core.Path.{_∙_}
 use native.Mathlib.Omega.{arith}
 use borrow.Author.Needs.{needs}
 use denote.Ref.{now}
@@ -8,9 +9,6 @@ use Rattle.format.specs.Items.{string}
 use Rattle.spelling.proofs.RunLaws.{Going, going-none, going-stop, going-next, going-over, times-more, times-over}
 use Rattle.write_fixed.proofs.write_strings.Statement.{statement}
 use Rattle.write_fixed.proofs.write_strings.Tie as tie
-use Rattle.write_fixed.proofs.write_strings.Reads as reads
-use Rattle.write_fixed.proofs.write_strings.Lts as lts
-use Rattle.spelling.proofs.text.write_string.Reads as write-string-reads
 
 abbrev Inv-loop : tie.InvT-loop
 Inv-loop n out₀ t k cur₀ j₀ left₀ out cur j left = Going t out₀ cur₀ k (times n string) out cur j (times left string)
@@ -18,47 +16,36 @@ Inv-loop n out₀ t k cur₀ j₀ left₀ out cur j left = Going t out₀ cur₀
 abbrev μ-loop : tie.MeasureT-loop
 μ-loop n out₀ t k cur₀ j₀ left₀ out cur j left = left
 
--- src/lib.rt:44:5
 loop-holds : tie.Need-loop-holds Inv-loop μ-loop
 loop-holds c = going-none (now (c .before .before .args .t)) (now (c .before .before .args .out)) (c .before .before .args .s) (c .before .before .args .k) (times (c .before .before .args .n) string) (c .before .before .pre)
 
--- src/lib.rt:45:13
 write-string-requires : tie.Need-write-string-requires Inv-loop μ-loop
 write-string-requires c κs = c .before .before .loop .inv .fine
 
--- src/lib.rt:46:23
 enum-known-r : tie.Need-enum-known-r Inv-loop μ-loop
 enum-known-r c = search needs
 
--- src/lib.rt:47:13
 enum-told : tie.Need-enum-told Inv-loop μ-loop
 enum-told c = search needs
 
--- src/lib.rt:47:13
 same-length : tie.Need-same-length Inv-loop μ-loop
 same-length c = c .before .before .before .before .write-string .kept .0 ∙ c .before .before .before .before .before .before .before .loop .inv .size
 
--- src/lib.rt:47:13
 returns : tie.Need-returns Inv-loop μ-loop
 returns c = going-stop (c .before .before .before .before .before .before .before .loop .inv) string (times (c .before .before .before .before .before .before .before .loop .left - 1) string) (times-more string (c .before .before .before .before .before .before .before .loop .left) (c .before .before .before .before .before .before .loop-test .taken)) (c .before .before .before .before .write-string .last .0) (c .before .before .before .before .write-string .result) (c .before .before .before .before .write-string .ensures) (c .enum-told .given .1)
 
--- src/lib.rt:51:9
 sub-left : tie.Need-sub-left Inv-loop μ-loop
 sub-left c = omega (arith, c .before .before .before .before .before .before .before .loop-test .taken)
 
--- src/lib.rt:44:5
 loop-less : tie.Need-loop-less Inv-loop μ-loop
 loop-less c = omega (arith, c .before .before .before .before .before .before .before .loop-test .taken)
 
--- src/lib.rt:44:5
 loop-again : tie.Need-loop-again Inv-loop μ-loop
 loop-again c = going-next (c .before .before .before .before .before .before .before .before .loop .inv) string (times (c .before .before .before .before .before .before .before .before .loop .left - 1) string) (times-more string (c .before .before .before .before .before .before .before .before .loop .left) (c .before .before .before .before .before .before .before .loop-test .taken)) (c .before .before .before .before .before .write-string .last .0) (c .before .before .before .before .before .write-string .result) (c .before .before .before .before .before .write-string .ensures) (c .before .before .before .before .before .write-string .kept .0) (c .before .r .given .0 .0) (c .before .r .given .0 .1 .0) (c .before .r .given .1)
 
--- src/lib.rt:37:1
 same-length-2 : tie.Need-same-length-2 Inv-loop μ-loop
 same-length-2 c = c .before .loop .inv .size
 
--- src/lib.rt:37:1
 returns-2 : tie.Need-returns-2 Inv-loop μ-loop
 returns-2 c = going-over (c .before .loop .inv) (times-over string (c .before .loop .left) (omega (arith, c .loop-test .left)))
 

@@ -1,3 +1,4 @@
+-- `write_values::write_in_turn` meets its contract. The loop's invariant: the values are those that are left from here on.
 use Prim.Native.Nat.{_-_}
 use mathlib.Core.Path.{_∙_}
 use native.Mathlib.Omega.{arith}
@@ -9,9 +10,6 @@ use Rattle.attributes.specs.Rows.{typeOf}
 use Rattle.spelling.proofs.RunLaws.{Going, going-none, going-stop, going-next, going-over, times-more, times-over}
 use Rattle.write_values.proofs.write_in_turn.Statement.{statement}
 use Rattle.write_values.proofs.write_in_turn.Tie as tie
-use Rattle.write_values.proofs.write_in_turn.Reads as reads
-use Rattle.write_values.proofs.write_in_turn.Lts as lts
-use Rattle.write_values.proofs.write_value.Reads as write-value-reads
 
 abbrev Inv-loop : tie.InvT-loop
 Inv-loop what n out₀ t k cur₀ j₀ left₀ out cur j left = Going t out₀ cur₀ k (times n (value (typeOf what))) out cur j (times left (value (typeOf what)))
@@ -19,47 +17,36 @@ Inv-loop what n out₀ t k cur₀ j₀ left₀ out cur j left = Going t out₀ c
 abbrev μ-loop : tie.MeasureT-loop
 μ-loop what n out₀ t k cur₀ j₀ left₀ out cur j left = left
 
--- src/lib.rt:85:5
 loop-holds : tie.Need-loop-holds Inv-loop μ-loop
 loop-holds c = going-none (now (c .before .before .args .t)) (now (c .before .before .args .out)) (c .before .before .args .s) (c .before .before .args .k) (times (c .before .before .args .n) (value (typeOf (c .before .before .args .what)))) (c .before .before .pre)
 
--- src/lib.rt:86:13
 write-value-requires : tie.Need-write-value-requires Inv-loop μ-loop
 write-value-requires c κs = c .before .before .loop .inv .fine
 
--- src/lib.rt:87:23
 enum-known-r : tie.Need-enum-known-r Inv-loop μ-loop
 enum-known-r c = search needs
 
--- src/lib.rt:88:13
 enum-told : tie.Need-enum-told Inv-loop μ-loop
 enum-told c = search needs
 
--- src/lib.rt:88:13
 same-length : tie.Need-same-length Inv-loop μ-loop
 same-length c = c .before .before .before .before .write-value .kept .1 .0 ∙ c .before .before .before .before .before .before .before .loop .inv .size
 
--- src/lib.rt:88:13
 returns : tie.Need-returns Inv-loop μ-loop
 returns c = going-stop (c .before .before .before .before .before .before .before .loop .inv) (value (typeOf (c .before .before .before .before .before .before .before .before .before .before .args .what))) (times (c .before .before .before .before .before .before .before .loop .left - 1) (value (typeOf (c .before .before .before .before .before .before .before .before .before .before .args .what)))) (times-more (value (typeOf (c .before .before .before .before .before .before .before .before .before .before .args .what))) (c .before .before .before .before .before .before .before .loop .left) (c .before .before .before .before .before .before .loop-test .taken)) (c .before .before .before .before .write-value .last .1 .0) (c .before .before .before .before .write-value .result) (c .before .before .before .before .write-value .ensures) (c .enum-told .given .1)
 
--- src/lib.rt:92:9
 sub-left : tie.Need-sub-left Inv-loop μ-loop
 sub-left c = omega (arith, c .before .before .before .before .before .before .before .loop-test .taken)
 
--- src/lib.rt:85:5
 loop-less : tie.Need-loop-less Inv-loop μ-loop
 loop-less c = omega (arith, c .before .before .before .before .before .before .before .loop-test .taken)
 
--- src/lib.rt:85:5
 loop-again : tie.Need-loop-again Inv-loop μ-loop
 loop-again c = going-next (c .before .before .before .before .before .before .before .before .loop .inv) (value (typeOf (c .before .before .before .before .before .before .before .before .before .before .before .args .what))) (times (c .before .before .before .before .before .before .before .before .loop .left - 1) (value (typeOf (c .before .before .before .before .before .before .before .before .before .before .before .args .what)))) (times-more (value (typeOf (c .before .before .before .before .before .before .before .before .before .before .before .args .what))) (c .before .before .before .before .before .before .before .before .loop .left) (c .before .before .before .before .before .before .before .loop-test .taken)) (c .before .before .before .before .before .write-value .last .1 .0) (c .before .before .before .before .before .write-value .result) (c .before .before .before .before .before .write-value .ensures) (c .before .before .before .before .before .write-value .kept .1 .0) (c .before .r .given .0 .0) (c .before .r .given .0 .1 .0) (c .before .r .given .1)
 
--- src/lib.rt:78:1
 same-length-2 : tie.Need-same-length-2 Inv-loop μ-loop
 same-length-2 c = c .before .loop .inv .size
 
--- src/lib.rt:78:1
 returns-2 : tie.Need-returns-2 Inv-loop μ-loop
 returns-2 c = going-over (c .before .loop .inv) (times-over (value (typeOf (c .before .before .before .before .args .what))) (c .before .loop .left) (omega (arith, c .loop-test .left)))
 

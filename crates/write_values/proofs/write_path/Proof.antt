@@ -1,7 +1,7 @@
+-- `write_values::write_path` meets its contract.
 use denote.Ref.{now}
 use Rattle.sink.specs.Laying.{at}
 use Rattle.values.specs.Parts.{pathOf}
-use mathlib.Core.Path.{sym, _∙_}
 use native.Mathlib.Omega.{arith}
 use Rattle.items.specs.Kinds.{formatOf}
 use Rattle.items.specs.declared.Item.the-variants.{Count}
@@ -10,48 +10,34 @@ use Rattle.spelling.proofs.NumberLaws.{counted-stop, counted-inside, counted-mo
 use borrow.Author.Needs.{needs}
 use Rattle.write_values.proofs.write_path.Statement.{statement}
 use Rattle.write_values.proofs.write_path.Tie as tie
-use Rattle.write_values.proofs.write_path.Reads as reads
-use Rattle.write_values.proofs.write_path.Lts as lts
-use Rattle.spelling.proofs.write_one.Reads as write-one-reads
-use Rattle.write_values.proofs.write_verbs.Reads as write-verbs-reads
 
--- src/lib.rt:51:9
 write-one-requires : tie.Need-write-one-requires
 write-one-requires c κs = search needs
 
--- src/lib.rt:52:19
 enum-known-r : tie.Need-enum-known-r
 enum-known-r c = search needs
 
--- src/lib.rt:53:9
 enum-told : tie.Need-enum-told
 enum-told c = search needs
 
--- src/lib.rt:53:9
 same-length : tie.Need-same-length
 same-length c = search needs
 
--- src/lib.rt:53:9
 returns : tie.Need-returns
 returns c = let a = c .before .before .before .before .before .before .before .before .args in counted-stop 0 pathOf (now (a .t)) (at (now (a .out)) (a .s)) (a .k) (c .before .before .before .before .write-one .last .1 .0) (c .before .before .before .before .write-one .result) (c .before .before .before .before .write-one .ensures) (c .enum-told .given .1)
 
--- src/lib.rt:55:17
 mul-write-verbs : tie.Need-mul-write-verbs
 mul-write-verbs c = let a = c .before .before .before .before .before .before .before .before .before .args in let h = counted-inside 0 pathOf (now (a .t)) (at (now (a .out)) (a .s)) (a .k) (c .before .before .before .before .before .write-one .last .1 .0) (c .before .before .before .before .before .write-one .result) (c .before .before .before .before .before .write-one .ensures) (c .before .r .given .0 .0) (c .before .r .given .0 .1 .0) (c .before .r .given .1) in omega (arith, h)
 
--- src/lib.rt:55:17
 shared-slice-read-write-verbs : tie.Need-shared-slice-read-write-verbs
 shared-slice-read-write-verbs c = let a = c .before .before .before .before .before .before .before .before .before .before .args in counted-inside 0 pathOf (now (a .t)) (at (now (a .out)) (a .s)) (a .k) (c .before .before .before .before .before .before .write-one .last .1 .0) (c .before .before .before .before .before .before .write-one .result) (c .before .before .before .before .before .before .write-one .ensures) (c .before .before .r .given .0 .0) (c .before .before .r .given .0 .1 .0) (c .before .before .r .given .1)
 
--- src/lib.rt:55:5
 write-verbs-requires : tie.Need-write-verbs-requires
 write-verbs-requires c κs = let a = c .before .before .before .before .before .before .before .before .before .before .before .args in (ran-fine (now (a .t)) (now (a .out)) (a .s) (a .k) (formatOf (Count 0)) (c .before .before .before .before .before .before .before .write-one .last .1 .0) (c .before .before .before .before .before .before .before .write-one .result) (c .before .before .before .before .before .before .before .before .before .before .before .pre) (c .before .before .before .before .before .before .before .write-one .ensures) (c .before .before .before .r .given .0 .0) (c .before .before .before .r .given .0 .1 .0) (c .before .before .before .r .given .1), counted-most 0 pathOf (now (a .t)) (at (now (a .out)) (a .s)) (a .k) (c .before .before .before .before .before .before .before .write-one .last .1 .0) (c .before .before .before .before .before .before .before .write-one .result) (c .before .before .before .before .before .before .before .write-one .ensures) (c .before .before .before .r .given .0 .0) (c .before .before .before .r .given .0 .1 .0) (c .before .before .before .r .given .1))
 
--- src/lib.rt:47:1
 same-length-2 : tie.Need-same-length-2
 same-length-2 c = search needs
 
--- src/lib.rt:47:1
 returns-2 : tie.Need-returns-2
 returns-2 c = let a = c .before .before .before .before .before .before .before .before .before .before .before .before .before .before .args in counted-on 0 pathOf (now (a .t)) (at (now (a .out)) (a .s)) (a .k) (c .before .before .before .before .before .before .before .before .before .before .write-one .last .1 .0) (c .before .before .before .before .before .before .before .before .before .before .write-one .result) (c .before .before .before .before .before .before .before .before .before .before .write-one .ensures) (c .before .before .before .before .before .before .r .given .0 .0) (c .before .before .before .before .before .before .r .given .0 .1 .0) (c .before .before .before .before .before .before .r .given .1) (c .before .before .write-verbs .ensures)
 

@@ -1,3 +1,4 @@
+-- `write_values::write_ratio` meets its contract.
 use denote.Ref.{now}
 use Rattle.sink.specs.Laying.{at}
 use Rattle.format.specs.Items.{u32}
@@ -7,39 +8,28 @@ use Rattle.spelling.proofs.RunLaws.{then-on, then-off, ran-fine}
 use borrow.Author.Needs.{needs}
 use Rattle.write_values.proofs.write_ratio.Statement.{statement}
 use Rattle.write_values.proofs.write_ratio.Tie as tie
-use Rattle.write_values.proofs.write_ratio.Reads as reads
-use Rattle.write_values.proofs.write_ratio.Lts as lts
-use Rattle.spelling.proofs.write_one.Reads as write-one-reads
 
--- src/lib.rt:25:9
 write-one-requires : tie.Need-write-one-requires
 write-one-requires c κs = search needs
 
--- src/lib.rt:26:19
 enum-known-r : tie.Need-enum-known-r
 enum-known-r c = search needs
 
--- src/lib.rt:27:9
 enum-told : tie.Need-enum-told
 enum-told c = search needs
 
--- src/lib.rt:27:9
 same-length : tie.Need-same-length
 same-length c = search needs
 
--- src/lib.rt:27:9
 returns : tie.Need-returns
 returns c = let a = c .before .before .before .before .before .before .before .before .args in then-off (now (a .t)) (at (now (a .out)) (a .s)) (a .k) (formatOf I32) (λ xs. u32) (c .before .before .before .before .write-one .last .1 .0) (c .before .before .before .before .write-one .result) (c .before .before .before .before .write-one .ensures) (c .enum-told .given .1)
 
--- src/lib.rt:29:5
 write-one-requires-2 : tie.Need-write-one-requires-2
 write-one-requires-2 c κs = let a = c .before .before .before .before .before .before .before .before .before .before .args in ran-fine (now (a .t)) (now (a .out)) (a .s) (a .k) (formatOf I32) (c .before .before .before .before .before .before .write-one .last .1 .0) (c .before .before .before .before .before .before .write-one .result) (c .before .before .before .before .before .before .before .before .before .before .pre) (c .before .before .before .before .before .before .write-one .ensures) (c .before .before .r .given .0 .0) (c .before .before .r .given .0 .1 .0) (c .before .before .r .given .1)
 
--- src/lib.rt:21:1
 same-length-2 : tie.Need-same-length-2
 same-length-2 c = search needs
 
--- src/lib.rt:21:1
 returns-2 : tie.Need-returns-2
 returns-2 c = let a = c .before .before .before .before .before .before .before .before .before .before .before .before .before .args in then-on (now (a .t)) (at (now (a .out)) (a .s)) (a .k) (formatOf I32) (λ xs. u32) (c .before .before .before .before .before .before .before .before .before .write-one .last .1 .0) (c .before .before .before .before .before .before .before .before .before .write-one .result) (c .before .before .before .before .before .before .before .before .before .write-one .ensures) (c .before .before .before .before .before .r .given .0 .0) (c .before .before .before .before .before .r .given .0 .1 .0) (c .before .before .before .before .before .r .given .1) (c .before .before .write-one2 .ensures)
 

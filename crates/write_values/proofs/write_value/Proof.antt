@@ -1,3 +1,4 @@
+-- `write_values::write_value` meets its contract.
 use denote.Ref.{now}
 use Rattle.sink.specs.Laying.{at}
 use Rattle.attributes.specs.declared.DataType.the-variants.{U32, Time, Float, Ratio, Bool, Byte, BlendMode, TrackMatteType, MaskMode, Path}
@@ -5,169 +6,124 @@ use Rattle.write_values.proofs.ValueLaws.{value-of}
 use borrow.Author.Needs.{needs}
 use Rattle.write_values.proofs.write_value.Statement.{statement}
 use Rattle.write_values.proofs.write_value.Tie as tie
-use Rattle.write_values.proofs.write_value.Reads as reads
-use Rattle.write_values.proofs.write_value.Lts as lts
-use Rattle.spelling.proofs.write_one.Reads as write-one-reads
-use Rattle.write_values.proofs.write_path.Reads as write-path-reads
-use Rattle.write_values.proofs.write_ratio.Reads as write-ratio-reads
 
--- src/lib.rt:64:46
 enum-told : tie.Need-enum-told
 enum-told c = search needs
 
--- src/lib.rt:64:26
 write-one-requires : tie.Need-write-one-requires
 write-one-requires c κs = search needs
 
--- src/lib.rt:65:47
 enum-told-2 : tie.Need-enum-told-2
 enum-told-2 c = search needs
 
--- src/lib.rt:65:27
 write-one-requires-2 : tie.Need-write-one-requires-2
 write-one-requires-2 c κs = search needs
 
--- src/lib.rt:66:48
 enum-told-3 : tie.Need-enum-told-3
 enum-told-3 c = search needs
 
--- src/lib.rt:66:28
 write-one-requires-3 : tie.Need-write-one-requires-3
 write-one-requires-3 c κs = search needs
 
--- src/lib.rt:67:40
 enum-told-4 : tie.Need-enum-told-4
 enum-told-4 c = search needs
 
--- src/lib.rt:67:28
 write-ratio-requires : tie.Need-write-ratio-requires
 write-ratio-requires c κs = search needs
 
--- src/lib.rt:68:47
 enum-told-5 : tie.Need-enum-told-5
 enum-told-5 c = search needs
 
--- src/lib.rt:68:27
 write-one-requires-4 : tie.Need-write-one-requires-4
 write-one-requires-4 c κs = search needs
 
--- src/lib.rt:69:47
 enum-told-6 : tie.Need-enum-told-6
 enum-told-6 c = search needs
 
--- src/lib.rt:69:27
 write-one-requires-5 : tie.Need-write-one-requires-5
 write-one-requires-5 c κs = search needs
 
--- src/lib.rt:70:52
 enum-told-7 : tie.Need-enum-told-7
 enum-told-7 c = search needs
 
--- src/lib.rt:70:32
 write-one-requires-6 : tie.Need-write-one-requires-6
 write-one-requires-6 c κs = search needs
 
--- src/lib.rt:71:57
 enum-told-8 : tie.Need-enum-told-8
 enum-told-8 c = search needs
 
--- src/lib.rt:71:37
 write-one-requires-7 : tie.Need-write-one-requires-7
 write-one-requires-7 c κs = search needs
 
--- src/lib.rt:72:51
 enum-told-9 : tie.Need-enum-told-9
 enum-told-9 c = search needs
 
--- src/lib.rt:72:31
 write-one-requires-8 : tie.Need-write-one-requires-8
 write-one-requires-8 c κs = search needs
 
--- src/lib.rt:73:38
 enum-told-10 : tie.Need-enum-told-10
 enum-told-10 c = search needs
 
--- src/lib.rt:73:27
 write-path-requires : tie.Need-write-path-requires
 write-path-requires c κs = search needs
 
--- src/lib.rt:59:1
 same-length : tie.Need-same-length
 same-length c = search needs
 
--- src/lib.rt:59:1
 returns : tie.Need-returns
 returns c = let a = c .before .before .before .before .before .before .before .before .args in value-of (now (a .t)) (at (now (a .out)) (a .s)) (a .k) U32 (c .before .before .before .before .enum-told .given .1) (c .before .before .write-one .ensures)
 
--- src/lib.rt:59:1
 same-length-2 : tie.Need-same-length-2
 same-length-2 c = search needs
 
--- src/lib.rt:59:1
 returns-2 : tie.Need-returns-2
 returns-2 c = let a = c .before .before .before .before .before .before .before .before .args in value-of (now (a .t)) (at (now (a .out)) (a .s)) (a .k) Time (c .before .before .before .before .enum-told2 .given .1) (c .before .before .write-one2 .ensures)
 
--- src/lib.rt:59:1
 same-length-3 : tie.Need-same-length-3
 same-length-3 c = search needs
 
--- src/lib.rt:59:1
 returns-3 : tie.Need-returns-3
 returns-3 c = let a = c .before .before .before .before .before .before .before .before .args in value-of (now (a .t)) (at (now (a .out)) (a .s)) (a .k) Float (c .before .before .before .before .enum-told3 .given .1) (c .before .before .write-one3 .ensures)
 
--- src/lib.rt:59:1
 same-length-4 : tie.Need-same-length-4
 same-length-4 c = search needs
 
--- src/lib.rt:59:1
 returns-4 : tie.Need-returns-4
 returns-4 c = let a = c .before .before .before .before .before .before .before .before .args in value-of (now (a .t)) (at (now (a .out)) (a .s)) (a .k) Ratio (c .before .before .before .before .enum-told4 .given .1) (c .before .before .write-ratio .ensures)
 
--- src/lib.rt:59:1
 same-length-5 : tie.Need-same-length-5
 same-length-5 c = search needs
 
--- src/lib.rt:59:1
 returns-5 : tie.Need-returns-5
 returns-5 c = let a = c .before .before .before .before .before .before .before .before .args in value-of (now (a .t)) (at (now (a .out)) (a .s)) (a .k) Bool (c .before .before .before .before .enum-told5 .given .1) (c .before .before .write-one4 .ensures)
 
--- src/lib.rt:59:1
 same-length-6 : tie.Need-same-length-6
 same-length-6 c = search needs
 
--- src/lib.rt:59:1
 returns-6 : tie.Need-returns-6
 returns-6 c = let a = c .before .before .before .before .before .before .before .before .args in value-of (now (a .t)) (at (now (a .out)) (a .s)) (a .k) Byte (c .before .before .before .before .enum-told6 .given .1) (c .before .before .write-one5 .ensures)
 
--- src/lib.rt:59:1
 same-length-7 : tie.Need-same-length-7
 same-length-7 c = search needs
 
--- src/lib.rt:59:1
 returns-7 : tie.Need-returns-7
 returns-7 c = let a = c .before .before .before .before .before .before .before .before .args in value-of (now (a .t)) (at (now (a .out)) (a .s)) (a .k) BlendMode (c .before .before .before .before .enum-told7 .given .1) (c .before .before .write-one6 .ensures)
 
--- src/lib.rt:59:1
 same-length-8 : tie.Need-same-length-8
 same-length-8 c = search needs
 
--- src/lib.rt:59:1
 returns-8 : tie.Need-returns-8
 returns-8 c = let a = c .before .before .before .before .before .before .before .before .args in value-of (now (a .t)) (at (now (a .out)) (a .s)) (a .k) TrackMatteType (c .before .before .before .before .enum-told8 .given .1) (c .before .before .write-one7 .ensures)
 
--- src/lib.rt:59:1
 same-length-9 : tie.Need-same-length-9
 same-length-9 c = search needs
 
--- src/lib.rt:59:1
 returns-9 : tie.Need-returns-9
 returns-9 c = let a = c .before .before .before .before .before .before .before .before .args in value-of (now (a .t)) (at (now (a .out)) (a .s)) (a .k) MaskMode (c .before .before .before .before .enum-told9 .given .1) (c .before .before .write-one8 .ensures)
 
--- src/lib.rt:59:1
 same-length-10 : tie.Need-same-length-10
 same-length-10 c = search needs
 
--- src/lib.rt:59:1
 returns-10 : tie.Need-returns-10
 returns-10 c = let a = c .before .before .before .before .before .before .before .before .args in value-of (now (a .t)) (at (now (a .out)) (a .s)) (a .k) Path (c .before .before .before .before .enum-told10 .given .1) (c .before .before .write-path .ensures)
 

@@ -1,3 +1,4 @@
+-- `write_values::write_values` meets its contract.
 use denote.Ref.{now}
 use Rattle.sink.specs.Laying.{at}
 use mathlib.Core.Path.{refl}
@@ -6,169 +7,124 @@ use Rattle.write_values.proofs.ValueLaws.{values-of, in-turn-of}
 use borrow.Author.Needs.{needs}
 use Rattle.write_values.proofs.write_values.Statement.{statement}
 use Rattle.write_values.proofs.write_values.Tie as tie
-use Rattle.write_values.proofs.write_values.Reads as reads
-use Rattle.write_values.proofs.write_values.Lts as lts
-use Rattle.spelling.proofs.fields.write_fields.Reads as write-fields-reads
-use Rattle.spelling.proofs.fields.write_scaled.Reads as write-scaled-reads
-use Rattle.write_values.proofs.write_in_turn.Reads as write-in-turn-reads
 
--- src/lib.rt:104:52
 enum-told : tie.Need-enum-told
 enum-told c = search needs
 
--- src/lib.rt:104:17
 write-fields-requires : tie.Need-write-fields-requires
 write-fields-requires c κs = search needs
 
--- src/lib.rt:107:58
 enum-told-2 : tie.Need-enum-told-2
 enum-told-2 c = search needs
 
--- src/lib.rt:107:27
 write-scaled-requires : tie.Need-write-scaled-requires
 write-scaled-requires c κs = search needs
 
--- src/lib.rt:108:49
 enum-told-3 : tie.Need-enum-told-3
 enum-told-3 c = search needs
 
--- src/lib.rt:108:26
 write-in-turn-requires : tie.Need-write-in-turn-requires
 write-in-turn-requires c κs = search needs
 
--- src/lib.rt:109:50
 enum-told-4 : tie.Need-enum-told-4
 enum-told-4 c = search needs
 
--- src/lib.rt:109:27
 write-in-turn-requires-2 : tie.Need-write-in-turn-requires-2
 write-in-turn-requires-2 c κs = search needs
 
--- src/lib.rt:110:51
 enum-told-5 : tie.Need-enum-told-5
 enum-told-5 c = search needs
 
--- src/lib.rt:110:28
 write-in-turn-requires-3 : tie.Need-write-in-turn-requires-3
 write-in-turn-requires-3 c κs = search needs
 
--- src/lib.rt:111:51
 enum-told-6 : tie.Need-enum-told-6
 enum-told-6 c = search needs
 
--- src/lib.rt:111:28
 write-in-turn-requires-4 : tie.Need-write-in-turn-requires-4
 write-in-turn-requires-4 c κs = search needs
 
--- src/lib.rt:112:55
 enum-told-7 : tie.Need-enum-told-7
 enum-told-7 c = search needs
 
--- src/lib.rt:112:32
 write-in-turn-requires-5 : tie.Need-write-in-turn-requires-5
 write-in-turn-requires-5 c κs = search needs
 
--- src/lib.rt:113:60
 enum-told-8 : tie.Need-enum-told-8
 enum-told-8 c = search needs
 
--- src/lib.rt:113:37
 write-in-turn-requires-6 : tie.Need-write-in-turn-requires-6
 write-in-turn-requires-6 c κs = search needs
 
--- src/lib.rt:114:54
 enum-told-9 : tie.Need-enum-told-9
 enum-told-9 c = search needs
 
--- src/lib.rt:114:31
 write-in-turn-requires-7 : tie.Need-write-in-turn-requires-7
 write-in-turn-requires-7 c κs = search needs
 
--- src/lib.rt:115:50
 enum-told-10 : tie.Need-enum-told-10
 enum-told-10 c = search needs
 
--- src/lib.rt:115:27
 write-in-turn-requires-8 : tie.Need-write-in-turn-requires-8
 write-in-turn-requires-8 c κs = search needs
 
--- src/lib.rt:98:1
 same-length : tie.Need-same-length
 same-length c = search needs
 
--- src/lib.rt:98:1
 returns : tie.Need-returns
 returns c = let a = c .before .before .before .before .before .before .before .before .args in values-of (now (a .t)) (at (now (a .out)) (a .s)) (a .k) (a .n) Bool (c .before .before .before .before .enum-told .given .1) (c .before .before .write-fields .ensures .0)
 
--- src/lib.rt:98:1
 same-length-2 : tie.Need-same-length-2
 same-length-2 c = search needs
 
--- src/lib.rt:98:1
 returns-2 : tie.Need-returns-2
 returns-2 c = let a = c .before .before .before .before .before .before .before .before .args in values-of (now (a .t)) (at (now (a .out)) (a .s)) (a .k) (a .n) Byte (c .before .before .before .before .enum-told2 .given .1) (c .before .before .write-scaled .ensures)
 
--- src/lib.rt:98:1
 same-length-3 : tie.Need-same-length-3
 same-length-3 c = search needs
 
--- src/lib.rt:98:1
 returns-3 : tie.Need-returns-3
 returns-3 c = let a = c .before .before .before .before .before .before .before .before .args in in-turn-of (now (a .t)) (at (now (a .out)) (a .s)) (a .k) (a .n) U32 refl (c .before .before .before .before .enum-told3 .given .1) (c .before .before .write-in-turn .ensures)
 
--- src/lib.rt:98:1
 same-length-4 : tie.Need-same-length-4
 same-length-4 c = search needs
 
--- src/lib.rt:98:1
 returns-4 : tie.Need-returns-4
 returns-4 c = let a = c .before .before .before .before .before .before .before .before .args in in-turn-of (now (a .t)) (at (now (a .out)) (a .s)) (a .k) (a .n) Time refl (c .before .before .before .before .enum-told4 .given .1) (c .before .before .write-in-turn2 .ensures)
 
--- src/lib.rt:98:1
 same-length-5 : tie.Need-same-length-5
 same-length-5 c = search needs
 
--- src/lib.rt:98:1
 returns-5 : tie.Need-returns-5
 returns-5 c = let a = c .before .before .before .before .before .before .before .before .args in in-turn-of (now (a .t)) (at (now (a .out)) (a .s)) (a .k) (a .n) Float refl (c .before .before .before .before .enum-told5 .given .1) (c .before .before .write-in-turn3 .ensures)
 
--- src/lib.rt:98:1
 same-length-6 : tie.Need-same-length-6
 same-length-6 c = search needs
 
--- src/lib.rt:98:1
 returns-6 : tie.Need-returns-6
 returns-6 c = let a = c .before .before .before .before .before .before .before .before .args in in-turn-of (now (a .t)) (at (now (a .out)) (a .s)) (a .k) (a .n) Ratio refl (c .before .before .before .before .enum-told6 .given .1) (c .before .before .write-in-turn4 .ensures)
 
--- src/lib.rt:98:1
 same-length-7 : tie.Need-same-length-7
 same-length-7 c = search needs
 
--- src/lib.rt:98:1
 returns-7 : tie.Need-returns-7
 returns-7 c = let a = c .before .before .before .before .before .before .before .before .args in in-turn-of (now (a .t)) (at (now (a .out)) (a .s)) (a .k) (a .n) BlendMode refl (c .before .before .before .before .enum-told7 .given .1) (c .before .before .write-in-turn5 .ensures)
 
--- src/lib.rt:98:1
 same-length-8 : tie.Need-same-length-8
 same-length-8 c = search needs
 
--- src/lib.rt:98:1
 returns-8 : tie.Need-returns-8
 returns-8 c = let a = c .before .before .before .before .before .before .before .before .args in in-turn-of (now (a .t)) (at (now (a .out)) (a .s)) (a .k) (a .n) TrackMatteType refl (c .before .before .before .before .enum-told8 .given .1) (c .before .before .write-in-turn6 .ensures)
 
--- src/lib.rt:98:1
 same-length-9 : tie.Need-same-length-9
 same-length-9 c = search needs
 
--- src/lib.rt:98:1
 returns-9 : tie.Need-returns-9
 returns-9 c = let a = c .before .before .before .before .before .before .before .before .args in in-turn-of (now (a .t)) (at (now (a .out)) (a .s)) (a .k) (a .n) MaskMode refl (c .before .before .before .before .enum-told9 .given .1) (c .before .before .write-in-turn7 .ensures)
 
--- src/lib.rt:98:1
 same-length-10 : tie.Need-same-length-10
 same-length-10 c = search needs
 
--- src/lib.rt:98:1
 returns-10 : tie.Need-returns-10
 returns-10 c = let a = c .before .before .before .before .before .before .before .before .args in in-turn-of (now (a .t)) (at (now (a .out)) (a .s)) (a .k) (a .n) Path refl (c .before .before .before .before .enum-told10 .given .1) (c .before .before .write-in-turn8 .ensures)
 

@@ -1,3 +1,4 @@
+-- `write_values::write_verbs` meets its contract.
 use denote.Ref.{now}
 use Rattle.sink.specs.Laying.{at}
 use native.Mathlib.Omega.{arith}
@@ -12,42 +13,30 @@ use Rattle.write_values.proofs.ValueLaws.{verbs-done}
 use borrow.Author.Needs.{needs}
 use Rattle.write_values.proofs.write_verbs.Statement.{statement}
 use Rattle.write_values.proofs.write_verbs.Tie as tie
-use Rattle.write_values.proofs.write_verbs.Reads as reads
-use Rattle.write_values.proofs.write_verbs.Lts as lts
-use Rattle.spelling.proofs.fields.write_fields.Reads as write-fields-reads
-use Rattle.spelling.proofs.fields.write_scaled.Reads as write-scaled-reads
 
--- src/lib.rt:37:9
 write-fields-requires : tie.Need-write-fields-requires
 write-fields-requires c κs = search needs
 
--- src/lib.rt:40:19
 enum-known-r : tie.Need-enum-known-r
 enum-known-r c = search needs
 
--- src/lib.rt:41:9
 enum-told : tie.Need-enum-told
 enum-told c = search needs
 
--- src/lib.rt:41:9
 same-length : tie.Need-same-length
 same-length c = search needs
 
--- src/lib.rt:41:9
 returns : tie.Need-returns
 returns c = let a = c .before .before .before .before .before .before .before .before .args in then-off (now (a .t)) (at (now (a .out)) (a .s)) (a .k) (times (a .n) (fieldOf Verb 3)) (λ verbs. scaled (coordinates verbs)) (c .before .before .before .before .write-fields .last .1 .1 .1 .0) (c .before .before .before .before .write-fields .result .put) (c .before .before .before .before .write-fields .ensures .0) (c .enum-told .given .1)
 
--- src/lib.rt:43:5
 write-scaled-requires : tie.Need-write-scaled-requires
 write-scaled-requires c κs = let a = c .before .before .before .before .before .before .before .before .before .before .args in
     let h = announces-done Verb (now (a .t)) (a .k) (a .n) (c .before .before .before .before .before .before .write-fields .result .count) (c .before .before .before .before .before .before .write-fields .ensures .1) (c .before .before .r .given .1) in
     (ran-fine (now (a .t)) (now (a .out)) (a .s) (a .k) (times (a .n) (fieldOf Verb 3)) (c .before .before .before .before .before .before .write-fields .last .1 .1 .1 .0) (c .before .before .before .before .before .before .write-fields .result .put) (c .before .before .before .before .before .before .before .before .before .before .pre .0) (c .before .before .before .before .before .before .write-fields .ensures .0) (c .before .before .r .given .0 .0) (c .before .before .r .given .0 .1 .0) (c .before .before .r .given .1), omega (arith, h .1, c .before .before .before .before .before .before .before .before .before .before .pre .1))
 
--- src/lib.rt:33:1
 same-length-2 : tie.Need-same-length-2
 same-length-2 c = search needs
 
--- src/lib.rt:33:1
 returns-2 : tie.Need-returns-2
 returns-2 c = let a = c .before .before .before .before .before .before .before .before .before .before .before .before .before .args in verbs-done (now (a .t)) (at (now (a .out)) (a .s)) (a .k) (a .n) (c .before .before .before .before .before .before .before .before .before .write-fields .result .count) (c .before .before .before .before .before .before .before .before .before .write-fields .last .1 .1 .1 .0) (c .before .before .before .before .before .before .before .before .before .write-fields .result .put) (c .before .before .before .before .before .before .before .before .before .write-fields .ensures .0) (c .before .before .before .before .before .before .before .before .before .write-fields .ensures .1) (c .before .before .before .before .before .r .given .0 .0) (c .before .before .before .before .before .r .given .0 .1 .0) (c .before .before .before .before .before .r .given .1) (c .before .before .write-scaled .ensures)
 

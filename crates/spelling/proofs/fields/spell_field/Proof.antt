@@ -1,3 +1,4 @@
+-- `spelling::fields::spell_field` meets its contract.
 use mathlib.Core.Path.{sym, ap, _∙_}
 use denote.Ref.{now}
 use Rattle.table.specs.declared.fields.Field.{Field}
@@ -7,88 +8,64 @@ use Rattle.spelling.specs.Spellings.{fieldSpelling}
 use borrow.Author.Needs.{needs}
 use Rattle.spelling.proofs.fields.spell_field.Statement.{statement}
 use Rattle.spelling.proofs.fields.spell_field.Tie as tie
-use Rattle.spelling.proofs.fields.spell_field.Reads as reads
-use Rattle.spelling.proofs.fields.spell_field.Lts as lts
-use Rattle.spelling.proofs.fields.spell_sb.Reads as spell-sb-reads
-use Rattle.spelling.proofs.fields.spell_ub.Reads as spell-ub-reads
 
--- src/fields.rt:60:33
 enum-told : tie.Need-enum-told
 enum-told c = search needs
 
--- src/fields.rt:60:24
 spell-ub-requires : tie.Need-spell-ub-requires
 spell-ub-requires c κs = search needs
 
--- src/fields.rt:61:42
 enum-told-2 : tie.Need-enum-told-2
 enum-told-2 c = search needs
 
--- src/fields.rt:61:33
 spell-ub-requires-2 : tie.Need-spell-ub-requires-2
 spell-ub-requires-2 c κs = search needs
 
--- src/fields.rt:62:32
 enum-told-3 : tie.Need-enum-told-3
 enum-told-3 c = search needs
 
--- src/fields.rt:62:23
 spell-ub-requires-3 : tie.Need-spell-ub-requires-3
 spell-ub-requires-3 c κs = search needs
 
--- src/fields.rt:63:38
 enum-told-4 : tie.Need-enum-told-4
 enum-told-4 c = search needs
 
--- src/fields.rt:63:29
 spell-ub-requires-4 : tie.Need-spell-ub-requires-4
 spell-ub-requires-4 c κs = search needs
 
--- src/fields.rt:64:39
 enum-told-5 : tie.Need-enum-told-5
 enum-told-5 c = search needs
 
--- src/fields.rt:64:30
 spell-sb-requires : tie.Need-spell-sb-requires
 spell-sb-requires c κs = search needs
 
--- src/fields.rt:55:1
 same-length : tie.Need-same-length
 same-length c = search needs
 
--- src/fields.rt:55:1
 returns : tie.Need-returns
 returns c = c .before .before .spell-ub .ensures ∙ ap (λ (k : Field). laid (at (now (c .before .before .before .before .before .before .before .args .out)) (c .before .before .before .before .before .before .before .args .s)) (fieldSpelling k (c .before .before .before .before .before .before .before .args .w) (c .before .before .before .before .before .before .before .args .v))) (sym (c .before .before .before .before .enum-told .given .1))
 
--- src/fields.rt:55:1
 same-length-2 : tie.Need-same-length-2
 same-length-2 c = search needs
 
--- src/fields.rt:55:1
 returns-2 : tie.Need-returns-2
 returns-2 c = c .before .before .spell-ub2 .ensures ∙ ap (λ (k : Field). laid (at (now (c .before .before .before .before .before .before .before .args .out)) (c .before .before .before .before .before .before .before .args .s)) (fieldSpelling k (c .before .before .before .before .before .before .before .args .w) (c .before .before .before .before .before .before .before .args .v))) (sym (c .before .before .before .before .enum-told2 .given .1))
 
--- src/fields.rt:55:1
 same-length-3 : tie.Need-same-length-3
 same-length-3 c = search needs
 
--- src/fields.rt:55:1
 returns-3 : tie.Need-returns-3
 returns-3 c = c .before .before .spell-ub3 .ensures ∙ ap (λ (k : Field). laid (at (now (c .before .before .before .before .before .before .before .args .out)) (c .before .before .before .before .before .before .before .args .s)) (fieldSpelling k (c .before .before .before .before .before .before .before .args .w) (c .before .before .before .before .before .before .before .args .v))) (sym (c .before .before .before .before .enum-told3 .given .1))
 
--- src/fields.rt:55:1
 same-length-4 : tie.Need-same-length-4
 same-length-4 c = search needs
 
--- src/fields.rt:55:1
 returns-4 : tie.Need-returns-4
 returns-4 c = c .before .before .spell-ub4 .ensures ∙ ap (λ (k : Field). laid (at (now (c .before .before .before .before .before .before .before .args .out)) (c .before .before .before .before .before .before .before .args .s)) (fieldSpelling k (c .before .before .before .before .before .before .before .args .w) (c .before .before .before .before .before .before .before .args .v))) (sym (c .before .before .before .before .enum-told4 .given .1))
 
--- src/fields.rt:55:1
 same-length-5 : tie.Need-same-length-5
 same-length-5 c = search needs
 
--- src/fields.rt:55:1
 returns-5 : tie.Need-returns-5
 returns-5 c = c .before .before .spell-sb .ensures ∙ ap (λ (k : Field). laid (at (now (c .before .before .before .before .before .before .before .args .out)) (c .before .before .before .before .before .before .before .args .s)) (fieldSpelling k (c .before .before .before .before .before .before .before .args .w) (c .before .before .before .before .before .before .before .args .v))) (sym (c .before .before .before .before .enum-told5 .given .1))
 

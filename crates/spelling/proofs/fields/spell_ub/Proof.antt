@@ -1,3 +1,4 @@
+-- `spelling::fields::spell_ub` meets its contract.
 use native.Mathlib.Omega.{arith}
 use denote.Ref.{now}
 use Rattle.sink.specs.Laying.{at}
@@ -6,28 +7,19 @@ use Rattle.spelling.proofs.FieldLaws.{ub-in, ub-out}
 use borrow.Author.Needs.{needs}
 use Rattle.spelling.proofs.fields.spell_ub.Statement.{statement}
 use Rattle.spelling.proofs.fields.spell_ub.Tie as tie
-use Rattle.spelling.proofs.fields.spell_ub.Reads as reads
-use Rattle.spelling.proofs.fields.spell_ub.Lts as lts
-use Rattle.sink.proofs.power.Reads as power-reads
-use Rattle.sink.proofs.put_bits.Reads as put-bits-reads
 
--- src/fields.rt:29:12
 power-requires : tie.Need-power-requires
 power-requires c κs = search needs
 
--- src/fields.rt:30:19
 put-bits-requires : tie.Need-put-bits-requires
 put-bits-requires c κs = search needs
 
--- src/fields.rt:25:1
 same-length : tie.Need-same-length
 same-length c = search needs
 
--- src/fields.rt:25:1
 returns : tie.Need-returns
 returns c = laid-in (at (now (c .before .before .before .before .before .before .before .args .out)) (c .before .before .before .before .before .before .before .args .s)) _ (ub-in (c .before .before .before .before .before .before .before .args .w) (c .before .before .before .before .before .before .before .args .v) (omega (arith, c .before .before .before .before .if1 .taken, c .before .before .before .before .before .power .ensures .0))) (c .before .before .put-bits .ensures)
 
--- src/fields.rt:25:1
 returns-2 : tie.Need-returns-2
 returns-2 c = laid-no (at (now (c .before .before .before .args .out)) (c .before .before .before .args .s)) _ (ub-out (c .before .before .before .args .w) (c .before .before .before .args .v) (omega (arith, c .if1 .left, c .before .power .ensures .0)))
 

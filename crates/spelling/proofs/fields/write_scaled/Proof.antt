@@ -1,3 +1,4 @@
+-- `spelling::fields::write_scaled` meets its contract.
 use mathlib.Core.Path.{sym, ap, _∙_}
 use Rattle.spelling.specs.Writing.{seen}
 use native.Mathlib.Omega.{arith}
@@ -9,48 +10,34 @@ use Rattle.spelling.proofs.FieldLaws.{scaled-stop, scaled-done, width-r
 use borrow.Author.Needs.{needs}
 use Rattle.spelling.proofs.fields.write_scaled.Statement.{statement}
 use Rattle.spelling.proofs.fields.write_scaled.Tie as tie
-use Rattle.spelling.proofs.fields.write_scaled.Reads as reads
-use Rattle.spelling.proofs.fields.write_scaled.Lts as lts
-use Rattle.spelling.proofs.fields.write_fields.Reads as write-fields-reads
-use Rattle.spelling.proofs.fields.write_width.Reads as write-width-reads
 
--- src/fields.rt:149:9
 write-width-requires : tie.Need-write-width-requires
 write-width-requires c κs = search needs
 
--- src/fields.rt:150:19
 enum-known-r : tie.Need-enum-known-r
 enum-known-r c = search needs
 
--- src/fields.rt:151:9
 enum-told : tie.Need-enum-told
 enum-told c = search needs
 
--- src/fields.rt:151:9
 same-length : tie.Need-same-length
 same-length c = search needs
 
--- src/fields.rt:151:9
 returns : tie.Need-returns
 returns c = let a = c .before .before .before .before .before .before .before .before .args in ap (seen (c .before .before .before .before .write-width .last .0)) (c .enum-told .given .1) ∙ sym (scaled-stop (a .kind) (now (a .t)) (at (now (a .out)) (a .s)) (a .k) (a .n) (c .before .before .before .before .write-width .last .0) (c .before .before .before .before .write-width .result) (c .before .before .before .before .write-width .ensures) (c .enum-told .given .1))
 
--- src/fields.rt:153:32
 mul-write-fields : tie.Need-mul-write-fields
 mul-write-fields c = let a = c .before .before .before .before .before .before .before .before .before .args in let h = width-range (a .kind) (now (a .t)) (at (now (a .out)) (a .s)) (a .k) (a .n) (c .before .before .before .before .before .write-width .last .0) (c .before .before .before .before .before .write-width .result) (c .before .before .before .before .before .write-width .ensures) (c .before .r .given .0 .0) (c .before .r .given .0 .1 .0) (c .before .r .given .1) .0 in omega (arith, h)
 
--- src/fields.rt:153:32
 shared-slice-read-write-fields : tie.Need-shared-slice-read-write-fields
 shared-slice-read-write-fields c = let a = c .before .before .before .before .before .before .before .before .before .before .args in width-range (a .kind) (now (a .t)) (at (now (a .out)) (a .s)) (a .k) (a .n) (c .before .before .before .before .before .before .write-width .last .0) (c .before .before .before .before .before .before .write-width .result) (c .before .before .before .before .before .before .write-width .ensures) (c .before .before .r .given .0 .0) (c .before .before .r .given .0 .1 .0) (c .before .before .r .given .1) .0
 
--- src/fields.rt:153:9
 write-fields-requires : tie.Need-write-fields-requires
 write-fields-requires c κs = let a = c .before .before .before .before .before .before .before .before .before .before .before .args in let h = width-range (a .kind) (now (a .t)) (at (now (a .out)) (a .s)) (a .k) (a .n) (c .before .before .before .before .before .before .before .write-width .last .0) (c .before .before .before .before .before .before .before .write-width .result) (c .before .before .before .before .before .before .before .write-width .ensures) (c .before .before .before .r .given .0 .0) (c .before .before .before .r .given .0 .1 .0) (c .before .before .before .r .given .1) in (ran-fine (now (a .t)) (now (a .out)) (a .s) (a .k) (item Item.width) (c .before .before .before .before .before .before .before .write-width .last .0) (c .before .before .before .before .before .before .before .write-width .result) (c .before .before .before .before .before .before .before .before .before .before .before .pre .0) (c .before .before .before .before .before .before .before .write-width .ensures) (c .before .before .before .r .given .0 .0) (c .before .before .before .r .given .0 .1 .0) (c .before .before .before .r .given .1), h .1, h .2, c .before .before .before .before .before .before .before .before .before .before .before .pre .1)
 
--- src/fields.rt:145:1
 same-length-2 : tie.Need-same-length-2
 same-length-2 c = search needs
 
--- src/fields.rt:145:1
 returns-2 : tie.Need-returns-2
 returns-2 c = let a = c .before .before .before .before .before .before .before .before .before .before .before .before .before .before .args in c .before .before .write-fields .ensures .0 ∙ sym (scaled-done (a .kind) (now (a .t)) (at (now (a .out)) (a .s)) (a .k) (a .n) (c .before .before .before .before .before .before .before .before .before .before .write-width .last .0) (c .before .before .before .before .before .before .before .before .before .before .write-width .result) (c .before .before .before .before .before .before .before .before .before .before .write-width .ensures) (c .before .before .before .before .before .before .r .given .0 .0) (c .before .before .before .before .before .before .r .given .0 .1 .0) (c .before .before .before .before .before .before .r .given .1))
 

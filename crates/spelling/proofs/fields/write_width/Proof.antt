@@ -1,5 +1,6 @@
+-- `spelling::fields::write_width` meets its contract.
 use Prim.Native.Nat.{_+_}
-use mathlib.Core.Path.{_≡_, refl, sym, ap, _∙_}
+use mathlib.Core.Path.{refl, sym, ap, _∙_}
 use denote.Ref.{now}
 use lib.ListN.{getD}
 use Rattle.format.specs.Formats.{Item, item}
@@ -11,52 +12,37 @@ use Rattle.spelling.proofs.FieldLaws.{widthBits, width-is, width-zero, 
 use borrow.Author.Needs.{needs}
 use Rattle.spelling.proofs.fields.write_width.Statement.{statement}
 use Rattle.spelling.proofs.fields.write_width.Tie as tie
-use Rattle.spelling.proofs.fields.write_width.Reads as reads
-use Rattle.spelling.proofs.fields.write_width.Lts as lts
-use Rattle.sink.proofs.put_bits.Reads as put-bits-reads
-use Rattle.spelling.proofs.ended.Reads as ended-reads
 
--- src/fields.rt:131:9
 returns : tie.Need-returns
 returns c = let a = c .before .before .before .args in sym (one-none (item Item.width) widthBits width-is (now (a .t)) (at (now (a .out)) (a .s)) (a .k) (c .if1 .taken))
 
--- src/fields.rt:133:13
 mul-w : tie.Need-mul-w
 mul-w c = search needs
 
--- src/fields.rt:133:13
 shared-slice-read-w : tie.Need-shared-slice-read-w
 shared-slice-read-w c = search needs
 
--- src/fields.rt:135:9
 returns-2 : tie.Need-returns-2
 returns-2 c = let a = c .before .before .before .before .before .args in sym (one-bad (item Item.width) widthBits width-is (now (a .t)) (at (now (a .out)) (a .s)) (a .k) (c .before .before .if1 .left) (width-zero (a .s .place .0) (getD (now (a .t)) (a .k) 0) (c .if2 .taken)))
 
--- src/fields.rt:138:9
 returns-3 : tie.Need-returns-3
 returns-3 c = let a = c .before .before .before .before .before .before .args in sym (one-bad (item Item.width) widthBits width-is (now (a .t)) (at (now (a .out)) (a .s)) (a .k) (c .before .before .before .if1 .left) (width-large (a .s .place .0) (getD (now (a .t)) (a .k) 0) (c .if3 .taken)))
 
--- src/fields.rt:140:39
 sub-put-bits : tie.Need-sub-put-bits
 sub-put-bits c = search needs
 
--- src/fields.rt:140:9
 put-bits-requires : tie.Need-put-bits-requires
 put-bits-requires c κs = search needs
 
--- src/fields.rt:141:17
 add-ended : tie.Need-add-ended
 add-ended c = search needs
 
--- src/fields.rt:141:5
 ended-requires : tie.Need-ended-requires
 ended-requires c κs = search needs
 
--- src/fields.rt:126:1
 same-length : tie.Need-same-length
 same-length c = search needs
 
--- src/fields.rt:126:1
 returns-4 : tie.Need-returns-4
 returns-4 c = let a = c .before .before .before .before .before .before .before .before .before .before .before .args in
     ap (seen (c .before .before .before .put-bits .last .0)) (c .ended .ensures) ∙ finish-ends (c .before .before .before .put-bits .last .0) (c .before .before .before .put-bits .result) (a .k + 1)

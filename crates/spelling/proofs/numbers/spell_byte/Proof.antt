@@ -1,30 +1,23 @@
+-- `spelling::numbers::spell_byte` meets its contract.
 use denote.Ref.{now}
 use Rattle.sink.specs.Laying.{mk}
 use Rattle.spelling.proofs.NumberLaws.{byte-in, byte-no}
 use borrow.Author.Needs.{needs}
 use Rattle.spelling.proofs.numbers.spell_byte.Statement.{statement}
 use Rattle.spelling.proofs.numbers.spell_byte.Tie as tie
-use Rattle.spelling.proofs.numbers.spell_byte.Reads as reads
-use Rattle.spelling.proofs.numbers.spell_byte.Lts as lts
-use Rattle.sink.proofs.put_byte.Reads as put-byte-reads
 
--- src/numbers.rt:22:9
 returns : tie.Need-returns
 returns c = byte-no (mk (now (c .before .before .args .out)) (c .before .before .args .at .bit .0) 0) (c .before .before .args .v) (c .if1 .taken)
 
--- src/numbers.rt:25:5
 put-byte-requires : tie.Need-put-byte-requires
 put-byte-requires c κs = search needs
 
--- src/numbers.rt:27:25
 add-t9 : tie.Need-add-t9
 add-t9 c = search needs
 
--- src/numbers.rt:17:1
 same-length : tie.Need-same-length
 same-length c = search needs
 
--- src/numbers.rt:17:1
 returns-2 : tie.Need-returns-2
 returns-2 c = byte-in (now (c .before .before .before .before .before .before .before .args .out)) (c .before .before .before .before .before .before .before .args .at .byte .0) (c .before .before .before .before .before .before .before .args .at .bit .0) (c .before .before .before .before .before .before .before .args .v) (c .before .before .before .before .before .before .before .pre .0) (c .before .before .before .before .before .if1 .left) (c .before .before .before .put-byte .ensures)
 

@@ -1,54 +1,41 @@
+-- `spelling::numbers::spell_float` meets its contract.
 use denote.Ref.{now}
 use Rattle.sink.specs.Laying.{mk}
 use Rattle.spelling.proofs.NumberLaws.{float-in, float-no}
 use borrow.Author.Needs.{needs}
 use Rattle.spelling.proofs.numbers.spell_float.Statement.{statement}
 use Rattle.spelling.proofs.numbers.spell_float.Tie as tie
-use Rattle.spelling.proofs.numbers.spell_float.Reads as reads
-use Rattle.spelling.proofs.numbers.spell_float.Lts as lts
-use Rattle.sink.proofs.put_byte.Reads as put-byte-reads
 
--- src/numbers.rt:38:9
 returns : tie.Need-returns
 returns c = float-no (mk (now (c .before .before .args .out)) (c .before .before .args .at .bit .0) 0) (c .before .before .args .v) (c .if1 .taken)
 
--- src/numbers.rt:41:5
 put-byte-requires : tie.Need-put-byte-requires
 put-byte-requires c κs = search needs
 
--- src/numbers.rt:42:19
 add-put-byte : tie.Need-add-put-byte
 add-put-byte c = search needs
 
--- src/numbers.rt:42:5
 put-byte-requires-2 : tie.Need-put-byte-requires-2
 put-byte-requires-2 c κs = search needs
 
--- src/numbers.rt:43:19
 add-put-byte-2 : tie.Need-add-put-byte-2
 add-put-byte-2 c = search needs
 
--- src/numbers.rt:43:5
 put-byte-requires-3 : tie.Need-put-byte-requires-3
 put-byte-requires-3 c κs = search needs
 
--- src/numbers.rt:44:19
 add-put-byte-3 : tie.Need-add-put-byte-3
 add-put-byte-3 c = search needs
 
--- src/numbers.rt:44:5
 put-byte-requires-4 : tie.Need-put-byte-requires-4
 put-byte-requires-4 c κs = search needs
 
--- src/numbers.rt:46:25
 add-t12 : tie.Need-add-t12
 add-t12 c = search needs
 
--- src/numbers.rt:33:1
 same-length : tie.Need-same-length
 same-length c = search needs
 
--- src/numbers.rt:33:1
 returns-2 : tie.Need-returns-2
 returns-2 c = float-in (now (c .before .before .before .before .before .before .before .before .before .before .before .before .before .before .before .before .before .before .before .args .out)) (c .before .before .before .before .before .before .before .before .before .before .before .before .before .before .before .before .before .before .before .args .at .byte .0) (c .before .before .before .before .before .before .before .before .before .before .before .before .before .before .before .before .before .before .before .args .at .bit .0) (c .before .before .before .before .before .before .before .before .before .before .before .before .before .before .before .before .before .before .before .args .v) (c .before .before .before .before .before .before .before .before .before .before .before .before .before .before .before .before .before .before .before .pre .0) (c .before .before .before .before .before .before .before .before .before .before .before .before .before .before .before .before .before .if1 .left) (c .before .before .before .before .before .before .before .before .before .before .before .before .before .before .before .put-byte .ensures) (c .before .before .before .before .before .before .before .before .before .before .before .put-byte2 .ensures) (c .before .before .before .before .before .before .before .put-byte3 .ensures) (c .before .before .before .put-byte4 .ensures)
 

@@ -1,3 +1,4 @@
+-- `spelling::numbers::spell_i32` meets its contract.
 use mathlib.Core.Path.{sym, ap, _∙_}
 use native.Mathlib.Omega.{arith}
 use denote.Ref.{now}
@@ -8,52 +9,37 @@ use Rattle.spelling.proofs.NumberLaws.{i32-plus, i32-minus, i32-none}
 use borrow.Author.Needs.{needs}
 use Rattle.spelling.proofs.numbers.spell_i32.Statement.{statement}
 use Rattle.spelling.proofs.numbers.spell_i32.Tie as tie
-use Rattle.spelling.proofs.numbers.spell_i32.Reads as reads
-use Rattle.spelling.proofs.numbers.spell_i32.Lts as lts
-use Rattle.spelling.proofs.numbers.spell_var.Reads as spell-var-reads
-use Rattle.std.proofs.num.wrapping_sub_u64.Reads as wrapping-sub-u64-reads
 
--- src/numbers.rt:88:35
 mul-spell-var : tie.Need-mul-spell-var
 mul-spell-var c = search needs
 
--- src/numbers.rt:88:9
 spell-var-requires : tie.Need-spell-var-requires
 spell-var-requires c κs = search needs
 
--- src/numbers.rt:88:9
 same-length : tie.Need-same-length
 same-length c = search needs
 
--- src/numbers.rt:88:9
 returns : tie.Need-returns
 returns c = c .before .before .spell-var .ensures ∙ ap (laid (mk (now (c .before .before .before .before .before .before .args .out)) (c .before .before .before .before .before .before .args .at .bit .0) 0)) (sym (i32-plus (c .before .before .before .before .before .before .args .v) (c .before .before .before .before .if1 .taken)))
 
--- src/numbers.rt:90:9
 wrapping-sub-u64-requires : tie.Need-wrapping-sub-u64-requires
 wrapping-sub-u64-requires c κs = search needs
 
--- src/numbers.rt:92:9
 returns-2 : tie.Need-returns-2
 returns-2 c = laid-no (mk (now (c .before .before .before .before .args .out)) (c .before .before .before .before .args .at .bit .0) 0) _ (i32-none (c .before .before .before .before .args .v) (c .before .wrapping-sub-u64 .result) (search needs) (c .before .before .if1 .left) (omega (arith, c .before .wrapping-sub-u64 .ensures)) (c .if2 .taken))
 
--- src/numbers.rt:94:24
 mul-spell-var-2 : tie.Need-mul-spell-var-2
 mul-spell-var-2 c = search needs
 
--- src/numbers.rt:94:24
 add-spell-var : tie.Need-add-spell-var
 add-spell-var c = search needs
 
--- src/numbers.rt:94:5
 spell-var-requires-2 : tie.Need-spell-var-requires-2
 spell-var-requires-2 c κs = search needs
 
--- src/numbers.rt:83:1
 same-length-2 : tie.Need-same-length-2
 same-length-2 c = search needs
 
--- src/numbers.rt:83:1
 returns-3 : tie.Need-returns-3
 returns-3 c = c .before .before .spell-var2 .ensures ∙ ap (laid (mk (now (c .before .before .before .before .before .before .before .before .args .out)) (c .before .before .before .before .before .before .before .before .args .at .bit .0) 0)) (sym (i32-minus (c .before .before .before .before .before .before .before .before .args .v) (c .before .before .before .before .before .wrapping-sub-u64 .result) (search needs) (c .before .before .before .before .before .before .if1 .left) (omega (arith, c .before .before .before .before .before .wrapping-sub-u64 .ensures))))
 

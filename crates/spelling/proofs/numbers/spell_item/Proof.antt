@@ -1,3 +1,4 @@
+-- `spelling::numbers::spell_item` meets its contract.
 use mathlib.Core.Path.{sym, ap, _∙_}
 use denote.Ref.{now}
 use Rattle.items.specs.declared.Item.{Item}
@@ -7,138 +8,100 @@ use Rattle.spelling.specs.Spellings.{spellingOf}
 use borrow.Author.Needs.{needs}
 use Rattle.spelling.proofs.numbers.spell_item.Statement.{statement}
 use Rattle.spelling.proofs.numbers.spell_item.Tie as tie
-use Rattle.spelling.proofs.numbers.spell_item.Reads as reads
-use Rattle.spelling.proofs.numbers.spell_item.Lts as lts
-use Rattle.spelling.proofs.numbers.spell_byte.Reads as spell-byte-reads
-use Rattle.spelling.proofs.numbers.spell_float.Reads as spell-float-reads
-use Rattle.spelling.proofs.numbers.spell_i32.Reads as spell-i32-reads
-use Rattle.spelling.proofs.numbers.spell_var.Reads as spell-var-reads
 
--- src/numbers.rt:103:32
 enum-told : tie.Need-enum-told
 enum-told c = search needs
 
--- src/numbers.rt:103:22
 spell-var-requires : tie.Need-spell-var-requires
 spell-var-requires c κs = search needs
 
--- src/numbers.rt:104:37
 enum-told-2 : tie.Need-enum-told-2
 enum-told-2 c = search needs
 
--- src/numbers.rt:104:27
 spell-var-requires-2 : tie.Need-spell-var-requires-2
 spell-var-requires-2 c κs = search needs
 
--- src/numbers.rt:105:32
 enum-told-3 : tie.Need-enum-told-3
 enum-told-3 c = search needs
 
--- src/numbers.rt:105:22
 spell-i32-requires : tie.Need-spell-i32-requires
 spell-i32-requires c κs = search needs
 
--- src/numbers.rt:106:33
 enum-told-4 : tie.Need-enum-told-4
 enum-told-4 c = search needs
 
--- src/numbers.rt:106:23
 spell-var-requires-3 : tie.Need-spell-var-requires-3
 spell-var-requires-3 c κs = search needs
 
--- src/numbers.rt:107:36
 enum-told-5 : tie.Need-enum-told-5
 enum-told-5 c = search needs
 
--- src/numbers.rt:107:24
 spell-float-requires : tie.Need-spell-float-requires
 spell-float-requires c κs = search needs
 
--- src/numbers.rt:108:34
 enum-told-6 : tie.Need-enum-told-6
 enum-told-6 c = search needs
 
--- src/numbers.rt:108:23
 spell-byte-requires : tie.Need-spell-byte-requires
 spell-byte-requires c κs = search needs
 
--- src/numbers.rt:109:37
 enum-told-7 : tie.Need-enum-told-7
 enum-told-7 c = search needs
 
--- src/numbers.rt:109:26
 spell-byte-requires-2 : tie.Need-spell-byte-requires-2
 spell-byte-requires-2 c κs = search needs
 
--- src/numbers.rt:110:39
 enum-told-8 : tie.Need-enum-told-8
 enum-told-8 c = search needs
 
--- src/numbers.rt:110:28
 spell-byte-requires-3 : tie.Need-spell-byte-requires-3
 spell-byte-requires-3 c κs = search needs
 
--- src/numbers.rt:98:1
 same-length : tie.Need-same-length
 same-length c = search needs
 
--- src/numbers.rt:98:1
 returns : tie.Need-returns
 returns c = c .before .before .spell-var .ensures ∙ ap (λ (k : Item). laid (mk (now (c .before .before .before .before .before .before .before .args .out)) (c .before .before .before .before .before .before .before .args .at .bit .0) 0) (spellingOf k (c .before .before .before .before .before .before .before .args .v))) (sym (c .before .before .before .before .enum-told .given .1))
 
--- src/numbers.rt:98:1
 same-length-2 : tie.Need-same-length-2
 same-length-2 c = search needs
 
--- src/numbers.rt:98:1
 returns-2 : tie.Need-returns-2
 returns-2 c = c .before .before .spell-var2 .ensures ∙ ap (λ (k : Item). laid (mk (now (c .before .before .before .before .before .before .before .args .out)) (c .before .before .before .before .before .before .before .args .at .bit .0) 0) (spellingOf k (c .before .before .before .before .before .before .before .args .v))) (sym (c .before .before .before .before .enum-told2 .given .1))
 
--- src/numbers.rt:98:1
 same-length-3 : tie.Need-same-length-3
 same-length-3 c = search needs
 
--- src/numbers.rt:98:1
 returns-3 : tie.Need-returns-3
 returns-3 c = c .before .before .spell-i32 .ensures ∙ ap (λ (k : Item). laid (mk (now (c .before .before .before .before .before .before .before .args .out)) (c .before .before .before .before .before .before .before .args .at .bit .0) 0) (spellingOf k (c .before .before .before .before .before .before .before .args .v))) (sym (c .before .before .before .before .enum-told3 .given .1))
 
--- src/numbers.rt:98:1
 same-length-4 : tie.Need-same-length-4
 same-length-4 c = search needs
 
--- src/numbers.rt:98:1
 returns-4 : tie.Need-returns-4
 returns-4 c = c .before .before .spell-var3 .ensures ∙ ap (λ (k : Item). laid (mk (now (c .before .before .before .before .before .before .before .args .out)) (c .before .before .before .before .before .before .before .args .at .bit .0) 0) (spellingOf k (c .before .before .before .before .before .before .before .args .v))) (sym (c .before .before .before .before .enum-told4 .given .1))
 
--- src/numbers.rt:98:1
 same-length-5 : tie.Need-same-length-5
 same-length-5 c = search needs
 
--- src/numbers.rt:98:1
 returns-5 : tie.Need-returns-5
 returns-5 c = c .before .before .spell-float .ensures ∙ ap (λ (k : Item). laid (mk (now (c .before .before .before .before .before .before .before .args .out)) (c .before .before .before .before .before .before .before .args .at .bit .0) 0) (spellingOf k (c .before .before .before .before .before .before .before .args .v))) (sym (c .before .before .before .before .enum-told5 .given .1))
 
--- src/numbers.rt:98:1
 same-length-6 : tie.Need-same-length-6
 same-length-6 c = search needs
 
--- src/numbers.rt:98:1
 returns-6 : tie.Need-returns-6
 returns-6 c = c .before .before .spell-byte .ensures ∙ ap (λ (k : Item). laid (mk (now (c .before .before .before .before .before .before .before .args .out)) (c .before .before .before .before .before .before .before .args .at .bit .0) 0) (spellingOf k (c .before .before .before .before .before .before .before .args .v))) (sym (c .before .before .before .before .enum-told6 .given .1))
 
--- src/numbers.rt:98:1
 same-length-7 : tie.Need-same-length-7
 same-length-7 c = search needs
 
--- src/numbers.rt:98:1
 returns-7 : tie.Need-returns-7
 returns-7 c = c .before .before .spell-byte2 .ensures ∙ ap (λ (k : Item). laid (mk (now (c .before .before .before .before .before .before .before .args .out)) (c .before .before .before .before .before .before .before .args .at .bit .0) 0) (spellingOf k (c .before .before .before .before .before .before .before .args .v))) (sym (c .before .before .before .before .enum-told7 .given .1))
 
--- src/numbers.rt:98:1
 same-length-8 : tie.Need-same-length-8
 same-length-8 c = search needs
 
--- src/numbers.rt:98:1
 returns-8 : tie.Need-returns-8
 returns-8 c = c .before .before .spell-byte3 .ensures ∙ ap (λ (k : Item). laid (mk (now (c .before .before .before .before .before .before .before .args .out)) (c .before .before .before .before .before .before .before .args .at .bit .0) 0) (spellingOf k (c .before .before .before .before .before .before .before .args .v))) (sym (c .before .before .before .before .enum-told8 .given .1))
 

@@ -1,8 +1,7 @@
-use Prim.Native.Nat.{_+_, _*_, _/_, _≤_}
+-- `spelling::numbers::spell_var` meets its contract. The loop's invariant: the spelling of the number is that of what is left of it from here on.
+use Prim.Native.Nat.{_+_, _*_, _≤_}
 use mathlib.Core.Path.{_≡_, refl, sym, _∙_}
 use native.Mathlib.Omega.{arith}
-use borrow.Author.Needs.{needs}
-use denote.Ref.{now}
 use mathlib.Core.Logic.{⊎-elim}
 use lib.ListN.{length}
 use Rattle.format.specs.Bits.{high}
@@ -12,9 +11,6 @@ use Rattle.spelling.specs.Writing.{laid}
 use Rattle.spelling.proofs.NumberLaws.{var-more, var-long, var-over, var-end}
 use Rattle.spelling.proofs.numbers.spell_var.Statement.{statement}
 use Rattle.spelling.proofs.numbers.spell_var.Tie as tie
-use Rattle.spelling.proofs.numbers.spell_var.Reads as reads
-use Rattle.spelling.proofs.numbers.spell_var.Lts as lts
-use Rattle.sink.proofs.put_byte.Reads as put-byte-reads
 
 abbrev Inv-loop : tie.InvT-loop
 Inv-loop out₀ v most top i₀ next₀ rest₀ left₀ out i next rest left = (length out ≡ length out₀) × (left ≤ 9) × (next ≡ 8 * i) × (next + 8 * left ≤ 134217800) × (laid (mk out₀ next₀ 0) (spellVar high top rest₀ left₀) ≡ laid (mk out next 0) (spellVar high top rest left))
@@ -22,43 +18,33 @@ Inv-loop out₀ v most top i₀ next₀ rest₀ left₀ out i next rest left = (
 abbrev μ-loop : tie.MeasureT-loop
 μ-loop out₀ v most top i₀ next₀ rest₀ left₀ out i next rest left = left
 
--- src/numbers.rt:60:5
 loop-holds : tie.Need-loop-holds Inv-loop μ-loop
 loop-holds c = (refl, c .before .pre .1, c .before .pre .0 .0, omega (arith, c .before .pre .0 .1, c .before .pre .1), refl)
 
--- src/numbers.rt:62:13
 same-length : tie.Need-same-length Inv-loop μ-loop
 same-length c = c .before .before .loop .inv .0
 
--- src/numbers.rt:62:13
 returns : tie.Need-returns Inv-loop μ-loop
 returns c = let l = c .before .before .loop in var-long (l .out) (l .i) (l .next) (c .before .before .before .before .args .top) (l .rest) (l .inv .2) (l .left) (c .before .before .before .before .pre .2) (c .if1 .taken) (c .before .loop-test .taken) ∙ sym (l .inv .4)
 
--- src/numbers.rt:64:26
 add-put-byte : tie.Need-add-put-byte Inv-loop μ-loop
 add-put-byte c = omega arith
 
--- src/numbers.rt:64:9
 put-byte-requires : tie.Need-put-byte-requires Inv-loop μ-loop
 put-byte-requires c κs = omega arith
 
--- src/numbers.rt:66:9
 add-i : tie.Need-add-i Inv-loop μ-loop
 add-i c = omega (arith, c .before .before .before .before .before .before .loop .inv .2, c .before .before .before .before .before .before .loop .inv .3)
 
--- src/numbers.rt:67:9
 add-next : tie.Need-add-next Inv-loop μ-loop
 add-next c = omega (arith, c .before .before .before .before .before .before .loop .inv .3)
 
--- src/numbers.rt:68:9
 sub-left : tie.Need-sub-left Inv-loop μ-loop
 sub-left c = omega (arith, c .before .before .before .before .if1 .left)
 
--- src/numbers.rt:60:5
 loop-less : tie.Need-loop-less Inv-loop μ-loop
 loop-less c = omega (arith, c .before .before .before .before .if1 .left)
 
--- src/numbers.rt:60:5
 loop-again : tie.Need-loop-again Inv-loop μ-loop
 loop-again c = let l = c .before .before .before .before .before .before .loop in (
   c .before .before .put-byte .kept .0 ∙ l .inv .0,
@@ -68,27 +54,21 @@ loop-again c = let l = c .before .before .before .before .before .before .loop i
   l .inv .4 ∙ var-more (l .out) (l .i) (l .next) (c .before .before .before .before .before .before .before .before .args .top) (l .rest) (l .inv .2) (l .left) (c .before .before .before .before .if1 .left) (c .before .before .before .before .before .loop-test .taken) (c .before .before .put-byte .ensures),
 )
 
--- src/numbers.rt:72:13
 same-length-2 : tie.Need-same-length-2 Inv-loop μ-loop
 same-length-2 c = c .before .before .before .loop .inv .0
 
--- src/numbers.rt:72:13
 returns-2 : tie.Need-returns-2 Inv-loop μ-loop
 returns-2 c = let l = c .before .before .before .loop in var-over (l .out) (l .i) (l .next) (c .before .before .before .before .before .args .top) (l .rest) (l .inv .2) (l .left) (c .before .if2 .taken) (c .if3 .taken) ∙ sym (l .inv .4)
 
--- src/numbers.rt:75:5
 put-byte-requires-2 : tie.Need-put-byte-requires-2 Inv-loop μ-loop
 put-byte-requires-2 c κs = omega (arith, c .before .before .loop-test .left)
 
--- src/numbers.rt:77:25
 add-t21 : tie.Need-add-t21 Inv-loop μ-loop
 add-t21 c = omega (arith, c .before .before .before .before .before .before .loop .inv .3)
 
--- src/numbers.rt:52:1
 same-length-3 : tie.Need-same-length-3 Inv-loop μ-loop
 same-length-3 c = c .before .before .put-byte2 .kept .0 ∙ c .before .before .before .before .before .before .loop .inv .0
 
--- src/numbers.rt:52:1
 returns-3 : tie.Need-returns-3 Inv-loop μ-loop
 returns-3 c = let l = c .before .before .before .before .before .before .loop in var-end (l .out) (l .i) (l .next) (c .before .before .before .before .before .before .before .before .args .top) (l .rest) (l .inv .2) (l .left) (c .before .before .before .before .before .loop-test .left) (λ z. ⊎-elim (λ w. omega arith) (λ w. omega arith) (c .before .before .before .before .if2 .came)) (c .before .before .put-byte2 .ensures) ∙ sym (l .inv .4)
 

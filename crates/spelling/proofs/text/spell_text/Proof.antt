@@ -1,3 +1,4 @@
+-- `spelling::text::spell_text` meets its contract. The loop's invariant: the String from its start is the rest of it from here on.
 use Prim.Native.Nat.{_+_, _*_, _-_, _≤_}
 use mathlib.Core.Path.{_≡_, refl, sym, _∙_}
 use native.Mathlib.Omega.{arith}
@@ -11,9 +12,6 @@ use Rattle.spelling.specs.Writing.{laid}
 use Rattle.spelling.proofs.TextLaws.{text-start, text-zero, text-large, text-next, text-over}
 use Rattle.spelling.proofs.text.spell_text.Statement.{statement}
 use Rattle.spelling.proofs.text.spell_text.Tie as tie
-use Rattle.spelling.proofs.text.spell_text.Reads as reads
-use Rattle.spelling.proofs.text.spell_text.Lts as lts
-use Rattle.sink.proofs.put_byte.Reads as put-byte-reads
 
 abbrev Inv-loop : tie.InvT-loop
 Inv-loop out₀ at text start n i₀ out i = (length out ≡ length out₀) × (i ≤ length text) × (laid (mk out₀ (at .bit .0) 0) (spellTxt high text) ≡ laid (mk out (at .bit .0 + 8 * i) 0) (spellTxt high (drop i text)))
@@ -21,79 +19,60 @@ Inv-loop out₀ at text start n i₀ out i = (length out ≡ length out₀) × (
 abbrev μ-loop : tie.MeasureT-loop
 μ-loop out₀ at text start n i₀ out i = length text - i
 
--- src/text.rt:26:5
 loop-holds : tie.Need-loop-holds Inv-loop μ-loop
 loop-holds c = (refl, omega arith, text-start (now (c .before .before .args .out)) (c .before .before .args .at .bit .0) (now (c .before .before .args .text)))
 
--- src/text.rt:27:17
 mul-v : tie.Need-mul-v Inv-loop μ-loop
 mul-v c = search needs
 
--- src/text.rt:27:17
 shared-slice-read-v : tie.Need-shared-slice-read-v Inv-loop μ-loop
 shared-slice-read-v c = omega arith
 
--- src/text.rt:29:13
 same-length : tie.Need-same-length Inv-loop μ-loop
 same-length c = c .before .before .before .loop .inv .0
 
--- src/text.rt:29:13
 returns : tie.Need-returns Inv-loop μ-loop
 returns c = let l = c .before .before .before .loop in sym (l .inv .2 ∙ text-zero (l .out) (c .before .before .before .before .before .before .args .at .byte .0) (c .before .before .before .before .before .before .args .at .bit .0) (c .before .before .before .before .before .before .pre .0 .0) (now (c .before .before .before .before .before .before .args .text)) (l .i) (c .before .before .loop-test .taken) (c .if1 .taken))
 
--- src/text.rt:32:13
 same-length-2 : tie.Need-same-length-2 Inv-loop μ-loop
 same-length-2 c = c .before .before .before .before .loop .inv .0
 
--- src/text.rt:32:13
 returns-2 : tie.Need-returns-2 Inv-loop μ-loop
 returns-2 c = let l = c .before .before .before .before .loop in sym (l .inv .2 ∙ text-large (l .out) (c .before .before .before .before .before .before .before .args .at .byte .0) (c .before .before .before .before .before .before .before .args .at .bit .0) (c .before .before .before .before .before .before .before .pre .0 .0) (now (c .before .before .before .before .before .before .before .args .text)) (l .i) (c .before .before .before .loop-test .taken) (c .before .if1 .left) (c .if2 .taken))
 
--- src/text.rt:34:23
 add-put-byte : tie.Need-add-put-byte Inv-loop μ-loop
 add-put-byte c = omega (arith, c .before .before .before .before .before .before .before .before .pre .0 .1, c .before .before .before .before .before .before .before .before .pre .1)
 
--- src/text.rt:34:9
 put-byte-requires : tie.Need-put-byte-requires Inv-loop μ-loop
 put-byte-requires c κs = omega arith
 
--- src/text.rt:35:9
 add-i : tie.Need-add-i Inv-loop μ-loop
 add-i c = omega arith
 
--- src/text.rt:26:5
 loop-less : tie.Need-loop-less Inv-loop μ-loop
 loop-less c = omega arith
 
--- src/text.rt:26:5
 loop-again : tie.Need-loop-again Inv-loop μ-loop
 loop-again c = let l = c .before .before .before .before .before .before .before .before .loop in (c .before .before .put-byte .kept .0 ∙ l .inv .0, omega (arith, c .before .before .before .before .before .before .before .loop-test .taken), l .inv .2 ∙ text-next (l .out) (c .before .before .before .before .before .before .before .before .before .before .before .args .at .byte .0) (c .before .before .before .before .before .before .before .before .before .before .before .args .at .bit .0) (c .before .before .before .before .before .before .before .before .before .before .before .pre .0 .0) (now (c .before .before .before .before .before .before .before .before .before .before .before .args .text)) (l .i) (c .before .before .before .before .before .before .before .loop-test .taken) (c .before .before .before .before .before .if1 .left) (c .before .before .before .before .if2 .left) (c .before .before .put-byte .ensures))
 
--- src/text.rt:37:19
 add-put-byte-2 : tie.Need-add-put-byte-2 Inv-loop μ-loop
 add-put-byte-2 c = omega (arith, c .before .before .before .before .before .pre .0 .1, c .before .before .before .before .before .pre .1)
 
--- src/text.rt:37:5
 put-byte-requires-2 : tie.Need-put-byte-requires-2 Inv-loop μ-loop
 put-byte-requires-2 c κs = omega arith
 
--- src/text.rt:40:29
 mul-t19 : tie.Need-mul-t19 Inv-loop μ-loop
 mul-t19 c = omega (arith, c .before .before .before .before .before .before .before .before .pre .1)
 
--- src/text.rt:40:25
 add-t20 : tie.Need-add-t20 Inv-loop μ-loop
 add-t20 c = omega (arith, c .before .before .before .before .before .before .before .before .pre .0 .1, c .before .before .before .before .before .before .before .before .pre .1)
 
--- src/text.rt:40:25
 add-t21 : tie.Need-add-t21 Inv-loop μ-loop
 add-t21 c = omega (arith, c .before .before .before .before .before .before .before .before .pre .0 .1, c .before .before .before .before .before .before .before .before .pre .1)
 
--- src/text.rt:19:1
 same-length-3 : tie.Need-same-length-3 Inv-loop μ-loop
 same-length-3 c = c .before .before .put-byte2 .kept .0 ∙ c .before .before .before .before .before .loop .inv .0
 
--- src/text.rt:19:1
 returns-3 : tie.Need-returns-3 Inv-loop μ-loop
 returns-3 c = let l = c .before .before .before .before .before .loop in text-over (l .out) (c .before .before .before .before .before .before .before .before .args .at .byte .0) (c .before .before .before .before .before .before .before .before .args .at .bit .0) (c .before .before .before .before .before .before .before .before .pre .0 .0) (now (c .before .before .before .before .before .before .before .before .args .text)) (l .i) (omega (arith, l .inv .1, c .before .before .before .before .loop-test .left)) (c .before .before .put-byte2 .ensures) ∙ sym (l .inv .2)
 

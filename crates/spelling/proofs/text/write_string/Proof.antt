@@ -1,9 +1,10 @@
-use Prim.Native.Nat.{_+_, _-_, _≤_}
+-- `spelling::text::write_string` meets its contract.
+use Prim.Native.Nat.{_+_}
 use mathlib.Core.Path.{refl, sym, ap, _∙_}
 use native.Mathlib.Omega.{arith}
 use denote.Ref.{now}
-use lib.ListN.{length, getD}
-use lib.Seq.{slice, length-slice}
+use lib.ListN.{getD}
+use lib.Seq.{length-slice}
 use Rattle.sink.specs.Laying.{at}
 use Rattle.spelling.specs.Writing.{seen}
 use Rattle.spelling.proofs.RunLaws.{finish-ends, skip-place}
@@ -11,94 +12,68 @@ use Rattle.spelling.proofs.TextLaws.{string-none, string-long, string-c
 use borrow.Author.Needs.{needs}
 use Rattle.spelling.proofs.text.write_string.Statement.{statement}
 use Rattle.spelling.proofs.text.write_string.Tie as tie
-use Rattle.spelling.proofs.text.write_string.Reads as reads
-use Rattle.spelling.proofs.text.write_string.Lts as lts
-use Rattle.sink.proofs.align.Reads as align-reads
-use Rattle.spelling.proofs.ended.Reads as ended-reads
-use Rattle.spelling.proofs.text.spell_text.Reads as spell-text-reads
 
--- src/text.rt:51:9
 returns : tie.Need-returns
 returns c = let a = c .before .before .before .args in sym (string-none (now (a .t)) (at (now (a .out)) (a .s)) (a .k) (c .if1 .taken))
 
--- src/text.rt:53:18
 mul-length : tie.Need-mul-length
 mul-length c = search needs
 
--- src/text.rt:53:18
 shared-slice-read-length : tie.Need-shared-slice-read-length
 shared-slice-read-length c = search needs
 
--- src/text.rt:55:9
 returns-2 : tie.Need-returns-2
 returns-2 c = let a = c .before .before .before .before .before .args in sym (string-long (now (a .t)) (at (now (a .out)) (a .s)) (a .k) (c .before .before .if1 .left) (c .if2 .taken))
 
--- src/text.rt:57:16
 add-from : tie.Need-add-from
 add-from c = search needs
 
--- src/text.rt:59:8
 sub-if3 : tie.Need-sub-if3
 sub-if3 c = search needs
 
--- src/text.rt:60:9
 returns-3 : tie.Need-returns-3
 returns-3 c = let a = c .before .before .before .before .before .before .args in sym (string-cut (now (a .t)) (at (now (a .out)) (a .s)) (a .k) (c .before .before .before .if1 .left) (c .if3 .taken))
 
--- src/text.rt:62:14
 add-to : tie.Need-add-to
 add-to c = search needs
 
--- src/text.rt:63:9
 align-requires : tie.Need-align-requires
 align-requires c κs = search needs
 
--- src/text.rt:64:36
 mul-spell-text : tie.Need-mul-spell-text
 mul-spell-text c = search needs
 
--- src/text.rt:64:36
 sub-spell-text : tie.Need-sub-spell-text
 sub-spell-text c = search needs
 
--- src/text.rt:64:36
 part-spell-text-start : tie.Need-part-spell-text-start
 part-spell-text-start c = search needs
 
--- src/text.rt:64:36
 part-spell-text-end : tie.Need-part-spell-text-end
 part-spell-text-end c = search needs
 
--- src/text.rt:64:9
 spell-text-requires : tie.Need-spell-text-requires
 spell-text-requires c κs = let a = c .before .before .before .before .before .before .before .before .before .before .before .before .args in (skip-place (at (now (a .out)) (a .s)) (c .before .before .before .before .before .before .before .before .before .before .before .before .pre .1) (c .before .before .before .before .align .ensures), (let n = getD (now (a .t)) (a .k) 0 in let f = a .k + 1 in let e = length-slice f (f + n) (now (a .t)) (omega (arith, c .before .before .before .before .before .before .if3 .left, c .before .before .before .before .before .before .before .before .before .if1 .left)) in omega (arith, e, c .before .before .before .before .before .before .before .if2 .left)))
 
--- src/text.rt:66:19
 enum-known-r : tie.Need-enum-known-r
 enum-known-r c = search needs
 
--- src/text.rt:66:28
 ended-requires : tie.Need-ended-requires
 ended-requires c κs = search needs
 
--- src/text.rt:67:22
 enum-told : tie.Need-enum-told
 enum-told c = search needs
 
--- src/text.rt:46:1
 same-length : tie.Need-same-length
 same-length c = search needs
 
--- src/text.rt:46:1
 returns-4 : tie.Need-returns-4
 returns-4 c = let a = c .before .before .before .before .before .before .before .before .before .before .before .before .before .before .before .before .before .before .before .args in let u = c .before .before .before .before .before .before .spell-text .last .0 in
     ap (seen u) (c .ended .ensures) ∙ finish-ends u (c .before .before .r .given .0 .0) (a .k + 1 + getD (now (a .t)) (a .k) 0) ∙ sym (string-in (now (a .t)) (at (now (a .out)) (a .s)) (a .k) (c .before .before .before .before .before .before .before .before .before .before .before .before .before .before .before .before .if1 .left) (a .k + 1) (a .k + 1 + getD (now (a .t)) (a .k) 0) refl refl (c .before .before .before .before .before .before .before .before .before .before .before .before .before .if3 .left) (c .before .before .before .before .before .before .before .before .before .before .before .align .ensures) u (c .before .before .before .before .before .before .spell-text .result) (c .before .before .before .before .before .before .spell-text .ensures) (c .before .before .r .given .0 .0) (c .before .before .r .given .1))
 
--- src/text.rt:46:1
 same-length-2 : tie.Need-same-length-2
 same-length-2 c = search needs
 
--- src/text.rt:46:1
 returns-5 : tie.Need-returns-5
 returns-5 c = let a = c .before .before .before .before .before .before .before .before .before .before .before .before .before .before .before .before .before .args in let u = c .before .before .before .before .spell-text .last .0 in sym (string-no (now (a .t)) (at (now (a .out)) (a .s)) (a .k) (c .before .before .before .before .before .before .before .before .before .before .before .before .before .before .if1 .left) (a .k + 1) (a .k + 1 + getD (now (a .t)) (a .k) 0) refl refl (c .before .before .before .before .before .before .before .before .before .before .before .if3 .left) (c .before .before .before .before .before .before .before .before .before .align .ensures) u (c .before .before .before .before .spell-text .result) (c .before .before .before .before .spell-text .ensures) (c .enum-told .given .1))
 

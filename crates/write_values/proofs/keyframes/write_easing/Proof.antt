@@ -1,3 +1,4 @@
+-- `write_values::keyframes::write_easing` meets its contract.
 use denote.Ref.{now}
 use Rattle.sink.specs.Laying.{at}
 use Rattle.values.specs.Parts.{scaled}
@@ -5,24 +6,16 @@ use Rattle.spelling.proofs.RunLaws.{align-on}
 use borrow.Author.Needs.{needs}
 use Rattle.write_values.proofs.keyframes.write_easing.Statement.{statement}
 use Rattle.write_values.proofs.keyframes.write_easing.Tie as tie
-use Rattle.write_values.proofs.keyframes.write_easing.Reads as reads
-use Rattle.write_values.proofs.keyframes.write_easing.Lts as lts
-use Rattle.spelling.proofs.fields.write_scaled.Reads as write-scaled-reads
-use Rattle.spelling.proofs.skip.Reads as skip-reads
 
--- src/keyframes.rt:77:9
 skip-requires : tie.Need-skip-requires
 skip-requires c κs = search needs
 
--- src/keyframes.rt:78:5
 write-scaled-requires : tie.Need-write-scaled-requires
 write-scaled-requires c κs = search needs
 
--- src/keyframes.rt:73:1
 same-length : tie.Need-same-length
 same-length c = search needs
 
--- src/keyframes.rt:73:1
 returns : tie.Need-returns
 returns c = let a = c .before .before .before .before .before .before .before .before .before .before .args in align-on (now (a .t)) (at (now (a .out)) (a .s)) (a .k) (c .before .before .before .before .before .before .before .before .before .before .pre .0 .1) (c .before .before .before .before .before .before .skip .ensures .0) (λ xs. scaled (a .n)) (c .before .before .write-scaled .ensures)
 

@@ -1,3 +1,4 @@
+-- `write_values::keyframes::write_frames` meets its contract.
 use denote.Ref.{now}
 use Rattle.sink.specs.Laying.{at}
 use Prim.Native.Nat.{_+_}
@@ -12,69 +13,49 @@ use Rattle.write_values.proofs.ValueLaws.{frames-is}
 use borrow.Author.Needs.{needs}
 use Rattle.write_values.proofs.keyframes.write_frames.Statement.{statement}
 use Rattle.write_values.proofs.keyframes.write_frames.Tie as tie
-use Rattle.write_values.proofs.keyframes.write_frames.Reads as reads
-use Rattle.write_values.proofs.keyframes.write_frames.Lts as lts
-use Rattle.write_values.proofs.keyframes.write_easing.Reads as write-easing-reads
-use Rattle.write_values.proofs.keyframes.write_values_part.Reads as write-values-part-reads
-use Rattle.write_values.proofs.write_in_turn.Reads as write-in-turn-reads
 
--- src/keyframes.rt:94:43
 add-write-in-turn : tie.Need-add-write-in-turn
 add-write-in-turn c = search needs
 
--- src/keyframes.rt:94:9
 write-in-turn-requires : tie.Need-write-in-turn-requires
 write-in-turn-requires c κs = search needs
 
--- src/keyframes.rt:95:19
 enum-known-r : tie.Need-enum-known-r
 enum-known-r c = search needs
 
--- src/keyframes.rt:96:9
 enum-told : tie.Need-enum-told
 enum-told c = search needs
 
--- src/keyframes.rt:96:9
 same-length : tie.Need-same-length
 same-length c = search needs
 
--- src/keyframes.rt:96:9
 returns : tie.Need-returns
 returns c = let a = c .before .before .before .before .before .before .before .before .args in frames-is (now (a .t)) (at (now (a .out)) (a .s)) (a .k) (typeOf (a .what)) (a .n) (a .easing) (then-off (now (a .t)) (at (now (a .out)) (a .s)) (a .k) (times (a .n + 1) time) (λ xs. (aligned ▸ values (typeOf (a .what)) (a .n + 1)) ▸ (aligned ▸ scaled (a .easing))) (c .before .before .before .before .write-in-turn .last .1 .1 .0) (c .before .before .before .before .write-in-turn .result) (c .before .before .before .before .write-in-turn .ensures) (c .enum-told .given .1))
 
--- src/keyframes.rt:98:37
 add-write-values-part : tie.Need-add-write-values-part
 add-write-values-part c = search needs
 
--- src/keyframes.rt:98:9
 write-values-part-requires : tie.Need-write-values-part-requires
 write-values-part-requires c κs = let a = c .before .before .before .before .before .before .before .before .before .before .args in (ran-fine (now (a .t)) (now (a .out)) (a .s) (a .k) (times (a .n + 1) time) (c .before .before .before .before .before .before .write-in-turn .last .1 .1 .0) (c .before .before .before .before .before .before .write-in-turn .result) (c .before .before .before .before .before .before .before .before .before .before .pre .0) (c .before .before .before .before .before .before .write-in-turn .ensures) (c .before .before .r .given .0 .0) (c .before .before .r .given .0 .1 .0) (c .before .before .r .given .1), omega (arith, c .before .before .before .before .before .before .before .before .before .before .pre .1))
 
--- src/keyframes.rt:99:19
 enum-known-r-2 : tie.Need-enum-known-r-2
 enum-known-r-2 c = search needs
 
--- src/keyframes.rt:100:9
 enum-told-2 : tie.Need-enum-told-2
 enum-told-2 c = search needs
 
--- src/keyframes.rt:100:9
 same-length-2 : tie.Need-same-length-2
 same-length-2 c = search needs
 
--- src/keyframes.rt:100:9
 returns-2 : tie.Need-returns-2
 returns-2 c = let a = c .before .before .before .before .before .before .before .before .before .before .before .before .before .before .before .args in frames-is (now (a .t)) (at (now (a .out)) (a .s)) (a .k) (typeOf (a .what)) (a .n) (a .easing) (then-on (now (a .t)) (at (now (a .out)) (a .s)) (a .k) (times (a .n + 1) time) (λ xs. (aligned ▸ values (typeOf (a .what)) (a .n + 1)) ▸ (aligned ▸ scaled (a .easing))) (c .before .before .before .before .before .before .before .before .before .before .before .write-in-turn .last .1 .1 .0) (c .before .before .before .before .before .before .before .before .before .before .before .write-in-turn .result) (c .before .before .before .before .before .before .before .before .before .before .before .write-in-turn .ensures) (c .before .before .before .before .before .before .before .r .given .0 .0) (c .before .before .before .before .before .before .before .r .given .0 .1 .0) (c .before .before .before .before .before .before .before .r .given .1) (then-off (now (a .t)) (at (c .before .before .before .before .before .before .before .before .before .before .before .write-in-turn .last .1 .1 .0) (c .before .before .before .before .before .before .before .r .given .0 .0)) (c .before .before .before .before .before .before .before .r .given .0 .1 .0) (aligned ▸ values (typeOf (a .what)) (a .n + 1)) (λ xs. (aligned ▸ scaled (a .easing))) (c .before .before .before .before .write-values-part .last .1 .1 .0) (c .before .before .before .before .write-values-part .result) (c .before .before .before .before .write-values-part .ensures) (c .enum-told2 .given .1)))
 
--- src/keyframes.rt:102:5
 write-easing-requires : tie.Need-write-easing-requires
 write-easing-requires c κs = let a = c .before .before .before .before .before .before .before .before .before .before .before .before .before .before .before .before .before .args in (ran-fine (now (a .t)) (c .before .before .before .before .before .before .before .before .before .before .before .before .before .write-in-turn .last .1 .1 .0) (c .before .before .before .before .before .before .before .before .before .r .given .0 .0) (c .before .before .before .before .before .before .before .before .before .r .given .0 .1 .0) (aligned ▸ values (typeOf (a .what)) (a .n + 1)) (c .before .before .before .before .before .before .write-values-part .last .1 .1 .0) (c .before .before .before .before .before .before .write-values-part .result) (ran-fine (now (a .t)) (now (a .out)) (a .s) (a .k) (times (a .n + 1) time) (c .before .before .before .before .before .before .before .before .before .before .before .before .before .write-in-turn .last .1 .1 .0) (c .before .before .before .before .before .before .before .before .before .before .before .before .before .write-in-turn .result) (c .before .before .before .before .before .before .before .before .before .before .before .before .before .before .before .before .before .pre .0) (c .before .before .before .before .before .before .before .before .before .before .before .before .before .write-in-turn .ensures) (c .before .before .before .before .before .before .before .before .before .r .given .0 .0) (c .before .before .before .before .before .before .before .before .before .r .given .0 .1 .0) (c .before .before .before .before .before .before .before .before .before .r .given .1)) (c .before .before .before .before .before .before .write-values-part .ensures) (c .before .before .r2 .given .0 .0) (c .before .before .r2 .given .0 .1 .0) (c .before .before .r2 .given .1), c .before .before .before .before .before .before .before .before .before .before .before .before .before .before .before .before .before .pre .2)
 
--- src/keyframes.rt:82:1
 same-length-3 : tie.Need-same-length-3
 same-length-3 c = search needs
 
--- src/keyframes.rt:82:1
 returns-3 : tie.Need-returns-3
 returns-3 c = let a = c .before .before .before .before .before .before .before .before .before .before .before .before .before .before .before .before .before .before .before .before .args in frames-is (now (a .t)) (at (now (a .out)) (a .s)) (a .k) (typeOf (a .what)) (a .n) (a .easing) (then-on (now (a .t)) (at (now (a .out)) (a .s)) (a .k) (times (a .n + 1) time) (λ xs. (aligned ▸ values (typeOf (a .what)) (a .n + 1)) ▸ (aligned ▸ scaled (a .easing))) (c .before .before .before .before .before .before .before .before .before .before .before .before .before .before .before .before .write-in-turn .last .1 .1 .0) (c .before .before .before .before .before .before .before .before .before .before .before .before .before .before .before .before .write-in-turn .result) (c .before .before .before .before .before .before .before .before .before .before .before .before .before .before .before .before .write-in-turn .ensures) (c .before .before .before .before .before .before .before .before .before .before .before .before .r .given .0 .0) (c .before .before .before .before .before .before .before .before .before .before .before .before .r .given .0 .1 .0) (c .before .before .before .before .before .before .before .before .before .before .before .before .r .given .1) (then-on (now (a .t)) (at (c .before .before .before .before .before .before .before .before .before .before .before .before .before .before .before .before .write-in-turn .last .1 .1 .0) (c .before .before .before .before .before .before .before .before .before .before .before .before .r .given .0 .0)) (c .before .before .before .before .before .before .before .before .before .before .before .before .r .given .0 .1 .0) (aligned ▸ values (typeOf (a .what)) (a .n + 1)) (λ xs. (aligned ▸ scaled (a .easing))) (c .before .before .before .before .before .before .before .before .before .write-values-part .last .1 .1 .0) (c .before .before .before .before .before .before .before .before .before .write-values-part .result) (c .before .before .before .before .before .before .before .before .before .write-values-part .ensures) (c .before .before .before .before .before .r2 .given .0 .0) (c .before .before .before .before .before .r2 .given .0 .1 .0) (c .before .before .before .before .before .r2 .given .1) (c .before .before .write-easing .ensures)))
 

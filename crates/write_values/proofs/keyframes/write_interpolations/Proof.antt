@@ -1,3 +1,4 @@
+-- `write_values::keyframes::write_interpolations` meets its contract.
 use denote.Ref.{now}
 use Rattle.sink.specs.Laying.{at}
 use mathlib.Core.Path.{refl}
@@ -8,76 +9,55 @@ use Rattle.write_values.proofs.ValueLaws.{told, none-left, some-left}
 use borrow.Author.Needs.{needs}
 use Rattle.write_values.proofs.keyframes.write_interpolations.Statement.{statement}
 use Rattle.write_values.proofs.keyframes.write_interpolations.Tie as tie
-use Rattle.write_values.proofs.keyframes.write_interpolations.Reads as reads
-use Rattle.write_values.proofs.keyframes.write_interpolations.Lts as lts
-use Rattle.spelling.proofs.fields.write_fields.Reads as write-fields-reads
-use Rattle.spelling.proofs.skip.Reads as skip-reads
 
--- src/keyframes.rt:34:9
 skip-requires : tie.Need-skip-requires
 skip-requires c κs = search needs
 
--- src/keyframes.rt:36:56
 enum-told : tie.Need-enum-told
 enum-told c = search needs
 
--- src/keyframes.rt:36:25
 write-fields-requires : tie.Need-write-fields-requires
 write-fields-requires c κs = search needs
 
--- src/keyframes.rt:38:18
 enum-told-2 : tie.Need-enum-told-2
 enum-told-2 c = search needs
 
--- src/keyframes.rt:42:18
 enum-told-3 : tie.Need-enum-told-3
 enum-told-3 c = search needs
 
--- src/keyframes.rt:46:18
 enum-told-4 : tie.Need-enum-told-4
 enum-told-4 c = search needs
 
--- src/keyframes.rt:50:18
 enum-told-5 : tie.Need-enum-told-5
 enum-told-5 c = search needs
 
--- src/keyframes.rt:22:1
 same-length : tie.Need-same-length
 same-length c = search needs
 
--- src/keyframes.rt:22:1
 returns : tie.Need-returns
 returns c = let a = c .before .before .before .before .before .before .before .before .before .before .before .before .args in let u = c .before .before .write-fields .last .1 .1 .1 .0 in told (now (a .t)) (at (now (a .out)) (a .s)) (a .k) (a .n) u (c .before .before .before .before .before .before .before .before .before .before .before .before .pre .0 .1) (c .before .before .before .before .before .before .before .before .skip .ensures .0) (c .before .before .write-fields .result .put) (c .before .before .write-fields .result .count) Simple (c .before .before .before .before .enum-told .given .1) (some-left (now (a .t)) (at (now (a .out)) (a .s)) (a .k) (a .n) u (c .before .before .before .before .before .before .before .before .before .before .before .before .pre .0 .1) (c .before .before .before .before .before .before .before .before .skip .ensures .0) (c .before .before .write-fields .result .put) (c .before .before .write-fields .result .count) (c .before .before .write-fields .ensures .0) (c .before .before .write-fields .ensures .1))
 
--- src/keyframes.rt:22:1
 same-length-2 : tie.Need-same-length-2
 same-length-2 c = search needs
 
--- src/keyframes.rt:22:1
 returns-2 : tie.Need-returns-2
 returns-2 c = let a = c .before .before .before .before .before .before .before .before .args in let u = c .before .before .before .before .skip .last .0 in told (now (a .t)) (at (now (a .out)) (a .s)) (a .k) (a .n) u (c .before .before .before .before .before .before .before .before .pre .0 .1) (c .before .before .before .before .skip .ensures .0) (Done (c .before .before .before .before .skip .result) (a .k)) 0 Value (c .enum-told2 .given .1) (none-left (now (a .t)) (at (now (a .out)) (a .s)) (a .k) (a .n) u (c .before .before .before .before .before .before .before .before .pre .0 .1) (c .before .before .before .before .skip .ensures .0) (kindOf Value) (c .before .before .before .before .skip .result) refl refl (c .before .before .before .before .skip .ensures .1 .1))
 
--- src/keyframes.rt:22:1
 same-length-3 : tie.Need-same-length-3
 same-length-3 c = search needs
 
--- src/keyframes.rt:22:1
 returns-3 : tie.Need-returns-3
 returns-3 c = let a = c .before .before .before .before .before .before .before .before .args in let u = c .before .before .before .before .skip .last .0 in told (now (a .t)) (at (now (a .out)) (a .s)) (a .k) (a .n) u (c .before .before .before .before .before .before .before .before .pre .0 .1) (c .before .before .before .before .skip .ensures .0) (Done (c .before .before .before .before .skip .result) (a .k)) 0 Fixed (c .enum-told3 .given .1) (none-left (now (a .t)) (at (now (a .out)) (a .s)) (a .k) (a .n) u (c .before .before .before .before .before .before .before .before .pre .0 .1) (c .before .before .before .before .skip .ensures .0) (kindOf Fixed) (c .before .before .before .before .skip .result) refl refl (c .before .before .before .before .skip .ensures .1 .1))
 
--- src/keyframes.rt:22:1
 same-length-4 : tie.Need-same-length-4
 same-length-4 c = search needs
 
--- src/keyframes.rt:22:1
 returns-4 : tie.Need-returns-4
 returns-4 c = let a = c .before .before .before .before .before .before .before .before .args in let u = c .before .before .before .before .skip .last .0 in told (now (a .t)) (at (now (a .out)) (a .s)) (a .k) (a .n) u (c .before .before .before .before .before .before .before .before .pre .0 .1) (c .before .before .before .before .skip .ensures .0) (Done (c .before .before .before .before .skip .result) (a .k)) 0 BitFlag (c .enum-told4 .given .1) (none-left (now (a .t)) (at (now (a .out)) (a .s)) (a .k) (a .n) u (c .before .before .before .before .before .before .before .before .pre .0 .1) (c .before .before .before .before .skip .ensures .0) (kindOf BitFlag) (c .before .before .before .before .skip .result) refl refl (c .before .before .before .before .skip .ensures .1 .1))
 
--- src/keyframes.rt:22:1
 same-length-5 : tie.Need-same-length-5
 same-length-5 c = search needs
 
--- src/keyframes.rt:22:1
 returns-5 : tie.Need-returns-5
 returns-5 c = let a = c .before .before .before .before .before .before .before .before .args in let u = c .before .before .before .before .skip .last .0 in told (now (a .t)) (at (now (a .out)) (a .s)) (a .k) (a .n) u (c .before .before .before .before .before .before .before .before .pre .0 .1) (c .before .before .before .before .skip .ensures .0) (Done (c .before .before .before .before .skip .result) (a .k)) 0 Discrete (c .enum-told5 .given .1) (none-left (now (a .t)) (at (now (a .out)) (a .s)) (a .k) (a .n) u (c .before .before .before .before .before .before .before .before .pre .0 .1) (c .before .before .before .before .skip .ensures .0) (kindOf Discrete) (c .before .before .before .before .skip .result) refl refl (c .before .before .before .before .skip .ensures .1 .1))
 

@@ -1,8 +1,8 @@
+-- `write_values::keyframes::write_keyframed` meets its contract.
 use denote.Ref.{now}
 use Rattle.sink.specs.Laying.{at}
 use Rattle.values.specs.Parts.{keyframesOf}
 use Rattle.attributes.specs.Rows.{kindOf, typeOf}
-use mathlib.Core.Path.{sym, _∙_}
 use native.Mathlib.Omega.{arith}
 use Rattle.items.specs.Kinds.{formatOf}
 use Rattle.items.specs.declared.Item.the-variants.{Count}
@@ -11,48 +11,34 @@ use Rattle.spelling.proofs.NumberLaws.{counted-stop, counted-inside, counted-mo
 use borrow.Author.Needs.{needs}
 use Rattle.write_values.proofs.keyframes.write_keyframed.Statement.{statement}
 use Rattle.write_values.proofs.keyframes.write_keyframed.Tie as tie
-use Rattle.write_values.proofs.keyframes.write_keyframed.Reads as reads
-use Rattle.write_values.proofs.keyframes.write_keyframed.Lts as lts
-use Rattle.spelling.proofs.write_one.Reads as write-one-reads
-use Rattle.write_values.proofs.keyframes.write_keyframes.Reads as write-keyframes-reads
 
--- src/keyframes.rt:139:9
 write-one-requires : tie.Need-write-one-requires
 write-one-requires c κs = search needs
 
--- src/keyframes.rt:140:19
 enum-known-r : tie.Need-enum-known-r
 enum-known-r c = search needs
 
--- src/keyframes.rt:141:9
 enum-told : tie.Need-enum-told
 enum-told c = search needs
 
--- src/keyframes.rt:141:9
 same-length : tie.Need-same-length
 same-length c = search needs
 
--- src/keyframes.rt:141:9
 returns : tie.Need-returns
 returns c = let a = c .before .before .before .before .before .before .before .before .args in counted-stop 1 (keyframesOf (kindOf (a .kind)) (typeOf (a .what))) (now (a .t)) (at (now (a .out)) (a .s)) (a .k) (c .before .before .before .before .write-one .last .1 .0) (c .before .before .before .before .write-one .result) (c .before .before .before .before .write-one .ensures) (c .enum-told .given .1)
 
--- src/keyframes.rt:143:33
 mul-write-keyframes : tie.Need-mul-write-keyframes
 mul-write-keyframes c = let a = c .before .before .before .before .before .before .before .before .before .args in let h = counted-inside 1 (keyframesOf (kindOf (a .kind)) (typeOf (a .what))) (now (a .t)) (at (now (a .out)) (a .s)) (a .k) (c .before .before .before .before .before .write-one .last .1 .0) (c .before .before .before .before .before .write-one .result) (c .before .before .before .before .before .write-one .ensures) (c .before .r .given .0 .0) (c .before .r .given .0 .1 .0) (c .before .r .given .1) in omega (arith, h)
 
--- src/keyframes.rt:143:33
 shared-slice-read-write-keyframes : tie.Need-shared-slice-read-write-keyframes
 shared-slice-read-write-keyframes c = let a = c .before .before .before .before .before .before .before .before .before .before .args in counted-inside 1 (keyframesOf (kindOf (a .kind)) (typeOf (a .what))) (now (a .t)) (at (now (a .out)) (a .s)) (a .k) (c .before .before .before .before .before .before .write-one .last .1 .0) (c .before .before .before .before .before .before .write-one .result) (c .before .before .before .before .before .before .write-one .ensures) (c .before .before .r .given .0 .0) (c .before .before .r .given .0 .1 .0) (c .before .before .r .given .1)
 
--- src/keyframes.rt:143:5
 write-keyframes-requires : tie.Need-write-keyframes-requires
 write-keyframes-requires c κs = let a = c .before .before .before .before .before .before .before .before .before .before .before .args in (ran-fine (now (a .t)) (now (a .out)) (a .s) (a .k) (formatOf (Count 1)) (c .before .before .before .before .before .before .before .write-one .last .1 .0) (c .before .before .before .before .before .before .before .write-one .result) (c .before .before .before .before .before .before .before .before .before .before .before .pre) (c .before .before .before .before .before .before .before .write-one .ensures) (c .before .before .before .r .given .0 .0) (c .before .before .before .r .given .0 .1 .0) (c .before .before .before .r .given .1), counted-most 1 (keyframesOf (kindOf (a .kind)) (typeOf (a .what))) (now (a .t)) (at (now (a .out)) (a .s)) (a .k) (c .before .before .before .before .before .before .before .write-one .last .1 .0) (c .before .before .before .before .before .before .before .write-one .result) (c .before .before .before .before .before .before .before .write-one .ensures) (c .before .before .before .r .given .0 .0) (c .before .before .before .r .given .0 .1 .0) (c .before .before .before .r .given .1))
 
--- src/keyframes.rt:128:1
 same-length-2 : tie.Need-same-length-2
 same-length-2 c = search needs
 
--- src/keyframes.rt:128:1
 returns-2 : tie.Need-returns-2
 returns-2 c = let a = c .before .before .before .before .before .before .before .before .before .before .before .before .before .before .args in counted-on 1 (keyframesOf (kindOf (a .kind)) (typeOf (a .what))) (now (a .t)) (at (now (a .out)) (a .s)) (a .k) (c .before .before .before .before .before .before .before .before .before .before .write-one .last .1 .0) (c .before .before .before .before .before .before .before .before .before .before .write-one .result) (c .before .before .before .before .before .before .before .before .before .before .write-one .ensures) (c .before .before .before .before .before .before .r .given .0 .0) (c .before .before .before .before .before .before .r .given .0 .1 .0) (c .before .before .before .before .before .before .r .given .1) (c .before .before .write-keyframes .ensures)
 

@@ -1,3 +1,4 @@
+-- `write_values::keyframes::write_keyframes` meets its contract.
 use denote.Ref.{now}
 use Rattle.sink.specs.Laying.{at}
 use Prim.Native.Nat.{_*_}
@@ -11,41 +12,29 @@ use Rattle.write_values.proofs.ValueLaws.{eases-few, keyframes-done}
 use borrow.Author.Needs.{needs}
 use Rattle.write_values.proofs.keyframes.write_keyframes.Statement.{statement}
 use Rattle.write_values.proofs.keyframes.write_keyframes.Tie as tie
-use Rattle.write_values.proofs.keyframes.write_keyframes.Reads as reads
-use Rattle.write_values.proofs.keyframes.write_keyframes.Lts as lts
-use Rattle.write_values.proofs.keyframes.write_frames.Reads as write-frames-reads
-use Rattle.write_values.proofs.keyframes.write_interpolations.Reads as write-interpolations-reads
 
--- src/keyframes.rt:118:9
 write-interpolations-requires : tie.Need-write-interpolations-requires
 write-interpolations-requires c κs = search needs
 
--- src/keyframes.rt:121:19
 enum-known-r : tie.Need-enum-known-r
 enum-known-r c = search needs
 
--- src/keyframes.rt:122:9
 enum-told : tie.Need-enum-told
 enum-told c = search needs
 
--- src/keyframes.rt:122:9
 same-length : tie.Need-same-length
 same-length c = search needs
 
--- src/keyframes.rt:122:9
 returns : tie.Need-returns
 returns c = let a = c .before .before .before .before .before .before .before .before .args in then-off (now (a .t)) (at (now (a .out)) (a .s)) (a .k) (aligned ▸ interpolations (kindOf (a .kind)) (a .n)) (λ kinds. framesOf (typeOf (a .what)) (a .n) (beziers kinds * 4)) (c .before .before .before .before .write-interpolations .last .1 .1 .0) (c .before .before .before .before .write-interpolations .result .put) (c .before .before .before .before .write-interpolations .ensures .0) (c .enum-told .given .1)
 
--- src/keyframes.rt:124:5
 write-frames-requires : tie.Need-write-frames-requires
 write-frames-requires c κs = let a = c .before .before .before .before .before .before .before .before .before .before .args in let h = eases-few (now (a .t)) (a .k) (a .n) (c .before .before .before .before .before .before .write-interpolations .result .count) (c .before .before .before .before .before .before .write-interpolations .ensures .1) (c .before .before .r .given .1) in
     (ran-fine (now (a .t)) (now (a .out)) (a .s) (a .k) (aligned ▸ interpolations (kindOf (a .kind)) (a .n)) (c .before .before .before .before .before .before .write-interpolations .last .1 .1 .0) (c .before .before .before .before .before .before .write-interpolations .result .put) (c .before .before .before .before .before .before .before .before .before .before .pre .0) (c .before .before .before .before .before .before .write-interpolations .ensures .0) (c .before .before .r .given .0 .0) (c .before .before .r .given .0 .1 .0) (c .before .before .r .given .1), c .before .before .before .before .before .before .before .before .before .before .pre .1, omega (arith, h, c .before .before .before .before .before .before .before .before .before .before .pre .1))
 
--- src/keyframes.rt:106:1
 same-length-2 : tie.Need-same-length-2
 same-length-2 c = search needs
 
--- src/keyframes.rt:106:1
 returns-2 : tie.Need-returns-2
 returns-2 c = let a = c .before .before .before .before .before .before .before .before .before .before .before .before .before .args in keyframes-done (now (a .t)) (at (now (a .out)) (a .s)) (a .k) (kindOf (a .kind)) (typeOf (a .what)) (a .n) (c .before .before .before .before .before .before .before .before .before .write-interpolations .result .count) (c .before .before .before .before .before .before .before .before .before .write-interpolations .last .1 .1 .0) (c .before .before .before .before .before .before .before .before .before .write-interpolations .result .put) (c .before .before .before .before .before .before .before .before .before .write-interpolations .ensures .0) (c .before .before .before .before .before .before .before .before .before .write-interpolations .ensures .1) (c .before .before .before .before .before .r .given .0 .0) (c .before .before .before .before .before .r .given .0 .1 .0) (c .before .before .before .before .before .r .given .1) (c .before .before .write-frames .ensures)
 

@@ -1,3 +1,4 @@
+-- `write_values::keyframes::write_values_part` meets its contract.
 use denote.Ref.{now}
 use Rattle.sink.specs.Laying.{at}
 use Rattle.format.specs.Bodies.{values}
@@ -6,24 +7,16 @@ use Rattle.spelling.proofs.RunLaws.{align-on}
 use borrow.Author.Needs.{needs}
 use Rattle.write_values.proofs.keyframes.write_values_part.Statement.{statement}
 use Rattle.write_values.proofs.keyframes.write_values_part.Tie as tie
-use Rattle.write_values.proofs.keyframes.write_values_part.Reads as reads
-use Rattle.write_values.proofs.keyframes.write_values_part.Lts as lts
-use Rattle.spelling.proofs.skip.Reads as skip-reads
-use Rattle.write_values.proofs.write_values.Reads as write-values-reads
 
--- src/keyframes.rt:68:9
 skip-requires : tie.Need-skip-requires
 skip-requires c κs = search needs
 
--- src/keyframes.rt:69:5
 write-values-requires : tie.Need-write-values-requires
 write-values-requires c κs = search needs
 
--- src/keyframes.rt:57:1
 same-length : tie.Need-same-length
 same-length c = search needs
 
--- src/keyframes.rt:57:1
 returns : tie.Need-returns
 returns c = let a = c .before .before .before .before .before .before .before .before .before .before .args in align-on (now (a .t)) (at (now (a .out)) (a .s)) (a .k) (c .before .before .before .before .before .before .before .before .before .before .pre .0 .1) (c .before .before .before .before .before .before .skip .ensures .0) (λ xs. values (typeOf (a .what)) (a .n)) (c .before .before .write-values .ensures)
 
