@@ -1,12 +1,7 @@
 // The listing of the file on standard input. What it prints is made by proved functions; this program only reads and writes.
-ghost use Prim.Native.Nat.{_+_, _≤_};
-ghost use lib.ListN.{length};
-ghost use Rattle.pag_list.specs.Input.{Within};
-use answers::Answer;
 use libc::STDERR_FILENO;
 use libc::STDIN_FILENO;
-use libc::STDOUT_FILENO;
-use listing::Cursor;
+use printing::Input;
 
 // Every code is below the level: all tags that can be read are.
 const LEVEL: u32 = 1023;
@@ -14,131 +9,21 @@ const LEVEL: u32 = 1023;
 // The most bytes that are listed; one more is read, to notice longer input.
 const MOST: usize = 32768;
 
-// What was read: so many bytes up to the end of the input or of the room for it; or a read failed.
-pub enum Input {
-    Bytes(usize),
-    Failed,
-}
-
-// One read, behind the first n bytes: how many bytes there are then.
-fn read_more(file: &mut [u8], n: usize) -> Input
-    requires { ⌜ n ≤ length (now file) ⌝ }
-    ensures { λ r. ⌜ Within r (length (now (file .entry))) ⌝ }
-{
-    let room = &mut file[n..];
-    let got = libc::read(STDIN_FILENO, room);
-    if got < 0 {
-        return Input::Failed;
-    }
-    Input::Bytes(n + io::count(got, room))
-}
-
-// Reads to the end of the input, which may arrive in pieces, or until the room is full.
-fn read_input(file: &mut [u8]) -> Input
-    ensures { λ r. ⌜ Within r (length (now (file .entry))) ⌝ }
-{
-    let mut n = 0;
-    while n < file.len() {
-        let r = read_more(file, n);
-        let Input::Bytes(m) = r else {
-            return r;
-        };
-        if m <= n {
-            return r;
-        }
-        n = m;
-    }
-    Input::Bytes(n)
-}
-
-// Writes all of a text; if that fails it says so, and answers false.
-fn write(text: &[u8]) -> bool {
-    let whole = io::write_all(STDOUT_FILENO, text);
-    if !whole {
-        io::write_all(
-            STDERR_FILENO,
-            b"pag_list: standard output cannot be written\n",
-        );
-    }
-    whole
-}
-
-// Writes the first n bytes of a line.
-fn write_line(line: &[u8; 64], n: usize)
-    requires { ⌜ n ≤ 64 ⌝ }
-{
-    let text = &line[..];
-    write(&text[0..n]);
-}
-
-fn print_refusal(reason: u32, number: u64) {
-    let mut line = [0u8; 64];
-    let n = listing::put_refusal(reason, number, &mut line);
-    write_line(&line, n);
-}
-
-fn print_too_long() {
-    let mut line = [0u8; 64];
-    let n = listing::put_too_long(&mut line);
-    write_line(&line, n);
-}
-
-// The listing of a file of n bytes with these two tables, in parts through the lent buffer: a write for each.
-fn print_parts(n: u64, table: &[u64], rows: &[u32], out: &mut [u8]) {
-    let mut at = Cursor {
-        number: 0,
-        row: 0,
-        left: 0,
-    };
-    while at.number < table.len() {
-        let part = listing::put_part(n, table, rows, at, out);
-        let used = part.used;
-        if used == 0 {
-            return;
-        }
-        if !write(&out[0..used]) {
-            return;
-        }
-        at = part.to;
-    }
-}
-
-fn print_listing(n: u64, table: &[u64], rows: &[u32]) {
-    let mut out = io::large_buffer();
-    print_parts(n, table, rows, &mut out);
-}
-
-// A file: its listing, or the reason why it is refused. `tags` does not refuse what `read` accepts into 8,192 numbers, if it is lent 13,650.
-fn print_tables(file: &[u8], table: &mut [u64], rows: &mut [u32]) {
-    match reader::read(LEVEL, file, table) {
-        Answer::Refused(reason, number) => print_refusal(reason, number),
-        Answer::Accepted(k) => match reader::tags(LEVEL, file, rows) {
-            Answer::Refused(reason, number) => print_refusal(reason, number),
-            Answer::Accepted(m) => {
-                print_listing(
-                    file.len() as u64,
-                    &table[0..k as usize],
-                    &rows[0..m as usize],
-                );
-            }
-        },
-    }
-}
-
+// 8,192 numbers are those of 2,730 tags at most, so that `tags` never refuses what `read` accepts.
 fn print_file(file: &[u8]) {
     let mut table = [0u64; 8192];
     let mut rows = [0u32; 13650];
-    print_tables(file, &mut table, &mut rows);
+    printing::print_tables(LEVEL, file, &mut table, &mut rows);
 }
 
 fn print_input(file: &mut [u8]) {
-    match read_input(file) {
+    match printing::read_input(STDIN_FILENO, file) {
         Input::Failed => {
             io::write_all(STDERR_FILENO, b"pag_list: standard input cannot be read\n");
         }
         Input::Bytes(n) => {
             if MOST < n {
-                print_too_long();
+                printing::print_too_long();
             } else {
                 print_file(&file[0..n]);
             }

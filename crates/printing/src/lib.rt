@@ -1,0 +1,124 @@
+// What the programs share: reading a whole input, and printing a file's listing or refusal. What is printed is made by proved functions.
+ghost use mathlib.Core.Path.{_≡_};
+ghost use Prim.Native.Nat.{_+_, _≤_};
+ghost use lib.ListN.{length};
+ghost use Rattle.format.specs.Bits.{high};
+ghost use Rattle.format.specs.Reasons.{readFile, readTags, into};
+ghost use Rattle.printing.specs.Input.{Within};
+use answers::Answer;
+use libc::STDERR_FILENO;
+use libc::STDOUT_FILENO;
+use listing::Cursor;
+
+// What was read: so many bytes up to the end of the input or of the room for it; or a read failed.
+pub enum Input {
+    Bytes(usize),
+    Failed,
+}
+
+// One read, behind the first n bytes: how many bytes there are then.
+fn read_more(fd: i32, file: &mut [u8], n: usize) -> Input
+    requires { ⌜ n ≤ length (now file) ⌝ }
+    ensures { λ r. ⌜ Within r (length (now (file .entry))) ⌝ }
+{
+    let room = &mut file[n..];
+    let got = libc::read(fd, room);
+    if got < 0 {
+        return Input::Failed;
+    }
+    Input::Bytes(n + io::count(got, room))
+}
+
+// Reads to the end of the input, which may arrive in pieces, or until the room is full.
+pub fn read_input(fd: i32, file: &mut [u8]) -> Input
+    ensures { λ r. ⌜ Within r (length (now (file .entry))) ⌝ }
+{
+    let mut n = 0;
+    while n < file.len() {
+        let r = read_more(fd, file, n);
+        let Input::Bytes(m) = r else {
+            return r;
+        };
+        if m <= n {
+            return r;
+        }
+        n = m;
+    }
+    Input::Bytes(n)
+}
+
+// Writes all of a text; if that fails it says so, and answers false.
+pub fn write(text: &[u8]) -> bool {
+    let whole = io::write_all(STDOUT_FILENO, text);
+    if !whole {
+        io::write_all(STDERR_FILENO, b"standard output cannot be written\n");
+    }
+    whole
+}
+
+// Writes the first n bytes of a line.
+fn write_line(line: &[u8; 64], n: usize)
+    requires { ⌜ n ≤ 64 ⌝ }
+{
+    let text = &line[..];
+    write(&text[0..n]);
+}
+
+fn print_refusal(reason: u32, number: u64) {
+    let mut line = [0u8; 64];
+    let n = listing::put_refusal(reason, number, &mut line);
+    write_line(&line, n);
+}
+
+pub fn print_too_long() {
+    let mut line = [0u8; 64];
+    let n = listing::put_too_long(&mut line);
+    write_line(&line, n);
+}
+
+// The listing of a file of n bytes with these two tables, in parts through the lent buffer: a write for each.
+fn print_parts(n: u64, table: &[u64], rows: &[u32], out: &mut [u8]) {
+    let mut at = Cursor {
+        number: 0,
+        row: 0,
+        left: 0,
+    };
+    while at.number < table.len() {
+        let part = listing::put_part(n, table, rows, at, out);
+        let used = part.used;
+        if used == 0 {
+            return;
+        }
+        if !write(&out[0..used]) {
+            return;
+        }
+        at = part.to;
+    }
+}
+
+fn print_listing(n: u64, table: &[u64], rows: &[u32]) {
+    let mut out = io::large_buffer();
+    print_parts(n, table, rows, &mut out);
+}
+
+// A file: its listing at a level, or the reason why it is refused. `tags` does not refuse what `read` accepts, if it is lent five numbers for
+// every three.
+pub fn print_tables(level: u32, file: &[u8], table: &mut [u64], rows: &mut [u32])
+    ensures { λ _. ⌜ now (table .exit) ≡ into (now (table .entry)) (readFile high level (now (file .entry))) .lent ⌝ }
+    ensures { λ _. ⌜ now (rows .exit) ≡ into (now (rows .entry)) (readTags high level (now (file .entry))) .lent ⌝ }
+{
+    let tagged = reader::tags(level, file, rows);
+    match reader::read(level, file, table) {
+        Answer::Refused(reason, number) => print_refusal(reason, number),
+        Answer::Accepted(k) => match tagged {
+            Answer::Refused(reason, number) => print_refusal(reason, number),
+            Answer::Accepted(m) => {
+                print_listing(
+                    file.len() as u64,
+                    &table[0..k as usize],
+                    &rows[0..m as usize],
+                );
+            }
+        },
+    }
+}
