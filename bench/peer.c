@@ -623,6 +623,10 @@ static void put_bits(struct output *o, unsigned width, uint64_t value)
 {
     o->begun = o->begun << width | value;
     o->begun_bits += width;
+    if (!o->bytes) {
+        o->len += o->begun_bits / 8;
+        o->begun_bits %= 8;
+    }
     while (o->begun_bits >= 8) {
         o->begun_bits -= 8;
         put_byte(o, o->begun >> o->begun_bits);
@@ -850,15 +854,17 @@ static int write_items(struct numbers *from, struct output *o, uint32_t code)
     return 1;
 }
 
+/* The walk that counts judges the bytes, so the other only copies them. */
 static int write_opaque(struct numbers *from, struct output *o)
 {
-    for (size_t i = 0; i < from->left; i++)
-        if (from->next[i] > 255) return 0;
+    uint64_t all = 0;
     if (o->bytes)
         for (size_t i = 0; i < from->left; i++) o->bytes[o->len + i] = (uint8_t)from->next[i];
+    else
+        for (size_t i = 0; i < from->left; i++) all |= from->next[i];
     o->len += from->left;
     from->left = 0;
-    return 1;
+    return all <= 255;
 }
 
 /* ------------------------------------------------------------ writing: tags and files */
