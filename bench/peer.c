@@ -1,6 +1,6 @@
 /*
  * The peer of bench/run: a plain reader and writer of PAG files, made from document 01 ("What is to be built") and the open points of
- * docs/DECISIONS.md, with bounds checks and without proofs.
+ * docs/DECISIONS.md, with bounds checks and without proofs. Its author had seen the library and the reference, so it is no independent reading of the paper.
  *
  * A refusal may change nothing lent, so each call walks twice: once to judge and to count, and once to fill. One function serves both walks:
  * where there is no memory to fill (a null pointer), it only counts, and skips what it need not look at.
