@@ -1,0 +1,178 @@
+/*
+ * measure FILE ROUNDS: times the library and the peer on a good file in turns, best of ROUNDS, in processor time.
+ * Prints a line for each call: its name, the file's bytes, and nanoseconds of the library and of the peer (0: not there).
+ *
+ * measure FILE CALL ours|peer: makes one call once, for an instruction counter, and prints the file's bytes.
+ */
+#define _GNU_SOURCE
+#include "peer.h"
+
+#include <inttypes.h>
+#include <stdio.h>
+#include <stdlib.h>
+#include <string.h>
+#include <time.h>
+
+/* What all calls work on: a file, its two tables with exact room, and the bytes written back. */
+struct bench {
+    uint8_t *file;
+    size_t len;
+    uint64_t *table;
+    size_t table_len;
+    uint32_t *tags;
+    size_t tags_len;
+    uint8_t *out;
+};
+
+typedef pag_answer timed(const struct bench *b);
+
+static pag_answer our_read(const struct bench *b)
+{
+    return pag_read(PAG_LEVEL_MAX, b->file, b->len, b->table, b->table_len);
+}
+
+static pag_answer peers_read(const struct bench *b)
+{
+    return peer_read(PAG_LEVEL_MAX, b->file, b->len, b->table, b->table_len);
+}
+
+static pag_answer our_tags(const struct bench *b)
+{
+    return pag_tags(PAG_LEVEL_MAX, b->file, b->len, b->tags, b->tags_len);
+}
+
+static pag_answer peers_tags(const struct bench *b)
+{
+    return peer_tags(PAG_LEVEL_MAX, b->file, b->len, b->tags, b->tags_len);
+}
+
+#if PAG_HAS_WRITE
+static pag_answer our_write(const struct bench *b)
+{
+    return pag_write(PAG_LEVEL_MAX, b->table, b->table_len, b->out, b->len);
+}
+#else
+#define our_write NULL
+#endif
+
+static pag_answer peers_write(const struct bench *b)
+{
+    return peer_write(PAG_LEVEL_MAX, b->table, b->table_len, b->out, b->len);
+}
+
+struct pair {
+    const char *name;
+    timed *ours;
+    timed *peer;
+};
+
+/* Reading comes before writing, so that the table is there. */
+static const struct pair PAIRS[] = {
+    {"read", our_read, peers_read},
+    {"tags", our_tags, peers_tags},
+    {"write", our_write, peers_write},
+};
+enum { PAIR_COUNT = sizeof PAIRS / sizeof *PAIRS };
+
+static void stop(const char *why)
+{
+    fprintf(stderr, "measure: %s\n", why);
+    exit(2);
+}
+
+/* Memory that has been touched, so that no call pays for its pages. */
+static void *touched(size_t bytes)
+{
+    void *memory = malloc(bytes + 1);
+    if (!memory) stop("no memory");
+    return memset(memory, 1, bytes + 1);
+}
+
+static size_t room_of(pag_answer asked)
+{
+    if (asked.reason != PAG_TABLE_TOO_SHORT) stop("a generated file is refused");
+    return (size_t)asked.number;
+}
+
+static struct bench load(const char *name)
+{
+    struct bench b = {.file = touched(PAG_FILE_MAX)};
+    FILE *in = fopen(name, "rb");
+    if (!in) stop("the file can't be read");
+    b.len = fread(b.file, 1, PAG_FILE_MAX, in);
+    fclose(in);
+    return b;
+}
+
+/* Exact rooms, touched before. */
+static void lend(struct bench *b)
+{
+    b->table_len = room_of(peer_read(PAG_LEVEL_MAX, b->file, b->len, NULL, 0));
+    b->tags_len = room_of(peer_tags(PAG_LEVEL_MAX, b->file, b->len, NULL, 0));
+    b->table = touched(b->table_len * sizeof *b->table);
+    b->tags = touched(b->tags_len * sizeof *b->tags);
+    b->out = touched(b->len);
+}
+
+static uint64_t nanoseconds(void)
+{
+    struct timespec now;
+    clock_gettime(CLOCK_THREAD_CPUTIME_ID, &now);
+    return (uint64_t)now.tv_sec * 1000000000u + (uint64_t)now.tv_nsec;
+}
+
+/* The time of one call, if it is less than the best so far. */
+static uint64_t better(timed *call, const struct bench *b, uint64_t best)
+{
+    uint64_t start = nanoseconds();
+    pag_answer answer = call(b);
+    uint64_t time = nanoseconds() - start;
+    if (answer.reason) stop("a call is refused");
+    return time < best ? time : best;
+}
+
+static void compare(const struct pair *pair, const struct bench *b, long rounds)
+{
+    uint64_t ours = UINT64_MAX, peer = UINT64_MAX;
+    for (long i = 0; i < rounds; i++) {
+        if (pair->ours) ours = better(pair->ours, b, ours);
+        peer = better(pair->peer, b, peer);
+    }
+    printf("%s %zu %" PRIu64 " %" PRIu64 "\n", pair->name, b->len, pair->ours ? ours : 0, peer);
+}
+
+/* Rooms by pag.h's bounds, so that nothing but the call has to look at the file; the system gives pages as they are touched. */
+static void lend_bounds(struct bench *b)
+{
+    b->table_len = 8 * b->len;
+    b->tags_len = 5 * b->len;
+    b->table = calloc(b->table_len, sizeof *b->table);
+    b->tags = calloc(b->tags_len, sizeof *b->tags);
+    b->out = calloc(b->len, 1);
+    if (!b->table || !b->tags || !b->out) stop("no memory");
+}
+
+static void call_once(struct bench *b, const char *name, int ours)
+{
+    for (int i = 0; i < PAIR_COUNT; i++) {
+        timed *call = ours ? PAIRS[i].ours : PAIRS[i].peer;
+        if (strcmp(name, PAIRS[i].name) != 0) continue;
+        lend_bounds(b);
+        if (PAIRS[i].peer == peers_write) b->table_len = (size_t)peers_read(b).number;
+        if (!call || call(b).reason) stop("the call is refused or not there");
+        printf("%zu\n", b->len);
+    }
+}
+
+int main(int argc, char **argv)
+{
+    if (argc != 3 && argc != 4) stop("usage: measure FILE ROUNDS, or measure FILE CALL ours|peer");
+    struct bench b = load(argv[1]);
+    if (argc == 4) {
+        call_once(&b, argv[2], strcmp(argv[3], "ours") == 0);
+        return 0;
+    }
+    lend(&b);
+    for (int i = 0; i < PAIR_COUNT; i++) compare(&PAIRS[i], &b, strtol(argv[2], NULL, 10));
+    return 0;
+}

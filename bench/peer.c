@@ -1,0 +1,965 @@
+/*
+ * The peer of bench/run: a plain reader and writer of PAG files, made from document 01 ("What is to be built") and the open points of
+ * docs/DECISIONS.md, with bounds checks and without proofs. Its author had seen the library and the reference, so it is no independent reading of the paper.
+ *
+ * A refusal may change nothing lent, so each call walks twice: once to judge and to count, and once to fill. One function serves both walks:
+ * where there is no memory to fill (a null pointer), it only counts, and skips what it need not look at.
+ */
+#include "peer.h"
+
+#include <string.h>
+
+enum { TOP_DEPTH = 8, TOP_COUNT = 4096, HEADER_BYTES = 9, LONG_LENGTH = 63, MOST_ATTRIBUTES = 9 };
+
+/* ------------------------------------------------------------ the format's constant tables */
+
+enum tag_class { OPAQUE, END, CONTAINER, ITEMS, FONTS, BLOCK };
+
+enum { KNOWN_CODES = 15 };
+
+static const uint8_t CLASSES[KNOWN_CODES] = {
+    [0] = END,   [1] = FONTS, [2] = CONTAINER, [3] = ITEMS,  [5] = CONTAINER, [6] = BLOCK,
+    [7] = ITEMS, [9] = BLOCK, [11] = ITEMS,    [12] = ITEMS, [14] = BLOCK,
+};
+
+enum data_type { NONE, U32, I32, TIME, FLOAT, BYTE, BOOL, RATIO, BLEND_MODE, TRACK_MATTE, MASK_MODE, PATH };
+
+/* The items of plain bodies; those of containers stand before their list. NONE ends them. */
+static const uint8_t PLAIN[KNOWN_CODES][8] = {
+    [2] = {U32},
+    [3] = {I32, I32, TIME, FLOAT, BYTE, BYTE, BYTE},
+    [5] = {BYTE, U32},
+    [7] = {BYTE, BYTE, BYTE, I32, I32},
+    [11] = {U32},
+    [12] = {U32, TIME},
+};
+
+enum attribute_kind { VALUE, FIXED, BIT_FLAG, SIMPLE, DISCRETE };
+
+struct attribute {
+    uint8_t kind;
+    uint8_t type;
+};
+
+struct attribute_list {
+    size_t count;
+    struct attribute of[MOST_ATTRIBUTES];
+};
+
+static const struct attribute_list LAYER = {
+    9,
+    {{BIT_FLAG, NONE}, {BIT_FLAG, NONE}, {VALUE, U32}, {VALUE, RATIO}, {VALUE, TIME}, {VALUE, BLEND_MODE}, {VALUE, TRACK_MATTE},
+     {SIMPLE, FLOAT}, {FIXED, TIME}},
+};
+static const struct attribute_list TEXT = {
+    6,
+    {{VALUE, U32}, {DISCRETE, BOOL}, {DISCRETE, BOOL}, {DISCRETE, BOOL}, {SIMPLE, FLOAT}, {SIMPLE, FLOAT}},
+};
+static const struct attribute_list MASK = {
+    6,
+    {{FIXED, U32}, {BIT_FLAG, NONE}, {VALUE, MASK_MODE}, {SIMPLE, PATH}, {SIMPLE, BYTE}, {SIMPLE, FLOAT}},
+};
+
+static const uint8_t COORDINATES[8] = {0, 2, 2, 1, 1, 4, 4, 6};
+
+enum { LINEAR = 1, BEZIER = 2, HOLD = 3 };
+
+static const struct attribute_list *attributes_of(uint32_t code)
+{
+    return code == 6 ? &LAYER : code == 9 ? &TEXT : &MASK;
+}
+
+static enum tag_class class_of(uint32_t level, uint32_t code)
+{
+    return code < KNOWN_CODES && code <= level ? (enum tag_class)CLASSES[code] : OPAQUE;
+}
+
+/* Is the byte one that its data type lists? */
+static int is_listed(enum data_type type, uint64_t value)
+{
+    switch (type) {
+    case BOOL: return value <= 1;
+    case BLEND_MODE: return value <= 16 || (value >= 21 && value <= 26);
+    case TRACK_MATTE: return value <= 4;
+    case MASK_MODE: return value <= 7;
+    default: return value <= 255;
+    }
+}
+
+static pag_answer refused(uint32_t reason, uint64_t number)
+{
+    return (pag_answer){reason, number};
+}
+
+static pag_answer accepted(uint64_t count)
+{
+    return (pag_answer){PAG_ACCEPTED, count};
+}
+
+/* ------------------------------------------------------------ reading: items */
+
+/* A body under way, read up to bit `at`. Its numbers go to `out` if there is one; they are counted in any case. */
+struct body {
+    const uint8_t *bytes;
+    size_t len;
+    size_t at;
+    uint64_t *out;
+    size_t count;
+};
+
+static void show(struct body *b, uint64_t number)
+{
+    if (b->out) b->out[b->count] = number;
+    b->count++;
+}
+
+/* The next whole byte; 15 if a skipped bit is not zero. */
+static int align(struct body *b)
+{
+    unsigned used = b->at % 8;
+    if (used == 0) return 0;
+    if (b->bytes[b->at / 8] & (0xFF >> used)) return PAG_SKIPPED_BIT_NOT_ZERO;
+    b->at += 8 - used;
+    return 0;
+}
+
+static int read_byte(struct body *b, uint64_t *value)
+{
+    int why = align(b);
+    if (why) return why;
+    if (b->at / 8 >= b->len) return PAG_ITEM_PAST_THE_BODY;
+    *value = b->bytes[b->at / 8];
+    b->at += 8;
+    return 0;
+}
+
+/* U32 and U64: at most `most` bytes, the last of them at most `top`. */
+static int read_spelled(struct body *b, unsigned most, unsigned top, uint64_t *value)
+{
+    int why = align(b);
+    if (why) return why;
+    const uint8_t *from = b->bytes + b->at / 8;
+    size_t left = b->len - b->at / 8;
+    uint64_t sum = 0;
+    for (unsigned i = 0; i < most; i++) {
+        if (i >= left) return PAG_ITEM_PAST_THE_BODY;
+        unsigned byte = from[i];
+        sum |= (uint64_t)(byte & 127) << (7 * i);
+        if (byte >= 128) continue;
+        if ((i > 0 && byte == 0) || (i == most - 1 && byte > top)) return PAG_SPELLING;
+        *value = sum;
+        b->at += 8 * (i + 1);
+        return 0;
+    }
+    return PAG_SPELLING;
+}
+
+static int read_u32(struct body *b, uint64_t *value)
+{
+    return read_spelled(b, 5, 15, value);
+}
+
+static int read_u64(struct body *b, uint64_t *value)
+{
+    return read_spelled(b, 10, 1, value);
+}
+
+static int read_i32(struct body *b, uint64_t *value)
+{
+    uint64_t d = 0;
+    int why = read_u32(b, &d);
+    if (why) return why;
+    if (d == 1) return PAG_SPELLING;
+    *value = d % 2 ? 0 - d / 2 : d / 2;
+    return 0;
+}
+
+static int read_float(struct body *b, uint64_t *value)
+{
+    int why = align(b);
+    if (why) return why;
+    if (b->len - b->at / 8 < 4) return PAG_ITEM_PAST_THE_BODY;
+    const uint8_t *p = b->bytes + b->at / 8;
+    *value = p[0] | (uint64_t)p[1] << 8 | (uint64_t)p[2] << 16 | (uint64_t)p[3] << 24;
+    b->at += 32;
+    return 0;
+}
+
+/* A count that is shown: of fonts, verbs or frames. */
+static int read_count(struct body *b, uint64_t least, size_t *count)
+{
+    uint64_t number = 0;
+    int why = read_u32(b, &number);
+    if (why) return why;
+    if (number < least || number > TOP_COUNT) return PAG_COUNT_OUTSIDE_ITS_RANGE;
+    *count = (size_t)number;
+    show(b, number);
+    return 0;
+}
+
+/* ------------------------------------------------------------ reading: bit fields */
+
+/* How many of n fields stand in the body. */
+static size_t fitting(const struct body *b, unsigned width, size_t n)
+{
+    size_t room = (8 * b->len - b->at) / width;
+    return n < room ? n : room;
+}
+
+/* The field at a bit that stands in the body: by one load of eight bytes where there are so many, else byte by byte. */
+static uint64_t field_at(const uint8_t *bytes, size_t len, size_t at, unsigned width)
+{
+    size_t first = at / 8;
+    uint64_t word = 0;
+    if (len - first >= 8) {
+        memcpy(&word, bytes + first, 8);
+        word = __builtin_bswap64(word);
+    } else {
+        for (size_t i = first; i < len; i++) word |= (uint64_t)bytes[i] << (56 - 8 * (i - first));
+    }
+    return (word << at % 8) >> (64 - width);
+}
+
+static uint64_t next_field(struct body *b, unsigned width)
+{
+    uint64_t value = field_at(b->bytes, b->len, b->at, width);
+    b->at += width;
+    return value;
+}
+
+/* A width that is shown. */
+static int read_width(struct body *b, unsigned *width)
+{
+    if (fitting(b, 5, 1) < 1) return PAG_ITEM_PAST_THE_BODY;
+    *width = (unsigned)next_field(b, 5) + 1;
+    show(b, *width);
+    return 0;
+}
+
+/* A width, and n signed fields of it. They have no values to judge, so a walk that only counts steps over them. */
+static int read_signed_fields(struct body *b, size_t n)
+{
+    unsigned width = 0;
+    int why = read_width(b, &width);
+    if (why) return why;
+    if (fitting(b, width, n) < n) return PAG_ITEM_PAST_THE_BODY;
+    if (b->out) {
+        uint64_t *out = b->out + b->count;
+        uint64_t half = (uint64_t)1 << (width - 1);
+        size_t at = b->at;
+        for (size_t i = 0; i < n; i++, at += width) out[i] = (field_at(b->bytes, b->len, at, width) ^ half) - half;
+    }
+    b->at += n * width;
+    b->count += n;
+    return 0;
+}
+
+/* n fields of one width, each at most `most` and at least `least`. */
+static int read_fields(struct body *b, unsigned width, size_t n, uint64_t least, uint64_t most)
+{
+    size_t there = fitting(b, width, n);
+    for (size_t i = 0; i < there; i++) {
+        uint64_t value = next_field(b, width);
+        if (value < least || value > most) return PAG_UNLISTED_VALUE;
+        show(b, value);
+    }
+    return there < n ? PAG_ITEM_PAST_THE_BODY : 0;
+}
+
+static int read_path(struct body *b)
+{
+    size_t verbs = 0, coordinates = 0;
+    int why = read_count(b, 0, &verbs);
+    if (why) return why;
+    if (fitting(b, 3, verbs) < verbs) return PAG_ITEM_PAST_THE_BODY;
+    for (size_t i = 0; i < verbs; i++) {
+        uint64_t verb = next_field(b, 3);
+        coordinates += COORDINATES[verb];
+        show(b, verb);
+    }
+    return read_signed_fields(b, coordinates);
+}
+
+/* ------------------------------------------------------------ reading: bodies */
+
+static int read_one(struct body *b, enum data_type type)
+{
+    uint64_t value = 0;
+    int why;
+    switch (type) {
+    case U32: why = read_u32(b, &value); break;
+    case I32: why = read_i32(b, &value); break;
+    case TIME: why = read_u64(b, &value); break;
+    case FLOAT: why = read_float(b, &value); break;
+    default:
+        why = read_byte(b, &value);
+        if (!why && !is_listed(type, value)) why = PAG_UNLISTED_VALUE;
+    }
+    if (!why) show(b, value);
+    return why;
+}
+
+static int read_value(struct body *b, enum data_type type)
+{
+    if (type == PATH) return read_path(b);
+    if (type != RATIO) return read_one(b, type);
+    int why = read_one(b, I32);
+    return why ? why : read_one(b, U32);
+}
+
+static int read_in_turn(struct body *b, enum data_type type, size_t n)
+{
+    for (size_t i = 0; i < n; i++) {
+        int why = read_value(b, type);
+        if (why) return why;
+    }
+    return 0;
+}
+
+static int read_frame_values(struct body *b, enum data_type type, size_t n)
+{
+    unsigned width = 0;
+    if (type == BOOL) return read_fields(b, 1, n, 0, 1);
+    if (type != BYTE) return read_in_turn(b, type, n);
+    int why = read_width(b, &width);
+    return why ? why : read_fields(b, width, n, 0, 255);
+}
+
+/* UB[2] per frame; the Bezier frames are counted. */
+static int read_interpolations(struct body *b, size_t frames, size_t *beziers)
+{
+    size_t there = fitting(b, 2, frames);
+    for (size_t i = 0; i < there; i++) {
+        uint64_t interpolation = next_field(b, 2);
+        if (interpolation < LINEAR) return PAG_UNLISTED_VALUE;
+        *beziers += interpolation == BEZIER;
+        show(b, interpolation);
+    }
+    return there < frames ? PAG_ITEM_PAST_THE_BODY : 0;
+}
+
+/* Keyframed content: each of its five parts starts on a whole byte. */
+static int read_keyframed(struct body *b, enum attribute_kind kind, enum data_type type)
+{
+    size_t frames = 0, beziers = 0;
+    int why = read_count(b, 1, &frames);
+    if (why || (why = align(b))) return why;
+    if (kind != DISCRETE && (why = read_interpolations(b, frames, &beziers))) return why;
+    if ((why = read_in_turn(b, TIME, frames + 1))) return why;
+    if ((why = align(b)) || (why = read_frame_values(b, type, frames + 1))) return why;
+    if ((why = align(b))) return why;
+    return read_signed_fields(b, 4 * beziers);
+}
+
+static int read_flag_bit(struct body *b, unsigned *bit)
+{
+    if (fitting(b, 1, 1) < 1) return PAG_ITEM_PAST_THE_BODY;
+    *bit = (unsigned)next_field(b, 1);
+    return 0;
+}
+
+static int read_flags(struct body *b, enum attribute_kind kind, unsigned *flags)
+{
+    unsigned animatable = 0;
+    *flags = 1;
+    if (kind == FIXED) return 0;
+    int why = read_flag_bit(b, flags);
+    if (why || *flags == 0 || (kind != SIMPLE && kind != DISCRETE)) return why;
+    why = read_flag_bit(b, &animatable);
+    *flags += 2 * animatable;
+    return why;
+}
+
+static int read_block(struct body *b, const struct attribute_list *list)
+{
+    unsigned flags[MOST_ATTRIBUTES];
+    int why;
+    for (size_t i = 0; i < list->count; i++)
+        if ((why = read_flags(b, list->of[i].kind, &flags[i]))) return why;
+    for (size_t i = 0; i < list->count; i++) {
+        enum attribute_kind kind = list->of[i].kind;
+        enum data_type type = list->of[i].type;
+        show(b, flags[i]);
+        why = 0;
+        if (flags[i] == 3) why = read_keyframed(b, kind, type);
+        else if (flags[i] == 1 && kind != BIT_FLAG) why = read_value(b, type);
+        if (why) return why;
+    }
+    return 0;
+}
+
+/* Bytes as numbers. */
+static void show_bytes(struct body *b, const uint8_t *bytes, size_t n)
+{
+    if (b->out)
+        for (size_t i = 0; i < n; i++) b->out[b->count + i] = bytes[i];
+    b->count += n;
+}
+
+static int read_string(struct body *b)
+{
+    const uint8_t *from = b->bytes + b->at / 8;
+    size_t left = b->len - b->at / 8;
+    const uint8_t *zero = left ? memchr(from, 0, left) : NULL;
+    if (!zero) return PAG_ITEM_PAST_THE_BODY;
+    size_t n = (size_t)(zero - from);
+    show(b, n);
+    show_bytes(b, from, n);
+    b->at += 8 * (n + 1);
+    return 0;
+}
+
+static int read_fonts(struct body *b)
+{
+    size_t fonts = 0;
+    int why = read_count(b, 0, &fonts);
+    for (size_t i = 0; !why && i < 2 * fonts; i++) why = read_string(b);
+    return why;
+}
+
+static int read_items(struct body *b, uint32_t code)
+{
+    for (const uint8_t *type = PLAIN[code]; *type != NONE; type++) {
+        int why = read_one(b, *type);
+        if (why) return why;
+    }
+    return 0;
+}
+
+/* The body of a leaf tag that is read: its items, zero bits up to a whole byte, and nothing more. */
+static int read_leaf(struct body *b, enum tag_class class, uint32_t code)
+{
+    int why = class == FONTS ? read_fonts(b) : class == BLOCK ? read_block(b, attributes_of(code)) : read_items(b, code);
+    if (why || (why = align(b))) return why;
+    return b->at / 8 < b->len ? PAG_BODY_NOT_USED_UP : 0;
+}
+
+/* ------------------------------------------------------------ reading: tags and files */
+
+/* A walk of a file's tags. A table that is not there is only counted; leaves that were judged before need not be read for the tag table. */
+struct walk {
+    uint32_t level;
+    const uint8_t *file;
+    uint64_t *table;
+    size_t numbers;
+    uint32_t *rows;
+    size_t row_numbers;
+    int leaves_judged;
+};
+
+struct header {
+    uint32_t code;
+    size_t size;
+    size_t len;
+};
+
+static uint32_t le16(const uint8_t *p)
+{
+    return p[0] | (uint32_t)p[1] << 8;
+}
+
+static uint32_t le32(const uint8_t *p)
+{
+    return le16(p) | le16(p + 2) << 16;
+}
+
+/* 6 and 8 to 10, then 12, in this order. */
+static int read_header(const struct walk *w, size_t place, size_t end, unsigned depth, struct header *h)
+{
+    size_t rest = end - place;
+    if (rest < 2) return PAG_HEADER_CUT;
+    uint32_t number = le16(w->file + place);
+    *h = (struct header){number / 64, 2, number % 64};
+    if (h->len == LONG_LENGTH) {
+        if (rest < 6) return PAG_HEADER_CUT;
+        h->size = 6;
+        h->len = le32(w->file + place + 2);
+        if (h->len < LONG_LENGTH) return PAG_LONG_HEADER_BELOW_63;
+    }
+    if (h->len > rest - h->size) return PAG_BODY_LONGER_THAN_LIST;
+    if (h->code == 0 && h->len > 0) return PAG_END_WITH_A_BODY;
+    if (depth == TOP_DEPTH && class_of(w->level, h->code) == CONTAINER) return PAG_CONTAINER_AT_DEPTH_8;
+    return 0;
+}
+
+static void show_row(struct walk *w, unsigned depth, size_t place, const struct header *h)
+{
+    if (w->rows) {
+        uint32_t *row = w->rows + w->row_numbers;
+        row[0] = depth;
+        row[1] = h->code;
+        row[2] = (uint32_t)place;
+        row[3] = (uint32_t)h->size;
+        row[4] = (uint32_t)h->len;
+    }
+    w->row_numbers += 5;
+}
+
+/* A tag's own numbers. *inside is how many bytes of its body they took. */
+static int show_tag(struct walk *w, enum tag_class class, size_t start, const struct header *h, size_t *inside)
+{
+    uint64_t *head = w->table ? w->table + w->numbers : NULL;
+    struct body b = {w->file + start, h->len, 0, head ? head + 3 : NULL, 0};
+    int why = 0;
+    if (class == OPAQUE) show_bytes(&b, b.bytes, b.len);
+    else if (class == CONTAINER) why = read_items(&b, h->code);
+    else if (class != END && !w->leaves_judged) why = read_leaf(&b, class, h->code);
+    if (head) {
+        head[0] = h->code;
+        head[1] = class != OPAQUE;
+        head[2] = b.count;
+    }
+    w->numbers += 3 + b.count;
+    *inside = b.at / 8;
+    return why;
+}
+
+/* The list from place to end. 7 and 11 blame its container; at depth 0 (blamed NULL) the place where it happened. */
+static pag_answer walk_list(struct walk *w, size_t place, size_t end, unsigned depth, const size_t *blamed)
+{
+    while (place < end) {
+        struct header h;
+        size_t inside = 0;
+        int why = read_header(w, place, end, depth, &h);
+        if (why) return refused(why, place);
+        size_t start = place + h.size, stop = start + h.len;
+        enum tag_class class = class_of(w->level, h.code);
+        show_row(w, depth, place, &h);
+        why = show_tag(w, class, start, &h, &inside);
+        if (why) return refused(why, place);
+        if (class == CONTAINER) {
+            pag_answer within = walk_list(w, start + inside, stop, depth + 1, &place);
+            if (within.reason) return within;
+        }
+        if (class == END && stop < end) return refused(PAG_BYTES_AFTER_END, blamed ? *blamed : stop);
+        if (class == END) return accepted(0);
+        place = stop;
+    }
+    return refused(PAG_LIST_WITHOUT_END, blamed ? *blamed : end);
+}
+
+static uint32_t start_fault(uint32_t level, const uint8_t *file, size_t len)
+{
+    if (level > PAG_LEVEL_MAX) return PAG_LEVEL_ABOVE_1023;
+    if (len < HEADER_BYTES) return PAG_FEWER_THAN_9_BYTES;
+    if (memcmp(file, "PAG", 3) != 0) return PAG_SIGNATURE_WRONG;
+    if (file[3] != 1) return PAG_VERSION_NOT_1;
+    if (le32(file + 4) != len || len > PAG_FILE_MAX) return PAG_LENGTH_FIELD_WRONG;
+    return 0;
+}
+
+static pag_answer walk_file(struct walk *w, size_t len)
+{
+    w->numbers = 1;
+    w->row_numbers = 0;
+    if (w->table) w->table[0] = w->file[8];
+    return walk_list(w, HEADER_BYTES, len, 0, NULL);
+}
+
+/* The walk that judges and counts. */
+static pag_answer survey(struct walk *w, size_t len)
+{
+    uint32_t why = start_fault(w->level, w->file, len);
+    return why ? refused(why, 0) : walk_file(w, len);
+}
+
+pag_answer peer_read(uint32_t level, const uint8_t *file, size_t file_len, uint64_t *table, size_t table_len)
+{
+    struct walk w = {.level = level, .file = file};
+    pag_answer judged = survey(&w, file_len);
+    if (judged.reason) return judged;
+    if (table_len < w.numbers) return refused(PAG_TABLE_TOO_SHORT, w.numbers);
+    w.table = table;
+    walk_file(&w, file_len);
+    return accepted(w.numbers);
+}
+
+pag_answer peer_tags(uint32_t level, const uint8_t *file, size_t file_len, uint32_t *tags, size_t tags_len)
+{
+    struct walk w = {.level = level, .file = file};
+    pag_answer judged = survey(&w, file_len);
+    if (judged.reason) return judged;
+    if (tags_len < w.row_numbers) return refused(PAG_TABLE_TOO_SHORT, w.row_numbers);
+    w.rows = tags;
+    w.leaves_judged = 1;
+    walk_file(&w, file_len);
+    return accepted(w.row_numbers);
+}
+
+/* ------------------------------------------------------------ writing: items */
+
+/* Numbers still to be written. */
+struct numbers {
+    const uint64_t *next;
+    size_t left;
+};
+
+/* Bytes under way: whole bytes, and the bits of a byte begun. Without memory they are only counted. */
+struct output {
+    uint8_t *bytes;
+    size_t len;
+    uint64_t begun;
+    unsigned begun_bits;
+};
+
+/* The next number, if there is one from least to most. From here on 0 says that no file has this table. */
+static int take(struct numbers *from, uint64_t least, uint64_t most, uint64_t *value)
+{
+    if (from->left == 0) return 0;
+    *value = *from->next;
+    if (*value < least || *value > most) return 0;
+    from->next++;
+    from->left--;
+    return 1;
+}
+
+static void put_byte(struct output *o, uint64_t byte)
+{
+    if (o->bytes) o->bytes[o->len] = (uint8_t)byte;
+    o->len++;
+}
+
+static void put_bits(struct output *o, unsigned width, uint64_t value)
+{
+    o->begun = o->begun << width | value;
+    o->begun_bits += width;
+    if (!o->bytes) {
+        o->len += o->begun_bits / 8;
+        o->begun_bits %= 8;
+    }
+    while (o->begun_bits >= 8) {
+        o->begun_bits -= 8;
+        put_byte(o, o->begun >> o->begun_bits);
+    }
+}
+
+static void put_zero_bits(struct output *o)
+{
+    if (o->begun_bits) put_bits(o, 8 - o->begun_bits, 0);
+}
+
+/* The shortest spelling, from a whole byte on. */
+static void put_spelled(struct output *o, uint64_t value)
+{
+    put_zero_bits(o);
+    for (; value > 127; value /= 128) put_byte(o, 128 + value % 128);
+    put_byte(o, value);
+}
+
+/* A number kept modulo 2^64, as its sign and its magnitude. */
+static int is_negative(uint64_t value, uint64_t *magnitude)
+{
+    int negative = (value >> 63) != 0;
+    *magnitude = negative ? 0 - value : value;
+    return negative;
+}
+
+static int write_i32(struct numbers *from, struct output *o)
+{
+    uint64_t value = 0, magnitude = 0;
+    if (!take(from, 0, UINT64_MAX, &value)) return 0;
+    int negative = is_negative(value, &magnitude);
+    if (magnitude > 2147483647) return 0;
+    put_spelled(o, 2 * magnitude + (uint64_t)negative);
+    return 1;
+}
+
+static int write_float(struct numbers *from, struct output *o)
+{
+    uint64_t pattern = 0;
+    if (!take(from, 0, UINT32_MAX, &pattern)) return 0;
+    put_zero_bits(o);
+    for (unsigned i = 0; i < 4; i++) put_byte(o, pattern >> (8 * i));
+    return 1;
+}
+
+static int write_number(struct numbers *from, struct output *o, uint64_t most)
+{
+    uint64_t value = 0;
+    if (!take(from, 0, most, &value)) return 0;
+    put_spelled(o, value);
+    return 1;
+}
+
+static int write_byte(struct numbers *from, struct output *o, enum data_type type)
+{
+    uint64_t value = 0;
+    if (!take(from, 0, 255, &value) || !is_listed(type, value)) return 0;
+    put_zero_bits(o);
+    put_byte(o, value);
+    return 1;
+}
+
+static int write_count(struct numbers *from, struct output *o, uint64_t least, size_t *count)
+{
+    uint64_t number = 0;
+    if (!take(from, least, TOP_COUNT, &number)) return 0;
+    put_spelled(o, number);
+    *count = (size_t)number;
+    return 1;
+}
+
+static int write_width(struct numbers *from, struct output *o, unsigned *width)
+{
+    uint64_t number = 0;
+    if (!take(from, 1, 32, &number)) return 0;
+    put_bits(o, 5, number - 1);
+    *width = (unsigned)number;
+    return 1;
+}
+
+static int write_signed_fields(struct numbers *from, struct output *o, size_t n)
+{
+    unsigned width = 0;
+    if (!write_width(from, o, &width) || n > from->left) return 0;
+    uint64_t half = (uint64_t)1 << (width - 1), mask = 2 * half - 1;
+    for (size_t i = 0; i < n; i++) {
+        uint64_t value = from->next[i];
+        if (value + half > mask) return 0;
+        put_bits(o, width, value & mask);
+    }
+    from->next += n;
+    from->left -= n;
+    return 1;
+}
+
+static int write_fields(struct numbers *from, struct output *o, unsigned width, size_t n, uint64_t most)
+{
+    uint64_t top = ((uint64_t)1 << width) - 1, value = 0;
+    if (most < top) top = most;
+    for (size_t i = 0; i < n; i++) {
+        if (!take(from, 0, top, &value)) return 0;
+        put_bits(o, width, value);
+    }
+    return 1;
+}
+
+static int write_path(struct numbers *from, struct output *o)
+{
+    size_t verbs = 0, coordinates = 0;
+    uint64_t verb = 0;
+    if (!write_count(from, o, 0, &verbs)) return 0;
+    for (size_t i = 0; i < verbs; i++) {
+        if (!take(from, 0, 7, &verb)) return 0;
+        put_bits(o, 3, verb);
+        coordinates += COORDINATES[verb];
+    }
+    return write_signed_fields(from, o, coordinates);
+}
+
+/* ------------------------------------------------------------ writing: bodies */
+
+static int write_value(struct numbers *from, struct output *o, enum data_type type)
+{
+    switch (type) {
+    case U32: return write_number(from, o, UINT32_MAX);
+    case I32: return write_i32(from, o);
+    case TIME: return write_number(from, o, UINT64_MAX);
+    case FLOAT: return write_float(from, o);
+    case RATIO: return write_i32(from, o) && write_number(from, o, UINT32_MAX);
+    case PATH: return write_path(from, o);
+    default: return write_byte(from, o, type);
+    }
+}
+
+static int write_in_turn(struct numbers *from, struct output *o, enum data_type type, size_t n)
+{
+    for (size_t i = 0; i < n; i++)
+        if (!write_value(from, o, type)) return 0;
+    return 1;
+}
+
+static int write_frame_values(struct numbers *from, struct output *o, enum data_type type, size_t n)
+{
+    unsigned width = 0;
+    if (type == BOOL) return write_fields(from, o, 1, n, 1);
+    if (type != BYTE) return write_in_turn(from, o, type, n);
+    return write_width(from, o, &width) && write_fields(from, o, width, n, 255);
+}
+
+static int write_interpolations(struct numbers *from, struct output *o, size_t frames, size_t *beziers)
+{
+    uint64_t interpolation = 0;
+    for (size_t i = 0; i < frames; i++) {
+        if (!take(from, LINEAR, HOLD, &interpolation)) return 0;
+        put_bits(o, 2, interpolation);
+        *beziers += interpolation == BEZIER;
+    }
+    return 1;
+}
+
+static int write_keyframed(struct numbers *from, struct output *o, enum attribute_kind kind, enum data_type type)
+{
+    size_t frames = 0, beziers = 0;
+    if (!write_count(from, o, 1, &frames)) return 0;
+    if (kind != DISCRETE && !write_interpolations(from, o, frames, &beziers)) return 0;
+    if (!write_in_turn(from, o, TIME, frames + 1)) return 0;
+    put_zero_bits(o);
+    if (!write_frame_values(from, o, type, frames + 1)) return 0;
+    put_zero_bits(o);
+    return write_signed_fields(from, o, 4 * beziers);
+}
+
+/* The flags of a block, which stand before its contents and are known after them. */
+struct flags {
+    uint32_t bits;
+    unsigned count;
+};
+
+static int write_attribute(struct numbers *from, struct output *o, struct attribute attribute, struct flags *flags)
+{
+    int animatable = attribute.kind == SIMPLE || attribute.kind == DISCRETE;
+    uint64_t number = 0;
+    if (!take(from, attribute.kind == FIXED, animatable ? 3 : 1, &number) || number == 2) return 0;
+    if (attribute.kind != FIXED) {
+        flags->bits = flags->bits << 1 | (uint32_t)(number & 1);
+        flags->count++;
+    }
+    if (animatable && number) {
+        flags->bits = flags->bits << 1 | (uint32_t)(number >> 1);
+        flags->count++;
+    }
+    if (number == 3) return write_keyframed(from, o, attribute.kind, attribute.type);
+    if (number == 0 || attribute.kind == BIT_FLAG) return 1;
+    return write_value(from, o, attribute.type);
+}
+
+static int write_string(struct numbers *from, struct output *o)
+{
+    uint64_t n = 0;
+    if (!take(from, 0, UINT64_MAX, &n) || n > from->left) return 0;
+    for (size_t i = 0; i < n; i++) {
+        if (from->next[i] < 1 || from->next[i] > 255) return 0;
+        put_byte(o, from->next[i]);
+    }
+    put_byte(o, 0);
+    from->next += n;
+    from->left -= n;
+    return 1;
+}
+
+static int write_fonts(struct numbers *from, struct output *o)
+{
+    size_t fonts = 0;
+    if (!write_count(from, o, 0, &fonts)) return 0;
+    for (size_t i = 0; i < 2 * fonts; i++)
+        if (!write_string(from, o)) return 0;
+    return 1;
+}
+
+static int write_items(struct numbers *from, struct output *o, uint32_t code)
+{
+    for (const uint8_t *type = PLAIN[code]; *type != NONE; type++)
+        if (!write_value(from, o, *type)) return 0;
+    return 1;
+}
+
+/* The walk that counts judges the bytes, so the other only copies them. */
+static int write_opaque(struct numbers *from, struct output *o)
+{
+    uint64_t all = 0;
+    if (o->bytes)
+        for (size_t i = 0; i < from->left; i++) o->bytes[o->len + i] = (uint8_t)from->next[i];
+    else
+        for (size_t i = 0; i < from->left; i++) all |= from->next[i];
+    o->len += from->left;
+    from->left = 0;
+    return all <= 255;
+}
+
+/* ------------------------------------------------------------ writing: tags and files */
+
+static void put_le(uint8_t *to, uint32_t value, unsigned bytes)
+{
+    for (unsigned i = 0; i < bytes; i++) to[i] = (uint8_t)(value >> (8 * i));
+}
+
+/*
+ * A tag's header and flags are known after its contents. So the contents are written as near to the tag's place as they can come, behind a short header
+ * and one byte of flags, and are moved on where the header is long or the flags take two bytes: never past where the tag ends.
+ */
+static void close_tag(struct output *o, size_t place, uint32_t code, size_t contents, struct flags flags)
+{
+    size_t flag_bytes = (flags.count + 7) / 8, n = o->len - contents, len = flag_bytes + n;
+    size_t size = len < LONG_LENGTH ? 2 : 6;
+    if (o->bytes) {
+        uint8_t *to = o->bytes + place;
+        if (place + size + flag_bytes != contents) memmove(to + size + flag_bytes, o->bytes + contents, n);
+        put_le(to, code * 64 + (size == 2 ? (uint32_t)len : LONG_LENGTH), 2);
+        if (size == 6) put_le(to + 2, (uint32_t)len, 4);
+        uint32_t bits = flags.bits << (8 * flag_bytes - flags.count);
+        if (flag_bytes == 2) to[size] = (uint8_t)(bits >> 8);
+        if (flag_bytes > 0) to[size + flag_bytes - 1] = (uint8_t)bits;
+    }
+    o->len = place + size + len;
+}
+
+/* A tag's own values: all of them. */
+static int write_own(struct numbers *values, struct output *o, enum tag_class class, uint32_t code, struct flags *flags)
+{
+    int good = 1;
+    if (class == OPAQUE) good = write_opaque(values, o);
+    if (class == FONTS) good = write_fonts(values, o);
+    if (class == ITEMS || class == CONTAINER) good = write_items(values, o, code);
+    if (class == BLOCK) {
+        const struct attribute_list *list = attributes_of(code);
+        for (size_t i = 0; good && i < list->count; i++) good = write_attribute(values, o, list->of[i], flags);
+    }
+    put_zero_bits(o);
+    return good && values->left == 0;
+}
+
+static int take_values(struct numbers *from, struct numbers *values)
+{
+    uint64_t count = 0;
+    if (!take(from, 0, UINT64_MAX, &count) || count > from->left) return 0;
+    *values = (struct numbers){from->next, (size_t)count};
+    from->next += count;
+    from->left -= count;
+    return 1;
+}
+
+/* A tag list, its End included. */
+static int write_list(struct numbers *from, struct output *o, uint32_t level, unsigned depth)
+{
+    for (;;) {
+        uint64_t code = 0, state = 0;
+        struct numbers values = {NULL, 0};
+        struct flags flags = {0, 0};
+        if (!take(from, 0, PAG_LEVEL_MAX, &code)) return 0;
+        enum tag_class class = class_of(level, (uint32_t)code);
+        if (!take(from, class != OPAQUE, class != OPAQUE, &state) || !take_values(from, &values)) return 0;
+        if (class == CONTAINER && depth == TOP_DEPTH) return 0;
+        size_t place = o->len, contents = place + (class == BLOCK ? 3 : 2);
+        o->len = contents;
+        if (!write_own(&values, o, class, (uint32_t)code, &flags)) return 0;
+        if (class == CONTAINER && !write_list(from, o, level, depth + 1)) return 0;
+        close_tag(o, place, (uint32_t)code, contents, flags);
+        if (o->len > PAG_FILE_MAX) return 0;
+        if (class == END) return 1;
+    }
+}
+
+static int write_file(struct numbers from, struct output *o, uint32_t level)
+{
+    uint64_t compression = 0;
+    o->len = HEADER_BYTES;
+    if (!take(&from, 0, 255, &compression) || !write_list(&from, o, level, 0) || from.left > 0) return 0;
+    if (o->bytes) {
+        memcpy(o->bytes, "PAG\1", 4);
+        put_le(o->bytes + 4, (uint32_t)o->len, 4);
+        o->bytes[8] = (uint8_t)compression;
+    }
+    return 1;
+}
+
+pag_answer peer_write(uint32_t level, const uint64_t *table, size_t table_len, uint8_t *out, size_t out_len)
+{
+    struct numbers from = {table, table_len};
+    struct output counted = {NULL, 0, 0, 0}, written = {out, 0, 0, 0};
+    if (level > PAG_LEVEL_MAX) return refused(PAG_LEVEL_ABOVE_1023, 0);
+    if (!write_file(from, &counted, level)) return refused(PAG_NO_FILE_HAS_THIS_TABLE, 0);
+    if (out_len < counted.len) return refused(PAG_OUTPUT_TOO_SHORT, counted.len);
+    write_file(from, &written, level);
+    return accepted(counted.len);
+}

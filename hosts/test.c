@@ -1,0 +1,379 @@
+/*
+ * test [--checked]: calls every export of the library with good, damaged, empty and random input, the same on every run.
+ *
+ * Each call is made with the input right before a page that cannot be read, and with lent memory between two guards. Checked of each: the answer and the
+ * lent memory are the peer's (bench/peer.c), a refusal has changed nothing, an acceptance nothing behind its count, and no call the guards or its
+ * input. --checked is for a run under a memory checker, which is slow: fewer files, and the stack is not measured.
+ */
+#define _GNU_SOURCE
+#include "files.h"
+#include "peer.h"
+
+#include <stdio.h>
+#include <stdlib.h>
+#include <string.h>
+#include <sys/mman.h>
+#include <ucontext.h>
+
+enum { GUARD = 64, PAGE = 4096, SMALL_ROOM = 80, RANDOM_FILES = 1500, CHECKED_FILES = 100 };
+
+static const uint32_t LEVELS[] = {0, 1, 2, 4, 5, 6, 8, 9, 13, 14, 1023, 1024, UINT32_MAX};
+enum { LEVEL_COUNT = sizeof LEVELS / sizeof *LEVELS };
+
+static size_t calls;
+static size_t answers[PAG_OUTPUT_TOO_SHORT + 1];
+
+static void fail(const char *why, const char *call, uint32_t level, size_t input_len, size_t room_len)
+{
+    printf("%s: %s at level %u, input of %zu, room of %zu\n", why, call, (unsigned)level, input_len, room_len);
+    exit(1);
+}
+
+/* ------------------------------------------------------------ lent memory */
+
+static uint8_t *pages(size_t bytes)
+{
+    void *memory = mmap(NULL, bytes, PROT_READ | PROT_WRITE, MAP_PRIVATE | MAP_ANONYMOUS, -1, 0);
+    if (memory == MAP_FAILED) {
+        puts("no memory");
+        exit(2);
+    }
+    return memory;
+}
+
+/* Memory whose end is the start of a page that cannot be touched. */
+static uint8_t *fenced_end(size_t bytes)
+{
+    size_t whole = (bytes + PAGE - 1) / PAGE * PAGE;
+    uint8_t *memory = pages(whole + PAGE);
+    if (mprotect(memory + whole, PAGE, PROT_NONE)) exit(2);
+    return memory + whole;
+}
+
+/* What lent memory holds before a call: every byte tells its place. */
+static uint8_t paint(size_t i)
+{
+    return (uint8_t)(i * 167 + (i >> 8) + 13);
+}
+
+static void paint_all(uint8_t *memory, size_t bytes)
+{
+    for (size_t i = 0; i < bytes; i++) memory[i] = paint(i);
+}
+
+static int is_painted(const uint8_t *memory, size_t from, size_t to)
+{
+    for (size_t i = from; i < to; i++)
+        if (memory[i] != paint(i)) return 0;
+    return 1;
+}
+
+/* ------------------------------------------------------------ one call */
+
+/* A call of the library and the same of the peer; sizes are those of an element of input and of room. */
+struct call {
+    const char *name;
+    size_t input_size;
+    size_t room_size;
+    pag_answer (*ours)(uint32_t level, const void *input, size_t input_len, void *room, size_t room_len);
+    pag_answer (*peer)(uint32_t level, const void *input, size_t input_len, void *room, size_t room_len);
+};
+
+#define AS_CALL(name, input_type, room_type)                                                                        \
+    static pag_answer as_##name(uint32_t level, const void *input, size_t input_len, void *room, size_t room_len)   \
+    {                                                                                                               \
+        return name(level, (const input_type *)input, input_len, (room_type *)room, room_len);                      \
+    }
+AS_CALL(pag_read, uint8_t, uint64_t)
+AS_CALL(peer_read, uint8_t, uint64_t)
+AS_CALL(pag_tags, uint8_t, uint32_t)
+AS_CALL(peer_tags, uint8_t, uint32_t)
+AS_CALL(peer_write, uint64_t, uint8_t)
+#if PAG_HAS_WRITE
+AS_CALL(pag_write, uint64_t, uint8_t)
+#endif
+
+static const struct call READ = {"pag_read", 1, 8, as_pag_read, as_peer_read};
+static const struct call TAGS = {"pag_tags", 1, 4, as_pag_tags, as_peer_tags};
+#if PAG_HAS_WRITE
+static const struct call WRITE = {"pag_write", 8, 1, as_pag_write, as_peer_write};
+#else /* the peer against itself */
+static const struct call WRITE = {"peer_write", 8, 1, as_peer_write, as_peer_write};
+#endif
+
+/* Room for the largest call, made once: the fence behind the input, and the two lent memories. */
+enum { LARGEST_INPUT = PAG_FILE_MAX + 8, LARGEST_ROOM = 1 << 23 };
+static uint8_t *input_end, *our_room, *peer_room;
+
+static void check_memory(const struct call *c, uint32_t level, size_t input_len, size_t room_len, size_t start, pag_answer answer)
+{
+    size_t bytes = room_len * c->room_size;
+    size_t used = answer.reason ? 0 : (size_t)answer.number * c->room_size;
+    if (used > bytes) fail("count above the room", c->name, level, input_len, room_len);
+    if (!is_painted(our_room, 0, start)) fail("memory before the room changed", c->name, level, input_len, room_len);
+    if (!is_painted(our_room, start + bytes, start + bytes + GUARD)) fail("memory behind the room changed", c->name, level, input_len, room_len);
+    if (!is_painted(our_room, start + used, start + bytes))
+        fail(answer.reason ? "a refusal changed lent memory" : "memory past the count changed", c->name, level, input_len, room_len);
+    if (memcmp(our_room + start, peer_room + start, bytes) != 0) fail("other numbers than the peer's", c->name, level, input_len, room_len);
+}
+
+/* Where lent memory starts: it is aligned as its type asks, and not always better. */
+static size_t room_start(void)
+{
+    return GUARD + calls % 4 * 8;
+}
+
+/* One call with all checks. */
+static pag_answer call(const struct call *c, uint32_t level, const void *input, size_t input_len, size_t room_len)
+{
+    size_t start = room_start(), input_bytes = input_len * c->input_size, room_bytes = start + room_len * c->room_size + GUARD;
+    void *given = input_end - input_bytes;
+    if (input_bytes) memcpy(given, input, input_bytes);
+    paint_all(our_room, room_bytes);
+    paint_all(peer_room, room_bytes);
+    pag_answer ours = c->ours(level, given, input_len, our_room + start, room_len);
+    if (input_bytes && memcmp(given, input, input_bytes) != 0) fail("input changed", c->name, level, input_len, room_len);
+    pag_answer peer = c->peer(level, given, input_len, peer_room + start, room_len);
+    if (ours.reason != peer.reason || ours.number != peer.number) fail("another answer than the peer's", c->name, level, input_len, room_len);
+    check_memory(c, level, input_len, room_len, start, ours);
+    answers[ours.reason]++;
+    calls++;
+    return ours;
+}
+
+/* A call with no room, for what it needs; then with every room up to a little more, if that is small, else with some. */
+static pag_answer call_rooms(const struct call *c, uint32_t level, const void *input, size_t input_len)
+{
+    pag_answer first = call(c, level, input, input_len, 0);
+    int short_room = first.reason == PAG_TABLE_TOO_SHORT || first.reason == PAG_OUTPUT_TOO_SHORT;
+    size_t needed = short_room ? (size_t)first.number : 5;
+    if (needed * c->room_size + 4 * GUARD > LARGEST_ROOM) return first;
+    if (needed <= SMALL_ROOM)
+        for (size_t room = 1; room < needed; room++) call(c, level, input, input_len, room);
+    else call(c, level, input, input_len, needed - 1);
+    call(c, level, input, input_len, needed + 3);
+    return call(c, level, input, input_len, needed);
+}
+
+/* ------------------------------------------------------------ inputs */
+
+/* A file's table written back; and damaged tables. */
+static void write_table(struct maker *m, uint32_t level, const uint8_t *file, size_t len, size_t count)
+{
+    size_t bytes = count * 8;
+    uint64_t *table = malloc(bytes + 8);
+    if (!table) exit(2);
+    peer_read(level, file, len, table, count);
+    call_rooms(&WRITE, level, table, count);
+    for (int i = 0; i < 4; i++) {
+        size_t place = random_below(m, count);
+        uint64_t kept = table[place];
+        table[place] = random_below(m, 2) ? random_below(m, 300) : kept + 1 - 2 * random_below(m, 2);
+        call_rooms(&WRITE, level, table, count);
+        table[place] = kept;
+    }
+    call(&WRITE, level, table, count - 1, bytes);
+    table[count] = 0;
+    call(&WRITE, level, table, count + 1, bytes);
+    free(table);
+}
+
+static void read_file(struct maker *m, uint32_t level, const uint8_t *file, size_t len)
+{
+    call_rooms(&TAGS, level, file, len);
+    pag_answer answer = call_rooms(&READ, level, file, len);
+    if (answer.reason == PAG_ACCEPTED) write_table(m, level, file, len, (size_t)answer.number);
+}
+
+/* A changed copy: bits flipped, bytes cut off or bytes put in, with the length field made to fit in most. */
+static size_t damage(struct maker *m, const uint8_t *file, size_t len, uint8_t *to)
+{
+    size_t place = 9 + random_below(m, len - 9);
+    memcpy(to, file, len);
+    switch (random_below(m, 3)) {
+    case 0:
+        if (random_below(m, 8) == 0) place = random_below(m, 9);
+        to[place] ^= (uint8_t)(1 << random_below(m, 8));
+        to[9 + random_below(m, len - 9)] ^= (uint8_t)(1 << random_below(m, 8));
+        break;
+    case 1: len = place; break;
+    default:
+        memmove(to + place + 1, to + place, len - place);
+        to[place] = (uint8_t)random_below(m, 256);
+        len++;
+    }
+    if (random_below(m, 16))
+        for (unsigned i = 0; i < 4; i++) to[4 + i] = (uint8_t)(len >> (8 * i));
+    return len;
+}
+
+/* Random files, each good, damaged, and cut raw at some length. */
+static void try_random_files(struct maker *m, int files)
+{
+    uint8_t *damaged = malloc(RANDOM_FILE_MAX + 1);
+    if (!damaged) exit(2);
+    for (int i = 0; i < files; i++) {
+        make_random_file(m);
+        size_t len = m->len;
+        read_file(m, LEVELS[i % LEVEL_COUNT], m->bytes, len);
+        read_file(m, PAG_LEVEL_MAX, m->bytes, len);
+        for (int j = 0; j < 4; j++) read_file(m, PAG_LEVEL_MAX, damaged, damage(m, m->bytes, len, damaged));
+        call(&READ, PAG_LEVEL_MAX, m->bytes, random_below(m, len), 3);
+    }
+    free(damaged);
+}
+
+/* Random bytes, alone and behind a good header; lengths of every remainder. */
+static void try_random_bytes(struct maker *m)
+{
+    uint8_t bytes[64];
+    for (int i = 0; i < 4000; i++) {
+        size_t len = random_below(m, sizeof bytes + 1);
+        for (size_t j = 0; j < len; j++) bytes[j] = (uint8_t)random_below(m, random_below(m, 2) ? 256 : 4);
+        if (i % 4 && len >= 9) {
+            memcpy(bytes, "PAG\1", 4);
+            memset(bytes + 4, 0, 4);
+            bytes[4] = (uint8_t)len;
+        }
+        call(&READ, LEVELS[i % LEVEL_COUNT], bytes, len, random_below(m, 100));
+        call(&TAGS, LEVELS[i % LEVEL_COUNT], bytes, len, random_below(m, 100));
+        call(&WRITE, LEVELS[i % LEVEL_COUNT], bytes, len / 8, random_below(m, 100));
+    }
+}
+
+/* P2 of document 01, cut at every length and read at every level that changes something. */
+static void try_small_file(struct maker *m)
+{
+    static const uint8_t P2[] = {0x50, 0x41, 0x47, 1, 0x13, 0, 0, 0, 0, 0xC6, 1, 0xFF, 0x80, 0, 0x80, 0x0A, 3, 0, 0};
+    for (size_t i = 0; i < LEVEL_COUNT; i++) read_file(m, LEVELS[i], P2, sizeof P2);
+    for (size_t len = 0; len < sizeof P2; len++) call_rooms(&READ, PAG_LEVEL_MAX, P2, len);
+}
+
+/* Two faults that damage seldom makes: a long header with length 62, and a container at depth 8. */
+static void try_rare_faults(struct maker *m)
+{
+    static const uint8_t LONG_62[] = {0x50, 0x41, 0x47, 1, 0x0F, 0, 0, 0, 0, 0x3F, 2, 0x3E, 0, 0, 0};
+    uint8_t deep[9 + 9 * 3 + 10 * 2] = {0x50, 0x41, 0x47, 1, sizeof deep};
+    for (size_t depth = 0; depth < 9; depth++) {
+        size_t place = 9 + 3 * depth, body = sizeof deep - place - 2 - 2 * (depth + 1);
+        deep[place] = (uint8_t)(2 * 64 + body);
+        deep[place + 1] = (2 * 64) >> 8;
+    }
+    read_file(m, PAG_LEVEL_MAX, LONG_62, sizeof LONG_62);
+    read_file(m, PAG_LEVEL_MAX, deep, sizeof deep);
+}
+
+/* NULL with length 0, for what is read and for what is lent. */
+static void try_null(void)
+{
+    static const uint8_t P1[] = {0x50, 0x41, 0x47, 1, 0x0B, 0, 0, 0, 0, 0, 0};
+    static const struct call *const CALLS[] = {&READ, &TAGS, &WRITE};
+    for (int i = 0; i < 3; i++) {
+        pag_answer empty = CALLS[i]->ours(PAG_LEVEL_MAX, NULL, 0, NULL, 0);
+        if (empty.reason != (CALLS[i] == &WRITE ? PAG_NO_FILE_HAS_THIS_TABLE : PAG_FEWER_THAN_9_BYTES) || empty.number != 0)
+            fail("wrong answer for NULL", CALLS[i]->name, PAG_LEVEL_MAX, 0, 0);
+        calls++;
+    }
+    pag_answer read = READ.ours(PAG_LEVEL_MAX, P1, sizeof P1, NULL, 0), tags = TAGS.ours(PAG_LEVEL_MAX, P1, sizeof P1, NULL, 0);
+    if (read.reason != PAG_TABLE_TOO_SHORT || read.number != 4) fail("wrong answer for no room", READ.name, PAG_LEVEL_MAX, sizeof P1, 0);
+    if (tags.reason != PAG_TABLE_TOO_SHORT || tags.number != 5) fail("wrong answer for no room", TAGS.name, PAG_LEVEL_MAX, sizeof P1, 0);
+    calls += 2;
+}
+
+/* Zeros behind a good header, at the limit and one byte above it. */
+static void try_limit(void)
+{
+    uint8_t *file = pages(PAG_FILE_MAX + 1);
+    for (size_t len = PAG_FILE_MAX; len <= PAG_FILE_MAX + 1; len++) {
+        memcpy(file, "PAG\1", 4);
+        for (unsigned i = 0; i < 4; i++) file[4 + i] = (uint8_t)(len >> (8 * i));
+        pag_answer answer = call(&READ, PAG_LEVEL_MAX, file, len, 4);
+        if (answer.reason != (len > PAG_FILE_MAX ? PAG_LENGTH_FIELD_WRONG : PAG_BYTES_AFTER_END)) fail("limit", READ.name, PAG_LEVEL_MAX, len, 4);
+    }
+    munmap(file, PAG_FILE_MAX + 1);
+}
+
+/* ------------------------------------------------------------ stack */
+
+enum { STACK = 1 << 18 };
+static ucontext_t here, there;
+static const struct call *measured;
+static const void *measured_input;
+static size_t measured_len;
+
+static void call_there(void)
+{
+    measured->ours(PAG_LEVEL_MAX, measured_input, measured_len, our_room, LARGEST_ROOM / measured->room_size);
+}
+
+static void nothing_there(void)
+{
+}
+
+/* How much of a painted stack is changed by what runs on it. */
+static size_t stack_of(void (*run)(void))
+{
+    static uint8_t stack[STACK];
+    size_t left = 0;
+    paint_all(stack, STACK);
+    getcontext(&there);
+    there.uc_stack.ss_sp = stack;
+    there.uc_stack.ss_size = STACK;
+    there.uc_link = &here;
+    makecontext(&there, run, 0);
+    swapcontext(&here, &there);
+    while (left < STACK && stack[left] == paint(left)) left++;
+    return STACK - left;
+}
+
+/* Files that go through all the code at every depth: containers nested to the deepest, with blocks and fonts, and long paths. */
+static void measure_stack(struct maker *m)
+{
+    static const enum kind INPUTS[] = {NESTED, LONG_PATHS};
+    size_t most = 0, own = stack_of(nothing_there);
+    for (size_t i = 0; i < 2; i++) {
+        make_long_file(m, INPUTS[i], 1 << 17);
+        static const struct call *const CALLS[] = {&READ, &TAGS};
+        for (int j = 0; j < 2; j++) {
+            measured = CALLS[j], measured_input = m->bytes, measured_len = m->len;
+            size_t used = stack_of(call_there) - own;
+            if (used > most) most = used;
+        }
+    }
+#if PAG_HAS_WRITE
+    make_long_file(m, NESTED, 1 << 17);
+    size_t bytes = 8 * (size_t)pag_read(PAG_LEVEL_MAX, m->bytes, m->len, (uint64_t *)our_room, LARGEST_ROOM / 8).number;
+    memcpy(peer_room, our_room, bytes);
+    measured = &WRITE, measured_input = peer_room, measured_len = bytes / 8;
+    size_t used = stack_of(call_there) - own;
+    if (used > most) most = used;
+#endif
+    printf("stack: %zu bytes at most, above the %zu of an empty function\n", most, own);
+    if (most > PAG_STACK_BYTES) {
+        printf("the stack is above PAG_STACK_BYTES\n");
+        exit(1);
+    }
+}
+
+int main(int argc, char **argv)
+{
+    int checked = argc > 1 && strcmp(argv[1], "--checked") == 0;
+    struct maker m = {pages(RANDOM_FILE_MAX), 0, 0, 20260101};
+    input_end = fenced_end(LARGEST_INPUT);
+    our_room = pages(LARGEST_ROOM);
+    peer_room = pages(LARGEST_ROOM);
+    try_null();
+    try_small_file(&m);
+    try_rare_faults(&m);
+    try_random_bytes(&m);
+    try_random_files(&m, checked ? CHECKED_FILES : RANDOM_FILES);
+    try_limit();
+    if (!checked) measure_stack(&m);
+    for (size_t reason = 0; reason <= PAG_OUTPUT_TOO_SHORT; reason++) {
+        if (answers[reason]) continue;
+        printf("no input was answered by %zu\n", reason);
+        return 1;
+    }
+    printf("%zu calls, each as the peer's\n", calls);
+    return 0;
+}

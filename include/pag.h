@@ -1,0 +1,84 @@
+/*
+ * pag.h: PAG files for C and C++ programs on x86-64 Linux. Link with libpag.a (docs/HOSTS.md).
+ *
+ * A file is a row of bytes, its table a row of 64-bit numbers, and its tag table a row of 32-bit numbers, five for each tag: depth, code, place,
+ * header size, body length. Each call takes what it reads and lent memory to fill, and gives one answer.
+ *
+ * The rules, the same for every call:
+ *
+ * - Lent memory. Nothing is allocated, nothing is kept after the call, and there is no state between calls.
+ * - An acceptance fills the first `number` elements of the lent memory; what lies behind them stays as it was.
+ * - A refusal changes nothing. Every input gets an answer: there is no other way to fail.
+ * - Lengths count elements, not bytes. A pointer may be NULL where its length is 0.
+ * - A pointer with a length above 0 points to that many elements, aligned as C asks of its type. What is read and what is filled do not overlap.
+ * - Threads. Calls may run at the same time if no lent memory is shared; input that nobody changes may be shared.
+ * - Level: 0 to 1023. Listed tags with a code above the level are carried as plain bytes. 1023 hides none.
+ * - Room. A file of n bytes needs at most 8 * n numbers and 5 * n tag numbers, and n is at most 16,777,216. To know the room, call
+ *   with length 0: the answer is PAG_TABLE_TOO_SHORT with the numbers needed, if nothing else is wrong.
+ * - Stack: at most PAG_STACK_BYTES. hosts/test.c measures it: it runs the calls on a stack that it has painted and looks how far the paint is gone.
+ */
+#ifndef PAG_H
+#define PAG_H
+
+#include <stddef.h>
+#include <stdint.h>
+
+/* 1 where the archive has pag_write. */
+#define PAG_HAS_WRITE 0
+
+#define PAG_LEVEL_MAX 1023u
+#define PAG_FILE_MAX 16777216u
+#define PAG_STACK_BYTES 16384u
+
+#ifdef __cplusplus
+extern "C" {
+#endif
+
+/* Why a call was refused, and what the answer's number then is. "Place" is a count of bytes from the file's start. */
+enum pag_reason {
+    PAG_ACCEPTED = 0,                  /* no refusal: the count of numbers or bytes used */
+    PAG_LEVEL_ABOVE_1023 = 1,          /* 0 */
+    PAG_FEWER_THAN_9_BYTES = 2,        /* 0 */
+    PAG_SIGNATURE_WRONG = 3,           /* 0 */
+    PAG_VERSION_NOT_1 = 4,             /* 0 */
+    PAG_LENGTH_FIELD_WRONG = 5,        /* or over the limit: 0 */
+    PAG_HEADER_CUT = 6,                /* a header has begun and the end of its list's room cuts it: its place */
+    PAG_LIST_WITHOUT_END = 7,          /* list room is used up without End: container's place; file length at depth 0 */
+    PAG_LONG_HEADER_BELOW_63 = 8,      /* long header, length below 63: tag's place */
+    PAG_BODY_LONGER_THAN_LIST = 9,     /* body longer than the list's rest: tag's place */
+    PAG_END_WITH_A_BODY = 10,          /* tag's place */
+    PAG_BYTES_AFTER_END = 11,          /* container's place; first such byte at depth 0 */
+    PAG_CONTAINER_AT_DEPTH_8 = 12,     /* tag's place */
+    PAG_ITEM_PAST_THE_BODY = 13,       /* an item runs past the body: tag's place */
+    PAG_SPELLING = 14,                 /* spelling of U32, U64, I32: tag's place */
+    PAG_SKIPPED_BIT_NOT_ZERO = 15,     /* tag's place */
+    PAG_UNLISTED_VALUE = 16,           /* unlisted enum, Bool, interpolation 0, byte value over 255: tag's place */
+    PAG_COUNT_OUTSIDE_ITS_RANGE = 17,  /* tag's place */
+    PAG_BODY_NOT_USED_UP = 18,         /* body of a read tag not used up: tag's place */
+    PAG_TABLE_TOO_SHORT = 19,          /* numbers needed */
+    PAG_NO_FILE_HAS_THIS_TABLE = 20,   /* writer: no file at this level has this table: 0 */
+    PAG_OUTPUT_TOO_SHORT = 21          /* writer: bytes needed */
+};
+
+/* Accepted with its count (reason 0), or refused with reason and number. */
+typedef struct pag_answer {
+    uint32_t reason;
+    uint64_t number;
+} pag_answer;
+
+/* Reads a file into its table of numbers. Refusals: 1 to 19. */
+pag_answer pag_read(uint32_t level, const uint8_t *file, size_t file_len, uint64_t *table, size_t table_len);
+
+/* Reads a file's tags into the tag table. Refusals: those of pag_read, with 19 for this room. */
+pag_answer pag_tags(uint32_t level, const uint8_t *file, size_t file_len, uint32_t *tags, size_t tags_len);
+
+#if PAG_HAS_WRITE
+/* Writes the one file that this level reads as this table: all table_len numbers of it. Refusals: 1, 20, 21. */
+pag_answer pag_write(uint32_t level, const uint64_t *table, size_t table_len, uint8_t *out, size_t out_len);
+#endif
+
+#ifdef __cplusplus
+}
+#endif
+
+#endif
