@@ -38,11 +38,7 @@ static pag_answer ask_ours(const struct request *r, const void *input, void *roo
 {
     if (r->operation == READ) return pag_read(r->level, input, r->input_len, room, r->room_len);
     if (r->operation == TAGS) return pag_tags(r->level, input, r->input_len, room, r->room_len);
-#if PAG_HAS_WRITE
     return pag_write(r->level, input, r->input_len, room, r->room_len);
-#else
-    exit(3);
-#endif
 }
 
 static void answer(const struct request *r, int ours)

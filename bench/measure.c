@@ -46,14 +46,10 @@ static pag_answer peers_tags(const struct bench *b)
     return peer_tags(PAG_LEVEL_MAX, b->file, b->len, b->tags, b->tags_len);
 }
 
-#if PAG_HAS_WRITE
 static pag_answer our_write(const struct bench *b)
 {
     return pag_write(PAG_LEVEL_MAX, b->table, b->table_len, b->out, b->len);
 }
-#else
-#define our_write NULL
-#endif
 
 static pag_answer peers_write(const struct bench *b)
 {

@@ -2,7 +2,6 @@
 
 import os
 import platform
-import re
 import subprocess
 
 ROOT = os.path.dirname(os.path.dirname(os.path.abspath(__file__)))
@@ -12,12 +11,6 @@ ARCHIVE = os.path.join(ROOT, 'target', 'staticlib', 'libpag.a')
 
 def source(name):
     return os.path.join(ROOT, 'bench', name)
-
-
-def archive_has_write():
-    """The one line of the header that says so."""
-    with open(os.path.join(INCLUDE, 'pag.h'), encoding='utf-8') as header:
-        return re.search(r'^#define PAG_HAS_WRITE 1$', header.read(), re.M) is not None
 
 
 def need_archive():

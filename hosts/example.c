@@ -61,7 +61,6 @@ static void list(const struct file *file, const uint64_t *table, const uint32_t 
     }
 }
 
-#if PAG_HAS_WRITE
 /* The table gives the file back, byte by byte. */
 static int writes_back(const struct file *file, const uint64_t *table, size_t table_len)
 {
@@ -71,7 +70,6 @@ static int writes_back(const struct file *file, const uint64_t *table, size_t ta
     free(out);
     return same;
 }
-#endif
 
 int main(int argc, char **argv)
 {
@@ -88,12 +86,10 @@ int main(int argc, char **argv)
     pag_tags(PAG_LEVEL_MAX, file.bytes, file.len, tags, tags_len);
     list(&file, table, tags, tags_len);
     int status = 0;
-#if PAG_HAS_WRITE
     if (!writes_back(&file, table, table_len)) {
         fputs("what was written back differs\n", stderr);
         status = 3;
     }
-#endif
     free(table);
     free(tags);
     free(file.bytes);

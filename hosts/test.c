@@ -89,17 +89,11 @@ AS_CALL(peer_read, uint8_t, uint64_t)
 AS_CALL(pag_tags, uint8_t, uint32_t)
 AS_CALL(peer_tags, uint8_t, uint32_t)
 AS_CALL(peer_write, uint64_t, uint8_t)
-#if PAG_HAS_WRITE
 AS_CALL(pag_write, uint64_t, uint8_t)
-#endif
 
 static const struct call READ = {"pag_read", 1, 8, as_pag_read, as_peer_read};
 static const struct call TAGS = {"pag_tags", 1, 4, as_pag_tags, as_peer_tags};
-#if PAG_HAS_WRITE
 static const struct call WRITE = {"pag_write", 8, 1, as_pag_write, as_peer_write};
-#else /* the peer against itself */
-static const struct call WRITE = {"peer_write", 8, 1, as_peer_write, as_peer_write};
-#endif
 
 /* Room for the largest call, made once: the fence behind the input, and the two lent memories. */
 enum { LARGEST_INPUT = PAG_FILE_MAX + 8, LARGEST_ROOM = 1 << 23 };
@@ -340,17 +334,47 @@ static void measure_stack(struct maker *m)
             if (used > most) most = used;
         }
     }
-#if PAG_HAS_WRITE
     make_long_file(m, NESTED, 1 << 17);
     size_t bytes = 8 * (size_t)pag_read(PAG_LEVEL_MAX, m->bytes, m->len, (uint64_t *)our_room, LARGEST_ROOM / 8).number;
     memcpy(peer_room, our_room, bytes);
     measured = &WRITE, measured_input = peer_room, measured_len = bytes / 8;
     size_t used = stack_of(call_there) - own;
     if (used > most) most = used;
-#endif
     printf("stack: %zu bytes at most, above the %zu of an empty function\n", most, own);
     if (most > PAG_STACK_BYTES) {
         printf("the stack is above PAG_STACK_BYTES\n");
+        exit(1);
+    }
+}
+
+/* A field read one bit at a time, to compare with. */
+static pag_field plain_field(const uint8_t *file, size_t len, uint64_t place, uint32_t width, uint32_t is_signed)
+{
+    pag_field f = {0, 0, place};
+    if (width < 1 || width > 32) f.reason = PAG_COUNT_OUTSIDE_ITS_RANGE;
+    else if (place > 8 * (uint64_t)len || 8 * (uint64_t)len - place < width) f.reason = PAG_ITEM_PAST_THE_BODY;
+    if (f.reason) return f;
+    for (uint32_t k = 0; k < width; k++) f.value = f.value * 2 + (file[(place + k) / 8] >> (7 - (place + k) % 8) & 1);
+    if (is_signed && f.value >> (width - 1)) f.value -= (uint64_t)1 << width;
+    f.place = place + width;
+    return f;
+}
+
+/* Bytes of every length up to 11, NULL for none; places in them, past them and near 2^64; widths 0 to 39; flags 0 to 2. */
+static void try_bits(size_t tries)
+{
+    uint64_t state = 20260102;
+    uint8_t bytes[11];
+    for (size_t i = 0; i < tries; i++) {
+        for (size_t j = 0; j < sizeof bytes; j++) bytes[j] = (uint8_t)((state = state * 6364136223846793005u + 1442695040888963407u) >> 56);
+        size_t len = state >> 33 & 15;
+        if (len > sizeof bytes) len = 0;
+        uint64_t place = i % 16 == 0 ? UINT64_MAX - (state >> 40 & 63) : state >> 40 & 127;
+        uint32_t width = state >> 20 & 63, is_signed = (uint32_t)(i % 3);
+        if (width > 39) width -= 32;
+        pag_field ours = pag_bits(len ? bytes : NULL, len, place, width, is_signed), plain = plain_field(bytes, len, place, width, is_signed);
+        if (ours.reason == plain.reason && ours.value == plain.value && ours.place == plain.place) continue;
+        printf("pag_bits: %zu bytes, place %llu, width %u, flag %u\n", len, (unsigned long long)place, width, is_signed);
         exit(1);
     }
 }
@@ -368,6 +392,7 @@ int main(int argc, char **argv)
     try_random_bytes(&m);
     try_random_files(&m, checked ? CHECKED_FILES : RANDOM_FILES);
     try_limit();
+    try_bits(checked ? 20000 : 200000);
     if (!checked) measure_stack(&m);
     for (size_t reason = 0; reason <= PAG_OUTPUT_TOO_SHORT; reason++) {
         if (answers[reason]) continue;

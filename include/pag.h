@@ -23,9 +23,6 @@
 #include <stddef.h>
 #include <stdint.h>
 
-/* 1 where the archive has pag_write. */
-#define PAG_HAS_WRITE 0
-
 #define PAG_LEVEL_MAX 1023u
 #define PAG_FILE_MAX 16777216u
 #define PAG_STACK_BYTES 16384u
@@ -72,10 +69,19 @@ pag_answer pag_read(uint32_t level, const uint8_t *file, size_t file_len, uint64
 /* Reads a file's tags into the tag table. Refusals: those of pag_read, with 19 for this room. */
 pag_answer pag_tags(uint32_t level, const uint8_t *file, size_t file_len, uint32_t *tags, size_t tags_len);
 
-#if PAG_HAS_WRITE
 /* Writes the one file that this level reads as this table: all table_len numbers of it. Refusals: 1, 20, 21. */
 pag_answer pag_write(uint32_t level, const uint64_t *table, size_t table_len, uint8_t *out, size_t out_len);
-#endif
+
+/* A bit field: UB[width], or SB[width] where is_signed is not 0 (a negative number is kept modulo 2^64: read value as int64_t). The first bit is the
+ * top bit of the first byte; place counts bits from the start. reason 0: value is the field, place the next place. Else value is 0 and place is the
+ * one that was passed: 17: width is not 1 to 32; then 13: the field runs past the end of the bytes. Bytes of any length are taken; nothing is written. */
+typedef struct pag_field {
+    uint32_t reason;
+    uint64_t value;
+    uint64_t place;
+} pag_field;
+
+pag_field pag_bits(const uint8_t *file, size_t file_len, uint64_t place, uint32_t width, uint32_t is_signed);
 
 #ifdef __cplusplus
 }
