@@ -41,15 +41,15 @@ pub extern "C" fn pag_read(level: u32, file: &[u8], table: &mut [u64]) -> PagAns
 #[no_mangle]
 pub extern "C" fn pag_tags(level: u32, file: &[u8], tags: &mut [u32]) -> PagAnswer
     ensures { λ r. ⌜ leavesPlain (now (tags .exit)) r (into (now (tags .entry)) (readTags high level (now (file .entry)))) ⌝ }
+{
+    plain(reader::tags(level, file, tags))
+}
 
 #[no_mangle]
 pub extern "C" fn pag_write(level: u32, table: &[u64], out: &mut [u8]) -> PagAnswer
     ensures { λ r. ⌜ WritesPlain level (now (table .entry)) (now (out .entry)) (now (out .exit)) r ⌝ }
 {
     plain(writer::write(level, table, out))
-}
-{
-    plain(reader::tags(level, file, tags))
 }
 
 // A field's answer: reason 0 means accepted, and the place is the next one; after a refusal the value is 0 and the place the same.
