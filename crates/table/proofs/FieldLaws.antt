@@ -5,7 +5,7 @@ use mathlib.Core.Path.{_≡_, refl, ap, sym, subst, _∙_}
 use mathlib.Core.Bool.{Bool, true, false}
 use lib.ListN.{length, length-set, set, List·getD-eq-default}
 use native.Mathlib.Nat.{add-zero}
-use lib.Dec.{eqb, lit≤}
+use lib.Dec.{eqb}
 use native.Mathlib.Omega.{arith}
 use Rattle.format.specs.Tests.{pick}
 use Rattle.format.specs.Bits.{high}
@@ -75,16 +75,16 @@ module _ (kind : Field) {r : Got} {v : ℕ} {q : BitPlace} {ok : Bool} (told : r
 
 -- ---- what a field announces
 
-pub coordinates-few : (v : ℕ) → coordinatesOf v ≤ 6
-coordinates-few zero = lit≤ tt
-coordinates-few (suc zero) = lit≤ tt
-coordinates-few (suc (suc zero)) = lit≤ tt
-coordinates-few (suc (suc (suc zero))) = lit≤ tt
-coordinates-few (suc (suc (suc (suc zero)))) = lit≤ tt
-coordinates-few (suc (suc (suc (suc (suc zero))))) = lit≤ tt
-coordinates-few (suc (suc (suc (suc (suc (suc zero)))))) = lit≤ tt
-coordinates-few (suc (suc (suc (suc (suc (suc (suc zero))))))) = lit≤ tt
-coordinates-few (suc (suc (suc (suc (suc (suc (suc (suc v)))))))) = lit≤ tt
+pub eight : (v : ℕ) → (v ≡ 0 → ⊥) → (v ≡ 1 → ⊥) → (v ≡ 2 → ⊥) → (v ≡ 3 → ⊥) → (v ≡ 4 → ⊥) → (v ≡ 5 → ⊥) → (v ≡ 6 → ⊥) → (v ≡ 7 → ⊥) → 8 ≤ v
+eight zero a b c d e f g h = absurd (a refl)
+eight (suc zero) a b c d e f g h = absurd (b refl)
+eight (suc (suc zero)) a b c d e f g h = absurd (c refl)
+eight (suc (suc (suc zero))) a b c d e f g h = absurd (d refl)
+eight (suc (suc (suc (suc zero)))) a b c d e f g h = absurd (e refl)
+eight (suc (suc (suc (suc (suc zero))))) a b c d e f g h = absurd (f refl)
+eight (suc (suc (suc (suc (suc (suc zero)))))) a b c d e f g h = absurd (g refl)
+eight (suc (suc (suc (suc (suc (suc (suc zero))))))) a b c d e f g h = absurd (h refl)
+eight (suc (suc (suc (suc (suc (suc (suc (suc v)))))))) a b c d e f g h = omega arith
 
 pub coordinates-none : (v : ℕ) → 8 ≤ v → 0 ≡ coordinatesOf v
 coordinates-none v h = sym (List·getD-eq-default (0 ∷ 2 ∷ 2 ∷ 1 ∷ 1 ∷ 4 ∷ 4 ∷ 6 ∷ []) 0 h)

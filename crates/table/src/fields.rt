@@ -3,7 +3,7 @@ ghost use mathlib.Core.Path.{_≡_};
 ghost use Prim.Native.Nat.{_*_, _≤_, _<_, _^_};
 ghost use Rattle.format.specs.Bits.{high};
 ghost use Rattle.format.specs.Formats.{item, Item as «ItemOf», times, the, _▹_};
-ghost use Rattle.format.specs.Items.{run, showNum};
+ghost use Rattle.format.specs.Items.{coordinatesOf, run, showNum};
 ghost use Rattle.bits.specs.Places.{Inside, seen};
 ghost use Rattle.table.specs.State.{after};
 ghost use Rattle.table.specs.Run.{left};
@@ -27,17 +27,29 @@ pub struct Announced {
     pub count: usize,
 }
 
-// Coordinates by verb 0 to 7; four easing numbers for a Bezier frame.
-const COORDINATES: [usize; 8] = [0, 2, 2, 1, 1, 4, 4, 6];
+// Coordinates by verb 0 to 7; there is no other verb.
+fn coordinates_of(verb: u64) -> usize
+    ensures { λ r. ⌜ (r ≡ coordinatesOf verb) × (r ≤ 6) ⌝ }
+{
+    match verb {
+        0 => 0,
+        1 => 2,
+        2 => 2,
+        3 => 1,
+        4 => 1,
+        5 => 4,
+        6 => 4,
+        7 => 6,
+        _ => 0,
+    }
+}
 
+// A verb announces its coordinates, a Bezier frame four easing numbers.
 pub fn announced_by(kind: Field, v: u64) -> usize
     ensures { λ r. ⌜ (r ≡ announces kind v) × (r ≤ 6) ⌝ }
 {
     match kind {
-        Field::Verb => {
-            let verb = v as usize;
-            if verb < 8 { COORDINATES[verb] } else { 0 }
-        }
+        Field::Verb => coordinates_of(v),
         Field::Interpolation => if v == 2 { 4 } else { 0 },
         Field::Bit => 0,
         Field::ByteValue => 0,
