@@ -40,7 +40,7 @@ div-put-byte : tie.Need-div-put-byte Inv-loop μ-loop
 div-put-byte c = omega arith
 
 put-byte-requires : tie.Need-put-byte-requires Inv-loop μ-loop
-put-byte-requires c κs = byte-lt (c .before .before .before .loop .n) (c .before .before .before .loop .x) (c .before .power2 .result) (c .before .before .loop-test .taken) (c .before .before .before .loop .inv .2) (c .before .power2 .ensures .0)
+put-byte-requires c κs = byte-lt (c .before .before .before .loop .n) (c .before .before .before .loop .x) (c .before .power2 .result) (omega (arith, c .before .before .loop-test .taken)) (c .before .before .before .loop .inv .2) (c .before .power2 .ensures .0)
 
 rem-x : tie.Need-rem-x Inv-loop μ-loop
 rem-x c = omega arith
@@ -57,7 +57,7 @@ loop-again c = (
   omega (arith, c .before .before .before .before .before .before .loop .inv .1),
   rest-small (c .before .before .before .before .before .before .loop .n - 8) (c .before .before .before .before .before .before .loop .x) (c .before .before .before .before .power2 .result) (c .before .before .before .before .power2 .ensures .0),
   omega (arith, c .before .before .before .before .before .before .loop .inv .3, c .before .before .before .before .before .loop-test .taken),
-  c .before .before .before .before .before .before .loop .inv .4 ∙ flow-next (c .before .before .before .before .before .before .loop .out) (c .before .before .before .before .before .before .loop .i) (c .before .before .before .before .before .before .loop .n) (c .before .before .before .before .before .before .loop .x) (c .before .before .before .before .power2 .result) (c .before .before .before .before .before .loop-test .taken) (c .before .before .before .before .before .before .loop .inv .2) (c .before .before .before .before .power2 .ensures .0) (c .before .before .put-byte .ensures),
+  c .before .before .before .before .before .before .loop .inv .4 ∙ flow-next (c .before .before .before .before .before .before .loop .out) (c .before .before .before .before .before .before .loop .i) (c .before .before .before .before .before .before .loop .n) (c .before .before .before .before .before .before .loop .x) (c .before .before .before .before .power2 .result) (omega (arith, c .before .before .before .before .before .loop-test .taken)) (c .before .before .before .before .before .before .loop .inv .2) (c .before .before .before .before .power2 .ensures .0) (c .before .before .put-byte .ensures),
 )
 
 add-t11 : tie.Need-add-t11 Inv-loop μ-loop
@@ -68,7 +68,7 @@ same-length c = c .before .loop .inv .0
 
 returns : tie.Need-returns Inv-loop μ-loop
 returns c = flow-done (now (c .before .before .before .before .args .out)) (c .before .before .before .before .args .s .place .0) (c .before .before .before .before .args .s .part) (c .before .before .before .before .args .w) (c .before .before .before .before .args .v) (c .before .before .power .result) (c .before .before .before .before .pre .0) (c .before .before .before .before .pre .3) (c .before .before .power .ensures .0)
-    (c .before .loop .inv .4 ∙ flow-few (c .before .loop .out) (c .before .loop .i) (c .before .loop .n) (c .before .loop .x) (c .loop-test .left) (c .before .loop .inv .2) (c .before .loop .inv .3))
+    (c .before .loop .inv .4 ∙ flow-few (c .before .loop .out) (c .before .loop .i) (c .before .loop .n) (c .before .loop .x) (omega (arith, c .loop-test .left)) (c .before .loop .inv .2) (c .before .loop .inv .3))
 
 pub put-bits-spec : {M : Type 1} → statement M
 put-bits-spec =

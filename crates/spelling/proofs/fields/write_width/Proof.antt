@@ -1,6 +1,7 @@
 -- `spelling::fields::write_width` meets its contract.
 use Prim.Native.Nat.{_+_}
 use mathlib.Core.Path.{refl, sym, ap, _∙_}
+use native.Mathlib.Omega.{arith}
 use denote.Ref.{now}
 use lib.ListN.{getD}
 use Rattle.format.specs.Formats.{Item, item}
@@ -26,7 +27,7 @@ returns-2 : tie.Need-returns-2
 returns-2 c = let a = c .before .before .before .before .before .args in sym (one-bad (item Item.width) widthBits width-is (now (a .t)) (at (now (a .out)) (a .s)) (a .k) (c .before .before .if1 .left) (width-zero (a .s .place .0) (getD (now (a .t)) (a .k) 0) (c .if2 .taken)))
 
 returns-3 : tie.Need-returns-3
-returns-3 c = let a = c .before .before .before .before .before .before .args in sym (one-bad (item Item.width) widthBits width-is (now (a .t)) (at (now (a .out)) (a .s)) (a .k) (c .before .before .before .if1 .left) (width-large (a .s .place .0) (getD (now (a .t)) (a .k) 0) (c .if3 .taken)))
+returns-3 c = let a = c .before .before .before .before .before .before .args in sym (one-bad (item Item.width) widthBits width-is (now (a .t)) (at (now (a .out)) (a .s)) (a .k) (c .before .before .before .if1 .left) (width-large (a .s .place .0) (getD (now (a .t)) (a .k) 0) (omega (arith, c .if3 .taken))))
 
 sub-put-bits : tie.Need-sub-put-bits
 sub-put-bits c = search needs
@@ -47,7 +48,7 @@ returns-4 : tie.Need-returns-4
 returns-4 c = let a = c .before .before .before .before .before .before .before .before .before .before .before .args in
     ap (seen (c .before .before .before .put-bits .last .0)) (c .ended .ensures) ∙ finish-ends (c .before .before .before .put-bits .last .0) (c .before .before .before .put-bits .result) (a .k + 1)
     ∙ sym (one-in (item Item.width) widthBits width-is (now (a .t)) (at (now (a .out)) (a .s)) (a .k) (c .before .before .before .put-bits .last .0) (In (c .before .before .before .put-bits .result)) (c .before .before .before .before .before .before .before .before .if1 .left)
-    (laid-in (at (now (a .out)) (a .s)) (widthBits (a .s .place .0) (getD (now (a .t)) (a .k) 0)) (width-in (a .s .place .0) (getD (now (a .t)) (a .k) 0) (c .before .before .before .before .before .before .if2 .left) (c .before .before .before .before .before .if3 .left)) (c .before .before .before .put-bits .ensures)) (c .before .before .before .put-bits .result) refl)
+    (laid-in (at (now (a .out)) (a .s)) (widthBits (a .s .place .0) (getD (now (a .t)) (a .k) 0)) (width-in (a .s .place .0) (getD (now (a .t)) (a .k) 0) (c .before .before .before .before .before .before .if2 .left) (omega (arith, c .before .before .before .before .before .if3 .left))) (c .before .before .before .put-bits .ensures)) (c .before .before .before .put-bits .result) refl)
 
 pub write-width-spec : {M : Type 1} → statement M
 write-width-spec =

@@ -25,7 +25,7 @@ same-length : tie.Need-same-length Inv-loop μ-loop
 same-length c = c .before .before .loop .inv .0
 
 returns : tie.Need-returns Inv-loop μ-loop
-returns c = let l = c .before .before .loop in var-long (l .out) (l .i) (l .next) (c .before .before .before .before .args .top) (l .rest) (l .inv .2) (l .left) (c .before .before .before .before .pre .2) (c .if1 .taken) (c .before .loop-test .taken) ∙ sym (l .inv .4)
+returns c = let l = c .before .before .loop in var-long (l .out) (l .i) (l .next) (c .before .before .before .before .args .top) (l .rest) (l .inv .2) (l .left) (c .before .before .before .before .pre .2) (c .if1 .taken) (omega (arith, c .before .loop-test .taken)) ∙ sym (l .inv .4)
 
 add-put-byte : tie.Need-add-put-byte Inv-loop μ-loop
 add-put-byte c = omega arith
@@ -51,7 +51,7 @@ loop-again c = let l = c .before .before .before .before .before .before .loop i
   omega (arith, l .inv .1),
   omega (arith, l .inv .2),
   omega (arith, l .inv .3, c .before .before .before .before .if1 .left),
-  l .inv .4 ∙ var-more (l .out) (l .i) (l .next) (c .before .before .before .before .before .before .before .before .args .top) (l .rest) (l .inv .2) (l .left) (c .before .before .before .before .if1 .left) (c .before .before .before .before .before .loop-test .taken) (c .before .before .put-byte .ensures),
+  l .inv .4 ∙ var-more (l .out) (l .i) (l .next) (c .before .before .before .before .before .before .before .before .args .top) (l .rest) (l .inv .2) (l .left) (c .before .before .before .before .if1 .left) (omega (arith, c .before .before .before .before .before .loop-test .taken)) (c .before .before .put-byte .ensures),
 )
 
 same-length-2 : tie.Need-same-length-2 Inv-loop μ-loop
@@ -70,7 +70,7 @@ same-length-3 : tie.Need-same-length-3 Inv-loop μ-loop
 same-length-3 c = c .before .before .put-byte2 .kept .0 ∙ c .before .before .before .before .before .before .loop .inv .0
 
 returns-3 : tie.Need-returns-3 Inv-loop μ-loop
-returns-3 c = let l = c .before .before .before .before .before .before .loop in var-end (l .out) (l .i) (l .next) (c .before .before .before .before .before .before .before .before .args .top) (l .rest) (l .inv .2) (l .left) (c .before .before .before .before .before .loop-test .left) (λ z. ⊎-elim (λ w. omega arith) (λ w. omega arith) (c .before .before .before .before .if2 .came)) (c .before .before .put-byte2 .ensures) ∙ sym (l .inv .4)
+returns-3 c = let l = c .before .before .before .before .before .before .loop in var-end (l .out) (l .i) (l .next) (c .before .before .before .before .before .before .before .before .args .top) (l .rest) (l .inv .2) (l .left) (omega (arith, c .before .before .before .before .before .loop-test .left)) (λ z. ⊎-elim (λ w. omega arith) (λ w. omega arith) (c .before .before .before .before .if2 .came)) (c .before .before .put-byte2 .ensures) ∙ sym (l .inv .4)
 
 pub spell-var-spec : {M : Type 1} → statement M
 spell-var-spec =
