@@ -2,7 +2,7 @@
 """Writes crates/round_trips/stdin, the records that the program round_trips reads, and stdout, what it has to print for them.
 `make_round_trips.py --check` writes nothing, and says whether the files are what the cases and the tables make.
 
-Files are those of tests/cases.txt, each at its own level and at LEVELS. Tables are those of tests/tables.txt, whose expectations were
+Files are those of tests/cases.txt, each at its own level and at LEVELS, and the samples at LEVELS. Tables are those of tests/tables.txt, whose expectations were
 derived by hand, and the tables of the accepted cases with one number changed. What the program has to print comes from pag_reference."""
 
 import os
@@ -18,6 +18,7 @@ FILE, TABLE = 0, 1
 HERE = os.path.dirname(os.path.abspath(__file__))
 CRATE = os.path.join(HERE, '..', '..', 'crates', 'round_trips')
 TABLES = os.path.join(HERE, '..', 'tables.txt')
+SAMPLES = os.path.join(HERE, '..', '..', 'samples')
 
 
 def head(kind, level, count):
@@ -67,6 +68,13 @@ def changed(level, table):
         yield level, table[:i] + [(table[i] + 1) % 2 ** 64] + table[i + 1:]
 
 
+def samples():
+    for name in sorted(os.listdir(SAMPLES)):
+        if name.endswith('.pag'):
+            with open(os.path.join(SAMPLES, name), 'rb') as sample:
+                yield sample.read()
+
+
 def records():
     cases = [case for case in check_cases.load() if len(case[2]) <= LONGEST]
     for _, level, data, expected, _ in cases:
@@ -74,6 +82,9 @@ def records():
             yield file_record(other, data)
     for _, level, table in tables():
         yield table_record(level, table)
+    for data in samples():
+        for level in LEVELS:
+            yield file_record(level, data)
     for _, level, _, expected, _ in cases:
         if expected[0] == 'table' and len(expected[1]) <= CHANGED:
             for other, table in changed(level, expected[1]):
