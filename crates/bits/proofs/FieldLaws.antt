@@ -1,16 +1,16 @@
 -- The laws of bit fields, high first, over every place and width; what the readings are, case by case; and what an answer tells.
 -- Each number that code computes is a variable, tied by an equation: omega proves the equation, and what a callee ensures fits as it stands.
-use Prim.Native.Nat.{ℕ, zero, suc, _+_, _*_, _/_, _%_, _^_, _≤_, _<_}
+use Prim.Native.Nat.{ℕ, zero, suc, _+_, _-_, _*_, _/_, _%_, _^_, _≤_, _<_}
 use mathlib.Core.Path.{_≡_, refl, sym, ap, ap₂, _∙_, subst}
 use mathlib.Core.List.{List, []}
 use mathlib.Core.Bool.{Bool, true, false}
-use native.Mathlib.Nat.{add-zero, add-suc, add-assoc, mul-assoc, mul-one, one-mul, pow-suc, mod-eq-of-lt}
+use native.Mathlib.Nat.{add-zero, add-suc, add-assoc, mul-assoc, mul-one, one-mul, pow-suc, mod-eq-of-lt, mod-eq-sub-mod}
 use native.Mathlib.Omega.{arith}
 use lib.ListN.{length, getD}
 use lib.Arith.{digits-div, digits-mod}
 use lib.Pow.{pow-lt, pow-mono}
-use lib.Dec.{leb, eqb}
-use borrow.Author.Tests.{le-leb, lt-leb, leb-true, lt-ltb, le-ltb, ne-eqb}
+use lib.Dec.{leb, ltb, eqb}
+use borrow.Author.Tests.{le-leb, lt-leb, leb-true, ltb-true, ltb-false, ne-eqb}
 use Rattle.format.specs.Bits.{high, ub}
 use Rattle.format.specs.Items.{Num, num, bad, mapNum, readUB, signExtend, skipped, readAlign}
 use Rattle.format.specs.Reading.{shows, stop}
@@ -53,6 +53,19 @@ ub-first b i h = h .0 ∙ sym (ub-byte high b i ∙ mod-eq-of-lt (rw (h .0) at (
 
 pub ub-more : (b : List ℕ) (q m i : ℕ) {x y : ℕ} → x ≡ ub high b q m → q + m ≡ 8 * i → (y ≡ getD b i 0) × (y < 256) → x * 256 + y ≡ ub high b q (m + 8)
 ub-more b q m i e f h = rw (ub-split b q m 8, f, ← e, ← ub-first b i h)
+
+-- the same from the start on: i bytes so far are x
+pub bytes-more : (b : List ℕ) (i : ℕ) {x y : ℕ} → x ≡ ub high b 0 (8 * i) → (y ≡ getD b i 0) × (y < 256) → x * 256 + y ≡ ub high b 0 (8 * (i + 1))
+bytes-more b i e h =
+    let q : 8 * i + 8 ≡ 8 * (i + 1) = omega arith in
+    ub-more b 0 (8 * i) i e (omega arith) h ∙ ap (ub high b 0) q
+
+-- seven of them leave room for one more in 64 bits
+pub bytes-bound : (b : List ℕ) (i : ℕ) {x : ℕ} → i < 7 → x ≡ ub high b 0 (8 * i) → x < 2 ^ 56
+bytes-bound b i h e = let l : 8 * i ≤ 56 = omega arith in omega (arith, e, ub-lt high b 0 (8 * i), pow-mono l)
+
+pub bytes-all : (b : List ℕ) (i : ℕ) {x : ℕ} → i ≡ length b → x ≡ ub high b 0 (8 * i) → x ≡ ub high b 0 (8 * length b)
+bytes-all b i h e = e ∙ ap (λ (j : ℕ). ub high b 0 (8 * j)) h
 
 -- the n bits from a place to the end of its byte x
 pub ub-rest : (b : List ℕ) (p n : ℕ) {x r : ℕ} → (x ≡ getD b (p / 8) 0) × (x < 256) → p % 8 + n ≡ 8 → r ≡ x / 2 ^ 0 % 2 ^ n → ub high b p n ≡ r
@@ -101,12 +114,29 @@ ub-got b p n e = map-got (λ x. x) b p n (ap (mapNum (λ x. x)) e)
 
 -- ---- signs: the code's size z is 2 ^ n, and its difference wraps
 
-pub extend-low : (n v : ℕ) {z : ℕ} → z ≡ 2 ^ n → v * 2 < z → v ≡ signExtend n v
-extend-low n v e h = rw (lt-ltb (v * 2) (2 ^ n) (rw e at h))
+even-pow : (n : ℕ) → 1 ≤ n → 2 * (2 ^ n / 2) ≡ 2 ^ n
+even-pow zero h = absurd (omega arith)
+even-pow (suc n) h = let e : 2 ^ suc n ≡ 2 ^ n * 2 = pow-suc 2 n in omega (arith, e)
 
-pub extend-high : (n v : ℕ) {z r : ℕ} → z ≡ 2 ^ n → n ≤ 32 → v < 2 ^ n → z ≤ v * 2 → r < 2 ^ 64 → (r + z) % 2 ^ 64 ≡ v → r ≡ signExtend n v
-extend-high n v e h k l m w =
-    rw (le-ltb (v * 2) (2 ^ n) (rw e at l)) (omega (arith, pow-mono h))
+-- half of it, added before and taken away after, makes the upper half negative
+pub extended : (n v : ℕ) {z r : ℕ} → z ≡ 2 ^ n → 1 ≤ n → n ≤ 32 → v < 2 ^ n → r < 2 ^ 64 → (r + z / 2) % 2 ^ 64 ≡ (v + z / 2) % z → r ≡ signExtend n v
+extended n v {z} {r} e o h l m w = go (ltb (v * 2) (2 ^ n)) refl
+  where
+    even : 2 * (z / 2) ≡ z
+    even = rw e (even-pow n o)
+
+    top : z ≤ 2 ^ 32
+    top = rw e (pow-mono h)
+
+    go : (t : Bool) → ltb (v * 2) (2 ^ n) ≡ t → r ≡ signExtend n v
+    go true t =
+        let k : v * 2 < 2 ^ n = ltb-true _ _ t in
+        let y : (v + z / 2) % z ≡ v + z / 2 = mod-eq-of-lt (omega (arith, e, even)) in
+        rw t (omega (arith, even, top, y))
+    go false t =
+        let k : 2 ^ n ≤ v * 2 = ltb-false _ _ t in
+        let y : (v + z / 2) % z ≡ v + z / 2 - z = mod-eq-sub-mod (omega (arith, e, even)) ∙ mod-eq-of-lt (omega (arith, e, even)) in
+        rw t (omega (arith, even, top, e, y))
 
 -- ---- the next whole byte, where n bits are skipped
 
