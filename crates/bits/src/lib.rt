@@ -23,7 +23,8 @@ pub enum Got {
     Fault(u32),
 }
 
-pub(crate) fn wide(b: u8) -> u64
+// A byte as a number.
+pub fn wide(b: u8) -> u64
     ensures { λ r. ⌜ (r ≡ b) × (r < 256) ⌝ }
 {
     b as u64

@@ -1,49 +1,89 @@
 -- Bit fields of each kind: what one reads as, and what a run of them leaves and announces.
-use Prim.Native.Nat.{ℕ, zero, suc, _+_, _-_, _*_, _^_, _≤_, _<_}
+use Prim.Native.Nat.{ℕ, zero, suc, _+_, _-_, _*_, _^_, _≤_, _<_, min}
 use mathlib.Core.List.{List, [], _∷_, _++_}
 use mathlib.Core.Path.{_≡_, refl, ap, sym, subst, _∙_}
 use mathlib.Core.Bool.{Bool, true, false}
-use lib.ListN.{length, length-set, set, List·getD-eq-default}
-use native.Mathlib.Nat.{add-zero}
+use lib.ListN.{length, length-set, set, getD, List·getD-eq-default}
+use lib.Seq.{sets}
+use native.Mathlib.Nat.{add-zero, sub-zero, add-mul, one-mul, suc-mul, mul-le-mul, mul-le-mul-right}
 use lib.Dec.{eqb}
+use borrow.Author.Tests.{ne-eqb}
 use native.Mathlib.Omega.{arith}
 use Rattle.format.specs.Tests.{pick}
-use Rattle.format.specs.Bits.{high}
+use Rattle.format.specs.Bits.{high, ub}
 use Rattle.format.specs.Reading.{At, Fault, Reading, shows, stop}
 use Rattle.format.specs.Formats.{Item, Format, item, only, times, the}
-use Rattle.format.specs.Items.{Num, num, bad, showNum, readUB, readWidth, readItem, judge, run, coordinatesOf, coordinates}
+use Rattle.format.specs.Items.{Num, num, bad, mapNum, showNum, readUB, readWidth, readItem, signExtend, judge, run, coordinatesOf, coordinates}
 use Rattle.format.specs.Bodies.{beziers}
 use Rattle.format.proofs.SizeLaws.{Fair, FairReading, fair-item, fair-only}
 use Rattle.format.proofs.WalkLaws.{run-le}
-use Rattle.bits.proofs.FieldLaws.{IsField, map-got}
+use Rattle.bits.proofs.FieldLaws.{IsField, map-got, ub-in, ub-past}
 use Rattle.bits.specs.Places.{seen}
 use Rattle.bits.specs.declared.BitPlace.{BitPlace}
 use Rattle.bits.specs.declared.Got.{Got}
 use Rattle.bits.specs.declared.Got.the-variants.{Value, Fault as GotFault}
 use Rattle.table.specs.State.{State, after}
-use Rattle.table.specs.Fields.{Fits, allows, judgeNum, fieldOf, announces, announced}
+use Rattle.table.specs.Fields.{Fits, allows, judgeNum, fieldOf, signed, announces, announced, weights}
 use Rattle.table.specs.declared.fields.Field.{Field}
 use Rattle.table.specs.declared.fields.Field.the-variants.{Verb, Interpolation, Bit, ByteValue, Coordinate}
-use Rattle.table.proofs.EngineLaws.{state, after-one, after-stop, times-none, times-next, times-stop}
+use Rattle.table.proofs.EngineLaws.{state, state-eq, sets-out, after-one, after-stop, times-none, times-next, times-stop}
 
 -- ---- one field
 
--- a number that is judged: the format `only`
-pub judged-run : (kind : Field) (b : List ℕ) (p w : ℕ) → showNum (judgeNum kind (readUB high b p w)) ≡ run high b (only (λ ns. allows kind (the ns)) 16 (item (Item.UB w))) p
+-- its reading, from the UB that its bits are
+abbrev fieldBy : ℕ → Field → Num → Reading
+fieldBy w Verb n = showNum n
+fieldBy w Interpolation n = judge (λ ns. allows Interpolation (the ns)) 16 (showNum n .shown) (showNum n .ended)
+fieldBy w Bit n = showNum n
+fieldBy w ByteValue n = judge (λ ns. allows ByteValue (the ns)) 16 (showNum n .shown) (showNum n .ended)
+fieldBy w Coordinate n = showNum (mapNum (signExtend w) n)
+
+field-by : (kind : Field) (b : List ℕ) (p w : ℕ) → fieldBy w kind (readUB high b p w) ≡ run high b (fieldOf kind w) p
 unfolding run readItem
-judged-run kind b p w = go (readUB high b p w)
+field-by Verb b p w = refl
+field-by Interpolation b p w = refl
+field-by Bit b p w = refl
+field-by ByteValue b p w = refl
+field-by Coordinate b p w = refl
+
+-- its bits, shown by its kind and judged
+field-is : (kind : Field) (b : List ℕ) (p w : ℕ) → showNum (judgeNum kind (mapNum (λ x. pick (signed kind) (signExtend w x) x) (readUB high b p w))) ≡ run high b (fieldOf kind w) p
+field-is kind b p w = go kind (readUB high b p w) ∙ field-by kind b p w
   where
     test : (c : Bool) (v q : ℕ) → showNum (pick c (num v q) (bad 16)) ≡ pick c (shows (v ∷ []) q) (stop 16)
     test true v q = refl
     test false v q = refl
 
-    go : (n : Num) → showNum (judgeNum kind n) ≡ judge (λ ns. allows kind (the ns)) 16 (showNum n .shown) (showNum n .ended)
-    go (num v q) = test (allows kind v) v q
-    go (bad e) = refl
+    go : (kind : Field) (n : Num) → showNum (judgeNum kind (mapNum (λ x. pick (signed kind) (signExtend w x) x) n)) ≡ fieldBy w kind n
+    go Verb (num v q) = refl
+    go Verb (bad e) = refl
+    go Interpolation (num v q) = test (allows Interpolation v) v q
+    go Interpolation (bad e) = refl
+    go Bit (num v q) = refl
+    go Bit (bad e) = refl
+    go ByteValue (num v q) = test (allows ByteValue v) v q
+    go ByteValue (bad e) = refl
+    go Coordinate (num v q) = refl
+    go Coordinate (bad e) = refl
 
-pub ub-run : (b : List ℕ) (p w : ℕ) {n : Num} → n ≡ readUB high b p w → showNum n ≡ run high b (item (Item.UB w)) p
-unfolding run readItem
-ub-run b p w e = ap showNum e
+module _ (kind : Field) (b : List ℕ) (p w : ℕ) where
+  -- it runs past the bytes
+  pub field-past : 8 * length b < p + w → showNum (bad 13) ≡ run high b (fieldOf kind w) p
+  field-past h = ap (λ (n : Num). showNum (judgeNum kind (mapNum (λ x. pick (signed kind) (signExtend w x) x) n))) (ub-past b p w h) ∙ field-is kind b p w
+
+  -- it stands in them, and its bits x show v
+  module _ {x v : ℕ} (inside : p + w ≤ 8 * length b) (bits : x ≡ ub high b p w) (shown : v ≡ pick (signed kind) (signExtend w x) x) where
+    field-judged : showNum (judgeNum kind (num v (p + w))) ≡ run high b (fieldOf kind w) p
+    field-judged =
+        ap (λ (y : ℕ). showNum (judgeNum kind (num y (p + w)))) shown
+        ∙ ap (λ (n : Num). showNum (judgeNum kind (mapNum (λ x. pick (signed kind) (signExtend w x) x) n))) (ub-in b p w inside (sym bits))
+        ∙ field-is kind b p w
+
+    pub field-in : allows kind v ≡ true → showNum (num v (p + w)) ≡ run high b (fieldOf kind w) p
+    field-in h = ap (λ (c : Bool). showNum (pick c (num v (p + w)) (bad 16))) (sym h) ∙ field-judged
+
+    pub field-out : allows kind v ≡ false → showNum (bad 16) ≡ run high b (fieldOf kind w) p
+    field-out h = ap (λ (c : Bool). showNum (pick c (num v (p + w)) (bad 16))) (sym h) ∙ field-judged
 
 -- a width, from the code's answer
 module _ (b : List ℕ) (p : ℕ) {r : Got} (read : seen r ≡ readWidth high b p) where
@@ -60,18 +100,6 @@ module _ (b : List ℕ) (p : ℕ) {r : Got} (read : seen r ≡ readWidth high b 
   width-fits e f =
       let i : IsField suc b p 5 _ _ = map-got suc b p 5 (ap seen (sym e) ∙ read) in
       (((i .inside, f .0 .1), omega (arith, i .next, f .1)), omega (arith, i .value), omega (arith, i .value, i .below))
-
--- the kind that a `match` tells
-pub field-of : (b : List ℕ) (p w : ℕ) {kind : Field} {r : Reading} (told : Field) → kind ≡ told → r ≡ run high b (fieldOf told w) p → r ≡ run high b (fieldOf kind w) p
-field-of b p w told e f = f ∙ ap (λ (z : Field). run high b (fieldOf z w) p) (sym e)
-
--- a number that was judged, by the test's result
-module _ (kind : Field) {r : Got} {v : ℕ} {q : BitPlace} {ok : Bool} (told : r ≡ Value v q) (tested : ok ≡ allows kind v) where
-  pub judged-in : ok ≡ true → num v (q .0) ≡ judgeNum kind (seen r)
-  judged-in h = rw (told, ← tested, h)
-
-  pub judged-out : ok ≡ false → bad 16 ≡ judgeNum kind (seen r)
-  judged-out h = rw (told, ← tested, h)
 
 -- ---- what a field announces
 
@@ -92,6 +120,51 @@ coordinates-none v h = sym (List·getD-eq-default (0 ∷ 2 ∷ 2 ∷ 1 ∷ 1 ∷
 module _ {kind : Field} {n : ℕ} where
   pub announces-of : (v : ℕ) (told : Field) → kind ≡ told → (n ≡ announces told v) × (n ≤ 6) → (n ≡ announces kind v) × (n ≤ 6)
   announces-of v told e h = (h .0 ∙ ap (λ (z : Field). announces z v) (sym e), h .1)
+
+abbrev zeros : ℕ → List ℕ
+zeros zero = []
+zeros (suc n) = 0 ∷ zeros n
+
+zero-at : (n v : ℕ) → getD (zeros n) v 0 ≡ 0
+zero-at zero v = refl
+zero-at (suc n) zero = refl
+zero-at (suc n) (suc v) = zero-at n v
+
+weighed : (kind : Field) (v : ℕ) → getD (weights kind) v 0 ≡ announces kind v
+weighed Verb v = refl
+weighed Interpolation zero = refl
+weighed Interpolation (suc zero) = refl
+weighed Interpolation (suc (suc zero)) = refl
+weighed Interpolation (suc (suc (suc v))) = zero-at 5 v ∙ sym (ap (λ (c : Bool). pick c 4 0) (ne-eqb (suc (suc (suc v))) 2 (λ e. omega arith)))
+weighed Bit v = zero-at 8 v
+weighed ByteValue v = zero-at 8 v
+weighed Coordinate v = zero-at 8 v
+
+abbrev All6 : List ℕ → Type 0
+All6 [] = Unit {0}
+All6 (x ∷ l) = (x ≤ 6) × All6 l
+
+all-few : (l : List ℕ) → All6 l → (v : ℕ) → getD l v 0 ≤ 6
+all-few [] h v = omega arith
+all-few (x ∷ l) h zero = h .0
+all-few (x ∷ l) h (suc v) = all-few l (h .1) v
+
+zeros-few : (n : ℕ) → All6 (zeros n)
+zeros-few zero = tt
+zeros-few (suc n) = (omega arith, zeros-few n)
+
+weights-few : (kind : Field) → All6 (weights kind)
+weights-few Verb = (omega arith, (omega arith, (omega arith, (omega arith, (omega arith, (omega arith, (omega arith, (omega arith, tt))))))))
+weights-few Interpolation = (omega arith, (omega arith, (omega arith, zeros-few 5)))
+weights-few Bit = zeros-few 8
+weights-few ByteValue = zeros-few 8
+weights-few Coordinate = zeros-few 8
+
+-- the code's list, and the number that it looked up
+pub weight-is : (kind : Field) (v : ℕ) {ws : List ℕ} {c : ℕ} → ws ≡ weights kind → c ≡ getD ws v 0 → (c ≡ announces kind v) × (c ≤ 6)
+weight-is kind v {ws} {c} e h =
+    let d : c ≡ getD (weights kind) v 0 = h ∙ ap (λ (l : List ℕ). getD l v 0) e in
+    (d ∙ weighed kind v, omega (arith, d, all-few (weights kind) (weights-few kind) v))
 
 pub announced-verbs : (vs : List ℕ) → announced Verb vs ≡ coordinates vs
 announced-verbs [] = refl
@@ -168,3 +241,78 @@ module _ (kind : Field) (w : ℕ) (s t₀ : List ℕ) (k n p₀ : ℕ) where
     sym (g .rest ∙ times-none high s t j (fieldOf kind w) p e),
     (sym (g .counts ∙ rw e (add-zero count)), omega (arith, g .few)),
   )
+
+-- ---- a run of signed fields that all stand in the bytes
+
+-- the numbers of n fields from p on
+abbrev steps : ℕ → List ℕ → ℕ → ℕ → List ℕ
+steps w s zero p = []
+steps w s (suc n) p = signExtend w (ub high s p w) ∷ steps w s n (p + w)
+
+-- n fields of w bits are few bits
+pub run-small : (n w : ℕ) → n < 2 ^ 32 → w ≤ 32 → n * w ≤ 2 ^ 37
+run-small n w h l = let m : n * w ≤ 2 ^ 32 * 32 = mul-le-mul {n₂ = 2 ^ 32} (omega arith) l in omega (arith, m)
+
+-- one of n fields ends where the n fields end, or before
+step-in : (i n w : ℕ) → i < n → i * w + w ≤ n * w
+step-in i n w h = subst (λ (m : ℕ). m ≤ n * w) (suc-mul i w) (mul-le-mul-right w h)
+
+steps-run : (w : ℕ) (s : List ℕ) (n p : ℕ) → p + n * w ≤ 8 * length s → run high s (times n (fieldOf Coordinate w)) p ≡ shows (steps w s n p) (p + n * w)
+unfolding run times
+steps-run w s zero p h = let e : p + 0 * w ≡ p = omega arith in rw e
+steps-run w s (suc n) p h =
+    let m : suc n * w ≡ n * w + w = suc-mul n w in
+    let e : p + w + n * w ≡ p + suc n * w = omega (arith, m) in
+    let one : shows (signExtend w (ub high s p w) ∷ []) (p + w) ≡ run high s (fieldOf Coordinate w) p = field-in Coordinate s p w (omega (arith, h, m)) refl refl refl in
+    rw (← one, steps-run w s n (p + w) (omega (arith, h, m)), e)
+
+module _ (w : ℕ) (s t₀ : List ℕ) (k n p₀ : ℕ) where
+  -- the first i numbers are stored, and the others would go from here on
+  pub record Laying (t : List ℕ) (q i : ℕ) : Type 0 where
+    pub size : length t ≡ length t₀
+    pub place : q ≡ p₀ + i * w
+    pub upto : i ≤ n
+    pub rest : sets t₀ k (steps w s n p₀) ≡ sets t (k + i) (steps w s (n - i) q)
+
+  pub laying-start : Laying t₀ p₀ 0
+  laying-start = record { size = refl; place = omega arith; upto = omega arith; rest = rw (add-zero k, sub-zero n) }
+
+  module _ {t : List ℕ} {q i : ℕ} (g : Laying t q i) where
+    pub laying-in : i < n → p₀ + n * w ≤ 8 * length s → q + w ≤ 8 * length s
+    laying-in h l = omega (arith, g .place, step-in i n w h, l)
+
+    pub laying-next : {x v : ℕ} → i < n → x ≡ ub high s q w → v ≡ signExtend w x → Laying (set t (k + i) v) (q + w) (i + 1)
+    laying-next {x} {v} h e f =
+        let m : n - i ≡ suc (n - (i + 1)) = omega arith in
+        let j : suc (k + i) ≡ k + (i + 1) = omega arith in
+        let d : (i + 1) * w ≡ i * w + w = add-mul i 1 w ∙ ap (λ (y : ℕ). i * w + y) (one-mul w) in
+        let y : signExtend w (ub high s q w) ≡ v = sym (f ∙ ap (signExtend w) e) in
+        record {
+          size = length-set t (k + i) v ∙ g .size;
+          place = omega (arith, g .place, d);
+          upto = omega arith;
+          rest = g .rest ∙ ap (λ (c : ℕ). sets t (k + i) (steps w s c q)) m ∙ ap (λ (c : ℕ). sets (set t (k + i) c) (suc (k + i)) (steps w s (n - (i + 1)) (q + w))) y ∙ ap (λ (c : ℕ). sets (set t (k + i) v) c (steps w s (n - (i + 1)) (q + w))) j;
+        }
+
+    -- all are stored, or there is no more room
+    pub laying-done : {m e : ℕ} → m ≡ min n (length t - k) → m ≤ i → e ≡ p₀ + n * w → e ≤ 8 * length s → state t (k + n) (At e) ≡ after t₀ k (run high s (times n (fieldOf Coordinate w)) p₀)
+    unfolding after
+    laying-done {m} {e} h l f inside =
+        let full : t ≡ sets t₀ k (steps w s n p₀) = sym (g .rest ∙ stored (n - i) refl) in
+        rw (steps-run w s n p₀ (omega (arith, f, inside))) (state-eq full (ap (λ (c : ℕ). k + c) (sym (steps-length n p₀))) (ap At f))
+      where
+        steps-length : (n p : ℕ) → length (steps w s n p) ≡ n
+        steps-length zero p = refl
+        steps-length (suc n) p = ap suc (steps-length n (p + w))
+
+        stored : (c : ℕ) → n - i ≡ c → sets t (k + i) (steps w s (n - i) q) ≡ t
+        stored zero z = rw z
+        stored (suc c) z = sets-out t (k + i) (steps w s (n - i) q) (omega (arith, h, l))
+
+-- the one signed kind
+pub signed-run : (kind : Field) (w n : ℕ) (s t : List ℕ) (k p : ℕ) {x : State} → signed kind ≡ true → x ≡ after t k (run high s (times n (fieldOf Coordinate w)) p) → x ≡ after t k (run high s (times n (fieldOf kind w)) p)
+signed-run Verb w n s t k p h e = cc
+signed-run Interpolation w n s t k p h e = cc
+signed-run Bit w n s t k p h e = cc
+signed-run ByteValue w n s t k p h e = cc
+signed-run Coordinate w n s t k p h e = e

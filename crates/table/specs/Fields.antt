@@ -1,7 +1,7 @@
 -- The kinds of bit fields that stand in runs, and their formats.
 use Prim.Native.Nat.{ℕ, _+_, _*_, _^_, _≤_}
 use mathlib.Core.List.{List, [], _∷_}
-use mathlib.Core.Bool.{Bool, true}
+use mathlib.Core.Bool.{Bool, true, false}
 use lib.Dec.{ltb, leb, eqb}
 use Rattle.format.specs.Tests.{pick}
 use Rattle.format.specs.Formats.{Item, Format, item, only, the}
@@ -30,6 +30,14 @@ fieldOf Bit w = item (Item.UB w)
 fieldOf ByteValue w = only (λ ns. leb (the ns) 255) 16 (item (Item.UB w))
 fieldOf Coordinate w = item (Item.SB w)
 
+-- a coordinate is signed, and nothing else is
+abbrev pub signed : Field → Bool
+signed Verb = false
+signed Interpolation = false
+signed Bit = false
+signed ByteValue = false
+signed Coordinate = true
+
 -- how many signed fields a field of this kind and value announces: a verb its coordinates, a Bezier frame four
 abbrev pub announces : Field → ℕ → ℕ
 announces Verb v = coordinatesOf v
@@ -41,6 +49,14 @@ announces Coordinate v = 0
 abbrev pub announced : Field → List ℕ → ℕ
 announced f [] = 0
 announced f (v ∷ vs) = announces f v + announced f vs
+
+-- the same for the numbers 0 to 7, as a list; a greater one announces nothing
+abbrev pub weights : Field → List ℕ
+weights Verb = 0 ∷ 2 ∷ 2 ∷ 1 ∷ 1 ∷ 4 ∷ 4 ∷ 6 ∷ []
+weights Interpolation = 0 ∷ 0 ∷ 4 ∷ 0 ∷ 0 ∷ 0 ∷ 0 ∷ 0 ∷ []
+weights Bit = 0 ∷ 0 ∷ 0 ∷ 0 ∷ 0 ∷ 0 ∷ 0 ∷ 0 ∷ []
+weights ByteValue = 0 ∷ 0 ∷ 0 ∷ 0 ∷ 0 ∷ 0 ∷ 0 ∷ 0 ∷ []
+weights Coordinate = 0 ∷ 0 ∷ 0 ∷ 0 ∷ 0 ∷ 0 ∷ 0 ∷ 0 ∷ []
 
 -- an engine's place p and index k: so far a number was stored for each bit at most, so that no index can wrap
 abbrev pub Fits : List ℕ → ℕ → ℕ → Type 0

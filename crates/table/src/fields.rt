@@ -1,15 +1,18 @@
 // Runs of bit fields: verbs, coordinates, interpolations, keyframed Bools and bytes, easing.
 ghost use mathlib.Core.Path.{_≡_};
 ghost use Prim.Native.Nat.{_*_, _≤_, _<_, _^_};
+ghost use lib.ListN.{getD};
 ghost use Rattle.format.specs.Bits.{high};
 ghost use Rattle.format.specs.Formats.{item, Item as «ItemOf», times, the, _▹_};
-ghost use Rattle.format.specs.Items.{coordinatesOf, run, showNum};
-ghost use Rattle.bits.specs.Places.{Inside, seen};
+ghost use Rattle.format.specs.Tests.{pick};
+ghost use Rattle.format.specs.Items.{coordinatesOf, run, signExtend};
 ghost use Rattle.table.specs.State.{after};
 ghost use Rattle.table.specs.Run.{left};
-ghost use Rattle.table.specs.Fields.{Fits, allows, judgeNum, fieldOf, announces, announced};
+ghost use Rattle.table.specs.Fields.{Fits, allows, signed, fieldOf, announces, announced, weights as «weights»};
+ghost use Rattle.table.specs.declared.fields.Field.the-variants.{Coordinate as «Coordinate»};
 use crate::Run;
 use crate::put;
+use crate::room_for;
 use bits::BitPlace;
 use bits::Got;
 
@@ -57,6 +60,30 @@ pub fn announced_by(kind: Field, v: u64) -> usize
     }
 }
 
+// What the numbers 0 to 7 announce in a field of this kind: a verb its coordinates, a Bezier frame four easing numbers.
+pub fn weights_of(kind: Field) -> [usize; 8]
+    ensures { λ r. ⌜ r ≡ «weights» kind ⌝ }
+{
+    match kind {
+        Field::Verb => [0, 2, 2, 1, 1, 4, 4, 6],
+        Field::Interpolation => [0, 0, 4, 0, 0, 0, 0, 0],
+        Field::Bit => [0; 8],
+        Field::ByteValue => [0; 8],
+        Field::Coordinate => [0; 8],
+    }
+}
+
+// What a number announces; a greater one than these announces nothing.
+pub fn weight(weights: &[usize], v: u64) -> usize
+    ensures { λ r. ⌜ r ≡ getD (now (weights .entry)) v 0 ⌝ }
+{
+    if v < weights.len() as u64 {
+        weights[v as usize]
+    } else {
+        0
+    }
+}
+
 // An interpolation is not 0, and a byte value at most 255.
 pub fn allowed(kind: Field, v: u64) -> bool
     ensures { λ r. ⌜ r ≡ allows kind v ⌝ }
@@ -70,35 +97,32 @@ pub fn allowed(kind: Field, v: u64) -> bool
     }
 }
 
-// A number that is not allowed is 16.
-fn judged(kind: Field, r: Got) -> Got
-    ensures { λ x. ⌜ seen x ≡ judgeNum kind (seen r) ⌝ }
-{
-    let Got::Value(v, next) = r else {
-        return r;
-    };
-    if allowed(kind, v) {
-        Got::Value(v, next)
-    } else {
-        Got::Fault(16)
-    }
-}
-
-// One field of w bits.
-fn read_field(kind: Field, w: u64, s: &[u8], at: BitPlace) -> Got
-    requires { ⌜ Inside (now s) (at .0) × (1 ≤ w) × (w ≤ 32) ⌝ }
-    ensures { λ r. ⌜ showNum (seen r) ≡ run high (now (s .entry)) (fieldOf kind w) (at .0) ⌝ }
+// A coordinate is signed, and nothing else is.
+fn is_signed(kind: Field) -> bool
+    ensures { λ r. ⌜ r ≡ signed kind ⌝ }
 {
     match kind {
-        Field::Verb => bits::fields::read_ub(s, at, w),
-        Field::Bit => bits::fields::read_ub(s, at, w),
-        Field::Interpolation => judged(kind, bits::fields::read_ub(s, at, w)),
-        Field::ByteValue => judged(kind, bits::fields::read_ub(s, at, w)),
-        Field::Coordinate => bits::fields::read_sb(s, at, w),
+        Field::Verb => false,
+        Field::Interpolation => false,
+        Field::Bit => false,
+        Field::ByteValue => false,
+        Field::Coordinate => true,
     }
 }
 
-// n fields of w bits.
+// What the bits of a field show.
+fn shown(kind: Field, w: u64, x: u64) -> u64
+    requires { ⌜ (1 ≤ w) × (w ≤ 32) × (x < 2 ^ w) ⌝ }
+    ensures { λ r. ⌜ r ≡ pick (signed kind) (signExtend w x) x ⌝ }
+{
+    if is_signed(kind) {
+        bits::fields::extend(x, w)
+    } else {
+        x
+    }
+}
+
+// n fields of w bits: the first that runs past the body is 13, the first that is not allowed 16.
 pub fn read_fields(
     kind: Field,
     w: u64,
@@ -113,32 +137,68 @@ pub fn read_fields(
     ensures counts { λ r. ⌜ r .count ≡ announced kind (run high (now (s .entry)) (times n (fieldOf kind w)) (at .0) .shown) ⌝ }
     ensures few { λ r. ⌜ r .count ≤ 6 * n ⌝ }
 {
+    let weights = weights_of(kind);
     let mut place = at;
     let mut j = k;
     let mut left = n;
     let mut count = 0;
     while 0 < left {
-        let r = read_field(kind, w, s, place);
-        match r {
-            Got::Value(v, next) => {
-                put(t, j, v);
-                count += announced_by(kind, v);
-                place = next;
-            }
-            Got::Fault(why) => {
-                return Announced {
-                    run: Run::Stop(why, j),
-                    count,
-                };
-            }
+        let next = place.0 + w as usize;
+        if s.len() * 8 < next {
+            let run = Run::Stop(13, j);
+            return Announced { run, count };
         }
-        j += 1;
-        left -= 1;
+        let x = bits::fields::field(s, place, w);
+        let v = shown(kind, w, x);
+        if allowed(kind, v) {
+            put(t, j, v);
+            count += weight(&weights, v);
+            place = BitPlace(next);
+            j += 1;
+            left -= 1;
+        } else {
+            let run = Run::Stop(16, j);
+            return Announced { run, count };
+        }
     }
-    Announced {
-        run: Run::Done(place, j),
-        count,
+    let run = Run::Done(place, j);
+    Announced { run, count }
+}
+
+// n SB fields of w bits. They show whatever their bits are, so only those are read that there is room for.
+fn read_signed(w: u64, n: usize, s: &[u8], at: BitPlace, t: &mut [u64], k: usize) -> Run
+    requires { ⌜ Fits (now s) (at .0) k × (1 ≤ w) × (w ≤ 32) × (n < 2 ^ 32) ⌝ }
+    ensures { λ r. ⌜ left (now (t .exit)) r ≡ after (now (t .entry)) k (run high (now (s .entry)) (times n (fieldOf «Coordinate» w)) (at .0)) ⌝ }
+{
+    let step = w as usize;
+    let end = at.0 + n * step;
+    if s.len() * 8 < end {
+        let f = read_fields(Field::Coordinate, w, n, s, at, t, k);
+        return f.run;
     }
+    let m = room_for(t.len(), k, n);
+    let mut place = at.0;
+    let mut i = 0;
+    while i < m {
+        let j = k + i;
+        let x = bits::fields::field(s, BitPlace(place), w);
+        t[j] = bits::fields::extend(x, w);
+        place += step;
+        i += 1;
+    }
+    Run::Done(BitPlace(end), k + n)
+}
+
+// n fields of w bits, by their kind.
+fn read_run(kind: Field, w: u64, n: usize, s: &[u8], at: BitPlace, t: &mut [u64], k: usize) -> Run
+    requires { ⌜ Fits (now s) (at .0) k × (1 ≤ w) × (w ≤ 32) × (n < 2 ^ 32) ⌝ }
+    ensures { λ r. ⌜ left (now (t .exit)) r ≡ after (now (t .entry)) k (run high (now (s .entry)) (times n (fieldOf kind w)) (at .0)) ⌝ }
+{
+    if is_signed(kind) {
+        return read_signed(w, n, s, at, t, k);
+    }
+    let f = read_fields(kind, w, n, s, at, t, k);
+    f.run
 }
 
 // A width, and n fields of it.
@@ -150,8 +210,7 @@ pub fn read_scaled(kind: Field, n: usize, s: &[u8], at: BitPlace, t: &mut [u64],
     match r {
         Got::Value(w, next) => {
             put(t, k, w);
-            let f = read_fields(kind, w, n, s, next, t, k + 1);
-            f.run
+            read_run(kind, w, n, s, next, t, k + 1)
         }
         Got::Fault(why) => Run::Stop(why, k),
     }

@@ -1,5 +1,6 @@
 // The lent table. A number is stored only where there is room, so one engine serves the run that counts and the run that fills.
 ghost use mathlib.Core.Path.{_≡_};
+ghost use Prim.Native.Nat.{_-_, min};
 ghost use lib.ListN.{set};
 ghost use Rattle.format.specs.Bits.{high};
 ghost use Rattle.format.specs.Items.{run};
@@ -28,6 +29,19 @@ pub fn put(t: &mut [u64], k: usize, v: u64)
     if k < t.len() {
         t[k] = v;
     }
+}
+
+// How many of n numbers from an index on a table of len numbers has room for.
+pub fn room_for(len: usize, k: usize, n: usize) -> usize
+    ensures { λ r. ⌜ r ≡ min n (len - k) ⌝ }
+{
+    if len < k {
+        return 0;
+    }
+    if len - k < n {
+        return len - k;
+    }
+    n
 }
 
 // One item.

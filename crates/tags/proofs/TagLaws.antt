@@ -1,11 +1,11 @@
 -- One tag: its bytes copied one by one, its values by its class, and its code, state and count stored before them last.
-use Prim.Native.Nat.{ℕ, suc, _+_, _-_, _≤_, _<_}
+use Prim.Native.Nat.{ℕ, suc, _+_, _-_, _≤_, _<_, min}
 use mathlib.Core.List.{List, [], _∷_, _++_}
 use mathlib.Core.Path.{_≡_, refl, ap, sym, _∙_}
-use native.Mathlib.Numerals.{add-one}
+use native.Mathlib.Nat.{add-zero}
 use native.Mathlib.Omega.{arith}
-use lib.ListN.{length, set, getD, take}
-use lib.Seq.{sets, take-suc, take-all, length-take-le}
+use lib.ListN.{length, set, getD, drop, length-set, length-drop}
+use lib.Seq.{sets, drop-cons}
 use Rattle.format.specs.Bits.{high}
 use Rattle.format.specs.Reading.{At, Fault, Reading, shows, stop}
 use Rattle.format.specs.Formats.{_▸_}
@@ -14,20 +14,41 @@ use Rattle.format.specs.Bodies.{aligned}
 use Rattle.table.specs.State.{State, after}
 use Rattle.table.specs.Run.{left, indexOf}
 use Rattle.table.specs.declared.Run.{Run}
-use Rattle.table.proofs.EngineLaws.{state, state-eq, sets-append, after-none}
+use Rattle.table.proofs.EngineLaws.{state, state-eq, sets-out, after-none}
 use Rattle.table.proofs.TextLaws.{set-sets}
 use Rattle.classes.specs.declared.Class.{Class}
 use Rattle.tags.specs.Shown.{stateOf, valuesOf, headed}
 
 -- ---- bytes, one by one
-pub copy-next : (t b : List ℕ) (k i : ℕ) {x : ℕ} {u v : List ℕ} → i < length b → x ≡ getD b i 0 → u ≡ sets t k (take i b) → v ≡ set u (k + i) x → v ≡ sets t k (take (i + 1) b)
-copy-next t b k i h e d f =
-    let n : length (take i b) ≡ i = length-take-le i b (omega arith) in
-    f ∙ rw (d, e, add-one i, take-suc b i 0 h, sets-append t k (take i b), n)
+module _ (t₀ b : List ℕ) (k : ℕ) where
+  -- the first i are stored, and the others would go from here on
+  pub record Copying (t : List ℕ) (i : ℕ) : Type 0 where
+    pub size : length t ≡ length t₀
+    pub upto : i ≤ length b
+    pub rest : sets t₀ k b ≡ sets t (k + i) (drop i b)
 
-pub copy-done : (t b : List ℕ) (k i : ℕ) {u : List ℕ} → length b ≤ i → u ≡ sets t k (take i b) → state u (k + length b) (At 0) ≡ after t k (shows b 0)
-unfolding after
-copy-done t b k i h d = rw (d, take-all i b h)
+  pub copy-start : Copying t₀ 0
+  copy-start = record { size = refl; upto = omega arith; rest = rw (add-zero k) }
+
+  module _ {t : List ℕ} {i : ℕ} (g : Copying t i) where
+    pub copy-next : {x : ℕ} → i < length b → x ≡ getD b i 0 → Copying (set t (k + i) x) (i + 1)
+    copy-next {x} h e =
+        let one : i + 1 ≡ suc i = omega arith in
+        let j : k + suc i ≡ suc (k + i) = omega arith in
+        record {
+          size = length-set t (k + i) x ∙ g .size;
+          upto = omega arith;
+          rest = g .rest ∙ ap (sets t (k + i)) (drop-cons b i 0 h) ∙ ap (λ (y : ℕ). sets (set t (k + i) y) (suc (k + i)) (drop (suc i) b)) (sym e) ∙ sym (ap (λ (y : ℕ). sets (set t (k + i) x) (k + y) (drop y b)) one ∙ ap (λ (y : ℕ). sets (set t (k + i) x) y (drop (suc i) b)) j);
+        }
+
+    -- all are stored, or there is no more room
+    pub copy-done : {m : ℕ} → m ≡ min (length b) (length t - k) → m ≤ i → state t (k + length b) (At 0) ≡ after t₀ k (shows b 0)
+    unfolding after
+    copy-done h l = state-eq (sym (g .rest ∙ stored (drop i b) (length-drop i b))) refl refl
+      where
+        stored : (xs : List ℕ) → length xs ≡ length b - i → sets t (k + i) xs ≡ t
+        stored [] e = refl
+        stored (x ∷ xs) e = sets-out t (k + i) (x ∷ xs) (omega (arith, h, l))
 
 -- ---- a reading that showed nothing more
 pub none-left : (t : List ℕ) (k : ℕ) {q : ℕ} {r : Reading} → r ≡ shows [] q → state t k (At q) ≡ after t k r

@@ -17,15 +17,17 @@ use bits::BitPlace;
 use classes::Class;
 use table::Run;
 
-// The bytes of an opaque body, in one plain loop.
+// The bytes of an opaque body: those that there is room for, in one plain loop.
 fn copy_bytes(body: &[u8], t: &mut [u64], k: usize) -> Run
     requires { ⌜ (length (now body) < 2 ^ 60) × (k < 2 ^ 61) ⌝ }
     ensures { λ r. ⌜ left (now (t .exit)) r ≡ after (now (t .entry)) k (shows (now (body .entry)) 0) ⌝ }
 {
     let n = body.len();
+    let m = table::room_for(t.len(), k, n);
     let mut i = 0;
-    while i < n {
-        table::put(t, k + i, bits::byte_at(body, i));
+    while i < m {
+        let j = k + i;
+        t[j] = bits::wide(body[i]);
         i += 1;
     }
     Run::Done(BitPlace(0), k + n)

@@ -1,62 +1,61 @@
-use Prim.Native.Nat.{_≤_, _-_}
+-- `tags::copy_bytes` meets its contract: what is not stored yet is what there is still room for.
+use Prim.Native.Nat.{_+_, _-_}
 use denote.Ref.{now}
-use mathlib.Core.Path.{_≡_, refl, ap, _∙_}
 use native.Mathlib.Omega.{arith}
-use lib.ListN.{length, length-set, take}
-use lib.Seq.{sets, length-sets}
-use Rattle.tags.proofs.TagLaws.{copy-next, copy-done}
+use borrow.Author.Needs.{needs}
+use lib.ListN.{length}
+use Rattle.tags.proofs.TagLaws.{Copying, copy-start, copy-next, copy-done}
 use Rattle.tags.proofs.copy_bytes.Statement.{statement}
 use Rattle.tags.proofs.copy_bytes.Tie as tie
 use Rattle.tags.proofs.copy_bytes.Reads as reads
 use Rattle.tags.proofs.copy_bytes.Lts as lts
-use Rattle.bits.proofs.byte_at.Reads as byte-at-reads
-use Rattle.table.proofs.put.Reads as put-reads
+use Rattle.bits.proofs.wide.Reads as wide-reads
+use Rattle.table.proofs.room_for.Reads as room-for-reads
 
 abbrev Inv-loop : tie.InvT-loop
-Inv-loop body t₀ k n i₀ t i = (i ≤ length body) × (t ≡ sets t₀ k (take i body))
+Inv-loop body t₀ k n m i₀ t i = Copying t₀ body k t i
 
 abbrev μ-loop : tie.MeasureT-loop
-μ-loop body t₀ k n i₀ t i = length body - i
+μ-loop body t₀ k n m i₀ t i = m - i
 
--- src/lib.rt:27:5
+room-for-requires : tie.Need-room-for-requires Inv-loop μ-loop
+room-for-requires c κs = tt
+
 loop-holds : tie.Need-loop-holds Inv-loop μ-loop
-loop-holds c = (omega arith, refl)
+loop-holds c = let a = c .before .before .before .args in copy-start (now (a .t)) (now (a .body)) (a .k)
 
--- src/lib.rt:28:23
-add-put : tie.Need-add-put Inv-loop μ-loop
-add-put c = omega (arith, c .before .before .before .before .before .pre)
+add-j : tie.Need-add-j Inv-loop μ-loop
+add-j c = omega (arith, c .before .loop .inv .upto, c .before .before .before .before .before .pre)
 
--- src/lib.rt:28:30
-byte-at-requires : tie.Need-byte-at-requires Inv-loop μ-loop
-byte-at-requires c κs = tt
+shared-slice-read-wide : tie.Need-shared-slice-read-wide Inv-loop μ-loop
+shared-slice-read-wide c = omega (arith, c .before .loop-test .taken, c .before .before .before .room-for .ensures)
 
--- src/lib.rt:28:9
-put-requires : tie.Need-put-requires Inv-loop μ-loop
-put-requires c κs = tt
+wide-requires : tie.Need-wide-requires Inv-loop μ-loop
+wide-requires c κs = tt
 
--- src/lib.rt:29:9
+mul-t : tie.Need-mul-t Inv-loop μ-loop
+mul-t c = search needs
+
+slice-write-t : tie.Need-slice-write-t Inv-loop μ-loop
+slice-write-t c = omega (arith, c .before .before .before .loop .inv .size, c .before .before .loop-test .taken, c .before .before .before .before .room-for .ensures)
+
 add-i : tie.Need-add-i Inv-loop μ-loop
-add-i c = omega arith
+add-i c = omega (arith, c .before .before .before .loop .inv .upto, c .before .before .before .before .before .before .before .pre)
 
--- src/lib.rt:27:5
 loop-less : tie.Need-loop-less Inv-loop μ-loop
-loop-less c = omega arith
+loop-less c = omega (arith, c .before .before .loop-test .taken)
 
--- src/lib.rt:27:5
 loop-again : tie.Need-loop-again Inv-loop μ-loop
-loop-again c = (omega arith, copy-next (now (c .before .before .before .before .before .before .before .before .before .args .t)) (now (c .before .before .before .before .before .before .before .before .before .args .body)) (c .before .before .before .before .before .before .before .before .before .args .k) (c .before .before .before .before .before .before .loop .i) (c .before .before .before .before .before .loop-test .taken) (c .before .before .before .byte-at .ensures .0) (c .before .before .before .before .before .before .loop .inv .1) (c .before .before .put .ensures))
+loop-again c = let a = c .before .before .before .before .before .before .before .args in copy-next (now (a .t)) (now (a .body)) (a .k) (c .before .before .before .loop .inv) (omega (arith, c .before .before .loop-test .taken, c .before .before .before .before .room-for .ensures)) (c .wide .ensures .0)
 
--- src/lib.rt:31:28
-add-t13 : tie.Need-add-t13 Inv-loop μ-loop
-add-t13 c = omega (arith, c .before .before .before .before .pre)
+add-t8 : tie.Need-add-t8 Inv-loop μ-loop
+add-t8 c = omega (arith, c .before .before .before .before .before .pre)
 
--- src/lib.rt:21:1
 same-length : tie.Need-same-length Inv-loop μ-loop
-same-length c = ap length (c .before .loop .inv .1) ∙ length-sets (now (c .before .before .before .before .args .t)) (c .before .before .before .before .args .k) (take (c .before .loop .i) (now (c .before .before .before .before .args .body)))
+same-length c = c .before .loop .inv .size
 
--- src/lib.rt:21:1
 returns : tie.Need-returns Inv-loop μ-loop
-returns c = copy-done (now (c .before .before .before .before .args .t)) (now (c .before .before .before .before .args .body)) (c .before .before .before .before .args .k) (c .before .loop .i) (c .loop-test .left) (c .before .loop .inv .1)
+returns c = let a = c .before .before .before .before .before .args in copy-done (now (a .t)) (now (a .body)) (a .k) (c .before .loop .inv) {m = c .before .before .room-for .result} (rw (c .before .loop .inv .size) (c .before .before .room-for .ensures)) (omega (arith, c .loop-test .left))
 
 pub copy-bytes-spec : {M : Type 1} → statement M
 copy-bytes-spec =
@@ -64,13 +63,16 @@ copy-bytes-spec =
     (tie.spec
     Inv-loop
     μ-loop
+    room-for-requires
     loop-holds
-    add-put
-    byte-at-requires
-    put-requires
+    add-j
+    shared-slice-read-wide
+    wide-requires
+    mul-t
+    slice-write-t
     add-i
     loop-less
     loop-again
-    add-t13
+    add-t8
     same-length
     returns)

@@ -1,3 +1,4 @@
+-- `table::fields::read_scaled` meets its contract: a width, and the run that it tells.
 use denote.Ref.{now}
 use mathlib.Core.Path.{refl}
 use Rattle.format.specs.Bits.{high}
@@ -11,44 +12,35 @@ use Rattle.table.proofs.fields.read_scaled.Tie as tie
 use Rattle.table.proofs.fields.read_scaled.Reads as reads
 use Rattle.table.proofs.fields.read_scaled.Lts as lts
 use Rattle.bits.proofs.fields.read_width.Reads as read-width-reads
-use Rattle.table.proofs.fields.read_fields.Reads as read-fields-reads
+use Rattle.table.proofs.fields.read_run.Reads as read-run-reads
 use Rattle.table.proofs.put.Reads as put-reads
 
--- src/fields.rt:122:9
 read-width-requires : tie.Need-read-width-requires
 read-width-requires c κs = search needs
 
--- src/fields.rt:124:20
 enum-known-r : tie.Need-enum-known-r
 enum-known-r c = search needs
 
--- src/fields.rt:125:13
 put-requires : tie.Need-put-requires
 put-requires c κs = search needs
 
--- src/fields.rt:126:57
-add-read-fields : tie.Need-add-read-fields
-add-read-fields c = search needs
+add-read-run : tie.Need-add-read-run
+add-read-run c = search needs
 
--- src/fields.rt:126:17
-read-fields-requires : tie.Need-read-fields-requires
-read-fields-requires c κs = let a = c .before .before .before .before .before .before .before .before .before .before .before .args in let f = width-fits (now (a .s)) (a .at .0) (c .before .before .before .before .before .before .before .before .read-width .ensures) (c .before .before .before .before .before .before .r .given .1) (c .before .before .before .before .before .before .before .before .before .before .before .pre .0) in (f .0, f .1, f .2, c .before .before .before .before .before .before .before .before .before .before .before .pre .1)
+read-run-requires : tie.Need-read-run-requires
+read-run-requires c κs = let a = c .before .before .before .before .before .before .before .before .before .before .before .args in let f = width-fits (now (a .s)) (a .at .0) (c .before .before .before .before .before .before .before .before .read-width .ensures) (c .before .before .before .before .before .before .r .given .1) (c .before .before .before .before .before .before .before .before .before .before .before .pre .0) in (f .0, f .1, f .2, c .before .before .before .before .before .before .before .before .before .before .before .pre .1)
 
--- src/fields.rt:129:20
 enum-known-r-2 : tie.Need-enum-known-r-2
 enum-known-r-2 c = search needs
 
--- src/fields.rt:118:1
 same-length : tie.Need-same-length
 same-length c = search needs
 
--- src/fields.rt:118:1
 returns : tie.Need-returns
 returns c = let a = c .before .before .before .before .before .before .before .before .before .before .before .before .before .before .args in
     then-one high (now (a .s)) (now (a .t)) (a .k) (item Item.width) (λ w. times (a .n) (fieldOf (a .kind) (the w))) (a .at .0)
-    (width-one (now (a .s)) (a .at .0) (c .before .before .before .before .before .before .before .before .before .before .before .read-width .ensures) (c .before .before .before .before .before .before .before .before .before .r .given .1)) (c .before .before .before .before .before .before .put .ensures) (c .before .before .read-fields .ensures .0)
+    (width-one (now (a .s)) (a .at .0) (c .before .before .before .before .before .before .before .before .before .before .before .read-width .ensures) (c .before .before .before .before .before .before .before .before .before .r .given .1)) (c .before .before .before .before .before .before .put .ensures) (c .before .before .read-run .ensures)
 
--- src/fields.rt:118:1
 returns-2 : tie.Need-returns-2
 returns-2 c = let a = c .before .before .before .before .before .before .args in
     then-never high (now (a .s)) (now (a .t)) (a .k) (item Item.width) (λ w. times (a .n) (fieldOf (a .kind) (the w))) (a .at .0)
@@ -61,8 +53,8 @@ read-scaled-spec =
     read-width-requires
     enum-known-r
     put-requires
-    add-read-fields
-    read-fields-requires
+    add-read-run
+    read-run-requires
     enum-known-r-2
     same-length
     returns
