@@ -13,14 +13,16 @@
 /* What is used of qemu-plugin.h, API version 1, which Debian doesn't package. */
 typedef uint64_t qemu_plugin_id_t;
 struct qemu_plugin_tb;
+struct qemu_plugin_insn;
 enum qemu_plugin_cb_flags { QEMU_PLUGIN_CB_NO_REGS };
 enum qemu_plugin_op { QEMU_PLUGIN_INLINE_ADD_U64 };
 void qemu_plugin_register_vcpu_tb_trans_cb(qemu_plugin_id_t id, void (*translated)(qemu_plugin_id_t id, struct qemu_plugin_tb *block));
 void qemu_plugin_register_vcpu_tb_exec_cb(struct qemu_plugin_tb *block, void (*executed)(unsigned vcpu, void *user),
                                           enum qemu_plugin_cb_flags flags, void *user);
-void qemu_plugin_register_vcpu_tb_exec_inline(struct qemu_plugin_tb *block, enum qemu_plugin_op op, void *number, uint64_t operand);
+void qemu_plugin_register_vcpu_insn_exec_inline(struct qemu_plugin_insn *instruction, enum qemu_plugin_op op, void *number, uint64_t operand);
 void qemu_plugin_register_atexit_cb(qemu_plugin_id_t id, void (*ended)(qemu_plugin_id_t id, void *user), void *user);
 size_t qemu_plugin_tb_n_insns(const struct qemu_plugin_tb *block);
+struct qemu_plugin_insn *qemu_plugin_tb_get_insn(const struct qemu_plugin_tb *block, size_t index);
 uint64_t qemu_plugin_tb_vaddr(const struct qemu_plugin_tb *block);
 
 /* What qemu looks for in a plugin. */
@@ -40,12 +42,16 @@ static void border_met(unsigned vcpu, void *user)
     borders_met++;
 }
 
-/* A block runs to its end, but for faults, which the counted calls don't have. A function that is called starts a block. */
+/*
+ * A function that is called starts a block. Instructions are counted one by one: the number that a block says it has may be one too many, since qemu 7.2
+ * counts in an instruction that it puts off to the next block because it crosses a page.
+ */
 static void block_translated(qemu_plugin_id_t id, struct qemu_plugin_tb *block)
 {
     (void)id;
     if (qemu_plugin_tb_vaddr(block) == border) qemu_plugin_register_vcpu_tb_exec_cb(block, border_met, QEMU_PLUGIN_CB_NO_REGS, NULL);
-    qemu_plugin_register_vcpu_tb_exec_inline(block, QEMU_PLUGIN_INLINE_ADD_U64, &executed_so_far, qemu_plugin_tb_n_insns(block));
+    for (size_t i = 0; i < qemu_plugin_tb_n_insns(block); i++)
+        qemu_plugin_register_vcpu_insn_exec_inline(qemu_plugin_tb_get_insn(block, i), QEMU_PLUGIN_INLINE_ADD_U64, &executed_so_far, 1);
 }
 
 static void program_ended(qemu_plugin_id_t id, void *user)
