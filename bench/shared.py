@@ -2,7 +2,9 @@
 
 import os
 import platform
+import shutil
 import subprocess
+import sys
 
 ROOT = os.path.dirname(os.path.dirname(os.path.abspath(__file__)))
 INCLUDE = os.path.join(ROOT, 'include')
@@ -11,6 +13,17 @@ ARCHIVE = os.path.join(ROOT, 'target', 'staticlib', 'libpag.a')
 
 def source(name):
     return os.path.join(ROOT, 'bench', name)
+
+
+def need(command, *packages):
+    """Installs Debian's packages where the command is missing and we may; ends the script where it stays missing."""
+    if shutil.which(command):
+        return
+    if os.geteuid() == 0 and shutil.which('apt-get'):
+        for words in (['update', '-qq'], ['install', '-qq', '-y', *packages]):
+            subprocess.run(['apt-get', *words], stdout=subprocess.DEVNULL, stderr=subprocess.DEVNULL)
+    if not shutil.which(command):
+        sys.exit('there is no %s: install %s' % (command, ' '.join(packages)))
 
 
 def need_archive():
@@ -26,7 +39,11 @@ def is_native():
 
 def compile_c(program, sources, flags):
     """A C program for x86-64."""
-    compiler = [os.environ.get('CC', 'gcc')] if is_native() else ['x86_64-linux-gnu-gcc', '-static']
+    if is_native():
+        compiler, packages = [os.environ.get('CC', 'gcc')], ['gcc', 'libc6-dev']
+    else:
+        compiler, packages = ['x86_64-linux-gnu-gcc', '-static'], ['gcc-x86-64-linux-gnu', 'libc6-dev-amd64-cross']
+    need(compiler[0], *packages)
     subprocess.run([*compiler, '-std=c11', '-Wall', '-Wextra', '-Werror', '-I', INCLUDE, *flags, *sources, '-o', program], check=True)
 
 
