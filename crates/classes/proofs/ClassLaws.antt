@@ -117,6 +117,10 @@ named-skimmed Lists (container f) = refl
 named-skimmed Lists (known (fixed f)) = refl
 named-skimmed Lists (known (attributes rows)) = refl
 
+-- the class that a walk takes a code's tag for, step by step: the class at the level, and what it is taken as
+pub taken-named : (reads : Reads) (level : ℕ) {code n : ℕ} {listed class : Class} → n ≡ code → listed ≡ classAt level n → class ≡ takenAs reads listed → class ≡ named (classBy reads level code)
+taken-named reads level {code} e p q = q ∙ ap (takenAs reads) (p ∙ ap (classAt level) e) ∙ sym (named-skimmed reads (classOf level code))
+
 -- a header passes alike
 pub end-skimmed : (reads : Reads) (c : paper.Class) → isEnd (skimmed reads c) ≡ isEnd c
 end-skimmed All c = refl
