@@ -139,20 +139,9 @@ pub fn read_list(
                 w = row;
             }
             Step::Open(list, stop, next) => {
-                let inside = Owner::Inside(place);
+                let at = Owner::Inside(place);
                 let inner = &r[list..stop];
-                let x = read_list(
-                    reads,
-                    level,
-                    left - 1,
-                    inside,
-                    a + list,
-                    inner,
-                    t,
-                    next,
-                    g,
-                    row,
-                );
+                let x = read_list(reads, level, left - 1, at, a + list, inner, t, next, g, row);
                 let Walked::Next(j2, w2) = x else {
                     return x;
                 };
