@@ -8,12 +8,17 @@ use lib.ListN.{getD, List·getD-eq-default}
 use lib.Dec.{ltb}
 use borrow.Author.Tests.{lt-ltb, le-ltb, ltb-true, ltb-false}
 use Rattle.format.specs.Tests.{pick}
+use Rattle.format.specs.Bits.{Order}
+use Rattle.format.specs.Formats.{Format}
 use Rattle.format.specs.Bodies.{Body, fixed, attributes}
 use Rattle.format.specs.FileAndTags as paper
 use Rattle.format.specs.FileAndTags.{opaque, end, container, known, codes, classOf, isEnd, isContainer}
+use Rattle.format.proofs.RoomLaws.{FairClass, fair-class}
 use Rattle.classes.specs.declared.Class.{Class}
 use Rattle.classes.specs.declared.Class.the-variants.{Opaque, End, Container, Fixed, Attributes}
-use Rattle.classes.specs.Classes.{named, ends, contains, classAt}
+use Rattle.classes.specs.declared.Reads.{Reads}
+use Rattle.classes.specs.declared.Reads.the-variants.{All, Lists}
+use Rattle.classes.specs.Classes.{named, ends, contains, classAt, takenAs, skimmed, classBy}
 use Rattle.classes.proofs.Table.{tab, at, grid, at-grid}
 
 -- ---- By its name alone.
@@ -101,6 +106,62 @@ module _ (y : ℕ → Body) (l : ℕ → paper.Class) (r : Right y l) (level cod
 
   pub container-by : classAt level code ≡ Container → classOf level code ≡ l code
   container-by e = by-code y l r level code ∙ ap (λ c. spelt y l c code) e
+
+-- ---- How much a walk reads.
+
+pub named-skimmed : (reads : Reads) (c : paper.Class) → named (skimmed reads c) ≡ takenAs reads (named c)
+named-skimmed All c = refl
+named-skimmed Lists opaque = refl
+named-skimmed Lists end = refl
+named-skimmed Lists (container f) = refl
+named-skimmed Lists (known (fixed f)) = refl
+named-skimmed Lists (known (attributes rows)) = refl
+
+-- the class that a walk takes a code's tag for, step by step: the class at the level, and what it is taken as
+pub taken-named : (reads : Reads) (level : ℕ) {code n : ℕ} {listed class : Class} → n ≡ code → listed ≡ classAt level n → class ≡ takenAs reads listed → class ≡ named (classBy reads level code)
+taken-named reads level {code} e p q = q ∙ ap (takenAs reads) (p ∙ ap (classAt level) e) ∙ sym (named-skimmed reads (classOf level code))
+
+-- a header passes alike
+pub end-skimmed : (reads : Reads) (c : paper.Class) → isEnd (skimmed reads c) ≡ isEnd c
+end-skimmed All c = refl
+end-skimmed Lists opaque = refl
+end-skimmed Lists end = refl
+end-skimmed Lists (container f) = refl
+end-skimmed Lists (known y) = refl
+
+pub container-skimmed : (reads : Reads) (c : paper.Class) → isContainer (skimmed reads c) ≡ isContainer c
+container-skimmed All c = refl
+container-skimmed Lists opaque = refl
+container-skimmed Lists end = refl
+container-skimmed Lists (container f) = refl
+container-skimmed Lists (known y) = refl
+
+-- and a list needs no more room
+pub fair-by : (o : Order) (reads : Reads) (level code : ℕ) → FairClass o (classBy reads level code)
+fair-by o reads level code = go reads (classOf level code) (fair-class o level code)
+  where
+    go : (reads : Reads) (c : paper.Class) → FairClass o c → FairClass o (skimmed reads c)
+    go All c h = h
+    go Lists opaque h = tt
+    go Lists end h = tt
+    go Lists (container f) h = h
+    go Lists (known y) h = tt
+
+-- by its name and the code
+module _ (y : ℕ → Body) (l : ℕ → Format) where
+  spelt-skimmed : (reads : Reads) (class : Class) (code : ℕ) → skimmed reads (spelt y (λ k. container (l k)) class code) ≡ spelt y (λ k. container (l k)) (takenAs reads class) code
+  spelt-skimmed All class code = refl
+  spelt-skimmed Lists Opaque code = refl
+  spelt-skimmed Lists End code = refl
+  spelt-skimmed Lists Container code = refl
+  spelt-skimmed Lists Fixed code = refl
+  spelt-skimmed Lists Attributes code = refl
+
+  pub taken-by : Right y (λ k. container (l k)) → (reads : Reads) (level code : ℕ)
+      → classBy reads level code ≡ spelt y (λ k. container (l k)) (named (classBy reads level code)) code
+  taken-by r reads level code =
+      ap (skimmed reads) (by-code y (λ k. container (l k)) r level code) ∙ spelt-skimmed reads (classAt level code) code
+      ∙ ap (λ (c : Class). spelt y (λ k. container (l k)) c code) (sym (named-skimmed reads (classOf level code)))
 
 -- ---- From the table.
 

@@ -6,6 +6,8 @@ use Rattle.format.specs.FileAndTags as paper
 use Rattle.format.specs.FileAndTags.{classOf}
 use Rattle.classes.specs.declared.Class.{Class}
 use Rattle.classes.specs.declared.Class.the-variants.{Opaque, End, Container, Fixed, Attributes}
+use Rattle.classes.specs.declared.Reads.{Reads}
+use Rattle.classes.specs.declared.Reads.the-variants.{All, Lists}
 
 -- opaque, End, container, fixed, attributes
 abbrev pub named : paper.Class → Class
@@ -32,3 +34,26 @@ contains End = false
 contains Container = true
 contains Fixed = false
 contains Attributes = false
+
+-- ---- How much a walk reads: all of a list; or the lists alone, with every other body opaque.
+
+-- the class that a tag is taken for, by name
+abbrev pub takenAs : Reads → Class → Class
+takenAs All class = class
+takenAs Lists Opaque = Opaque
+takenAs Lists End = End
+takenAs Lists Container = Container
+takenAs Lists Fixed = Opaque
+takenAs Lists Attributes = Opaque
+
+-- and of the definitions' classes
+abbrev pub skimmed : Reads → paper.Class → paper.Class
+skimmed All c = c
+skimmed Lists paper.opaque = paper.opaque
+skimmed Lists paper.end = paper.end
+skimmed Lists (paper.container f) = paper.container f
+skimmed Lists (paper.known y) = paper.opaque
+
+-- the classes that a walk at a level goes by; where it reads all, they are the level's
+abbrev pub classBy : Reads → ℕ → ℕ → paper.Class
+classBy reads level code = skimmed reads (classOf level code)

@@ -3,7 +3,7 @@ ghost use mathlib.Core.Path.{_≡_};
 ghost use Prim.Native.Nat.{_<_};
 ghost use lib.Dec.{ltb};
 ghost use Rattle.format.specs.Tests.{pick};
-ghost use Rattle.classes.specs.Classes.{classAt};
+ghost use Rattle.classes.specs.Classes.{classAt, takenAs};
 ghost use Rattle.classes.specs.declared.Class.the-variants.{Opaque};
 
 pub enum Class {
@@ -12,6 +12,12 @@ pub enum Class {
     Container,
     Fixed,
     Attributes,
+}
+
+// How much a walk reads of a tag list: all of it; or, where all of it was judged before, the lists alone, with every other body opaque.
+pub enum Reads {
+    All,
+    Lists,
 }
 
 // The codes 0 to 31; the others are opaque.
@@ -104,4 +110,20 @@ pub fn class_of(level: u32, code: u32) -> Class
     let i = (code / 32) as usize;
     let j = (code % 32) as usize;
     at_level(level, code, CLASSES[i][j])
+}
+
+// The class that a walk takes a tag for: where only lists are read, a body that has no list in it is opaque.
+pub fn taken_as(reads: Reads, class: Class) -> Class
+    ensures { λ r. ⌜ r ≡ takenAs reads class ⌝ }
+{
+    match reads {
+        Reads::All => class,
+        Reads::Lists => match class {
+            Class::Opaque => Class::Opaque,
+            Class::End => Class::End,
+            Class::Container => Class::Container,
+            Class::Fixed => Class::Opaque,
+            Class::Attributes => Class::Opaque,
+        },
+    }
 }

@@ -11,8 +11,8 @@ use lib.Dec.{ltb, eqb}
 use borrow.Author.Tests.{ltb-false, lt-ltb, le-ltb, eq-eqb, ne-eqb}
 use Rattle.format.specs.Tests.{pick}
 use Rattle.format.specs.FileAndTags as paper
-use Rattle.format.specs.FileAndTags.{head, noHead, le16, le32, rawHead, classOf, passes, readHead}
-use Rattle.classes.specs.Classes.{ends, contains, classAt}
+use Rattle.format.specs.FileAndTags.{head, noHead, le16, le32, rawHead, passes, readHead}
+use Rattle.classes.specs.Classes.{named, ends, contains}
 use Rattle.classes.specs.declared.Class.{Class}
 use Rattle.classes.specs.declared.Class.the-variants.{End, Container}
 use Rattle.classes.proofs.ClassLaws.{ends-named, contains-named}
@@ -137,19 +137,19 @@ module _ (left : ℕ) (r : List ℕ) {h : Head} {code len size rest : ℕ} (clas
 pub head-none : (left : ℕ) (r : List ℕ) {h : Head} {e : ℕ} (class : Class) → seenHead h ≡ rawHead r → h ≡ Fault e → seenHead h ≡ headBy class left r
 head-none left r class at is = ap seenHead is ∙ rw (sym at ∙ ap seenHead is)
 
--- ---- The definitions' header, by the name of the class of its code.
-pub head-by : (level left : ℕ) (r : List ℕ) → readHead (classOf level) left r ≡ headBy (classAt level (le16 r / 64)) left r
-head-by level left r = go (ltb (length r) 2) (eqb (le16 r % 64) 63) (ltb (length r) 6) (ltb (le32 (drop 2 r)) 63)
+-- ---- The definitions' header, by the name of the class of its code, whatever the classes are.
+pub head-by : (class : ℕ → paper.Class) (left : ℕ) (r : List ℕ) → readHead class left r ≡ headBy (named (class (le16 r / 64))) left r
+head-by class left r = go (ltb (length r) 2) (eqb (le16 r % 64) 63) (ltb (length r) 6) (ltb (le32 (drop 2 r)) 63)
   where
     code : ℕ
     code = le16 r / 64
 
-    one : (len size : ℕ) → passes (classOf level) left r (head code len size) ≡ passesBy (classAt level code) left r (head code len size)
-    one len size = rw (ends-named (classOf level code), contains-named (classOf level code))
+    one : (len size : ℕ) → passes class left r (head code len size) ≡ passesBy (named (class code)) left r (head code len size)
+    one len size = rw (ends-named (class code), contains-named (class code))
 
     go : (a b c d : Bool)
-        → passes (classOf level) left r (pick a (noHead 6) (pick b (pick c (noHead 6) (pick d (noHead 8) (head code (le32 (drop 2 r)) 6))) (head code (le16 r % 64) 2)))
-        ≡ passesBy (classAt level code) left r (pick a (noHead 6) (pick b (pick c (noHead 6) (pick d (noHead 8) (head code (le32 (drop 2 r)) 6))) (head code (le16 r % 64) 2)))
+        → passes class left r (pick a (noHead 6) (pick b (pick c (noHead 6) (pick d (noHead 8) (head code (le32 (drop 2 r)) 6))) (head code (le16 r % 64) 2)))
+        ≡ passesBy (named (class code)) left r (pick a (noHead 6) (pick b (pick c (noHead 6) (pick d (noHead 8) (head code (le32 (drop 2 r)) 6))) (head code (le16 r % 64) 2)))
     go true b c d = refl
     go false true true d = refl
     go false true false true = refl

@@ -15,20 +15,21 @@ use Rattle.format.specs.Reading.{Ending, At, Fault, Reading}
 use Rattle.format.specs.Items.{run}
 use Rattle.format.specs.Bodies.{readBody}
 use Rattle.format.specs.FileAndTags as paper
-use Rattle.format.specs.FileAndTags.{le16, container, classOf, isEnd, isContainer, Tag, Outcome, whole, fault, Walk, noTags, broken, chain, head, noHead, readHead, blame, atEnd, afterTag, Inside, endAt, front, opened, within, tagThen, walkList}
+use Rattle.format.specs.FileAndTags.{le16, container, isEnd, isContainer, Tag, Outcome, whole, fault, Walk, noTags, broken, chain, head, noHead, readHead, blame, atEnd, afterTag, Inside, endAt, front, opened, within, tagThen, walkList}
 use Rattle.format.specs.TableOfNumbers.{numbers, tagTable}
 use Rattle.format.proofs.EngineLaws.{chain-chain, numbers-append, tagTable-append}
 use Rattle.format.proofs.ListLaws.{list-nil, list-fault, list-tag}
-use Rattle.format.proofs.RoomLaws.{Room, list-room, tag-table-length}
+use Rattle.format.proofs.RoomLaws.{Room, walk-room, tag-table-length}
 use Rattle.format.proofs.WalkLaws.{run-le, Fits, head-fits}
 use Rattle.table.proofs.EngineLaws.{sets-append}
 use Rattle.attributes.specs.Rows.{attributesOf}
 use Rattle.fixed.specs.Fixed.{fixedOf}
 use Rattle.bodies.specs.Leaf.{leafBody}
-use Rattle.classes.specs.Classes.{ends, contains, classAt}
+use Rattle.classes.specs.Classes.{named, ends, contains, classBy}
 use Rattle.classes.specs.declared.Class.{Class}
 use Rattle.classes.specs.declared.Class.the-variants.{Opaque, End, Container, Fixed, Attributes}
-use Rattle.classes.proofs.ClassLaws.{Right, spelt, by-code, ends-named, contains-named}
+use Rattle.classes.specs.declared.Reads.{Reads}
+use Rattle.classes.proofs.ClassLaws.{Right, spelt, ends-named, contains-named, fair-by, taken-by}
 use Rattle.headers.specs.Heads.{headBy}
 use Rattle.headers.proofs.HeadLaws.{head-by, FitsBy, fits-by}
 use Rattle.tags.specs.Shown.{stateOf, valuesOf}
@@ -84,10 +85,10 @@ right : Right leafBody (λ code. container (fixedOf code))
 unfolding leafBody fixedOf attributesOf
 right = refl
 
-within-is : (R : paper.Owner → ℕ → List ℕ → Walk) (level code a s : ℕ) (body : List ℕ)
-    → within high R (classOf level code) a s body ≡ insideOf R (classAt level code) code a s body
-within-is R level code a s body =
-    ap (λ (c : paper.Class). within high R c a s body) (by-code leafBody (λ code. container (fixedOf code)) right level code) ∙ go (classAt level code)
+within-is : (R : paper.Owner → ℕ → List ℕ → Walk) (reads : Reads) (level code a s : ℕ) (body : List ℕ)
+    → within high R (classBy reads level code) a s body ≡ insideOf R (named (classBy reads level code)) code a s body
+within-is R reads level code a s body =
+    ap (λ (c : paper.Class). within high R c a s body) (taken-by leafBody fixedOf right reads level code) ∙ go (named (classBy reads level code))
   where
     leaf : (xs : List ℕ) (z : Ending) → _≡_ {A = Inside} (record { state = 1; values = xs; walk = noTags (endAt a z) }) (record { state = 1; values = xs; walk = walkOf R Fixed a s body z })
     leaf xs (At p) = refl
@@ -143,12 +144,12 @@ listed-eq : {t t′ g g′ : List ℕ} {x x′ : Walked} → t ≡ t′ → g �
 listed-eq p q r = λ i. record { table = p i; rows = q i; answer = r i }
 
 -- the list of the owner at place a, whose room is r, over the tables t₀ from k on and g₀ from m on
-module _ (level left : ℕ) (own : paper.Owner) (a : ℕ) (r t₀ : List ℕ) (k : ℕ) (g₀ : List ℕ) (m : ℕ) where
+module _ (reads : Reads) (level left : ℕ) (own : paper.Owner) (a : ℕ) (r t₀ : List ℕ) (k : ℕ) (g₀ : List ℕ) (m : ℕ) where
   abbrev from : ℕ → Walk
-  from i = walkList high (classOf level) left own (a + i) (drop i r)
+  from i = walkList high (classBy reads level) left own (a + i) (drop i r)
 
   abbrev all : Walk
-  all = walkList high (classOf level) left own a r
+  all = walkList high (classBy reads level) left own a r
 
   -- some tags have been seen, and `rest` is the walk of what is left
   pub record Seen (t g : List ℕ) (j w : ℕ) (rest : Walk) : Type 0 where
@@ -178,7 +179,7 @@ module _ (level left : ℕ) (own : paper.Owner) (a : ℕ) (r t₀ : List ℕ) (k
   -- the indexes stay in the list's room
   pub seen-room : {t g : List ℕ} {j w : ℕ} (rest : Walk) → Seen t g j w rest → (j ≤ k + 8 * length r) × (w ≤ m + 5 * length r)
   seen-room rest s =
-      let u : Room high (length r) all = list-room high level left own a r in
+      let u : Room high (length r) all = walk-room high (classBy reads level) (fair-by high reads level) (length r) left own a r in
       let ns : length (numbers (all .tags)) ≡ length (numbers (s .tags)) + length (numbers (rest .tags)) =
       ap (λ (w : Walk). length (numbers (w .tags))) (s .split) ∙ ap length (numbers-append (s .tags) (rest .tags)) ∙ length-append (numbers (s .tags)) (numbers (rest .tags)) in
       let ts : length (all .tags) ≡ length (s .tags) + length (rest .tags) = ap (λ (w : Walk). length (w .tags)) (s .split) ∙ length-append (s .tags) (rest .tags) in
@@ -263,7 +264,7 @@ module _ (level left : ℕ) (own : paper.Owner) (a : ℕ) (r t₀ : List ℕ) (k
   used-up {t} {g} {i} {j} {w} go l {n} e =
       let z : i ≡ length r = omega (arith, go .inside) in
       let d : drop i r ≡ [] = rw z (drop-length r) in
-      let f : from i ≡ broken 7 (blame own (a + i)) = rw d (list-nil high (classOf level) left own (a + i)) in
+      let f : from i ≡ broken 7 (blame own (a + i)) = rw d (list-nil high (classBy reads level) left own (a + i)) in
       seen-fault (from i) (go .seen) (f ∙ ap (λ (x : ℕ). broken 7 (blame own (a + x))) z ∙ ap (broken 7) (sym e))
 
   -- the tag at i is a container, whose list has the room from l up to p; n and m′ are the next indexes
@@ -273,24 +274,24 @@ module _ (level left : ℕ) (own : paper.Owner) (a : ℕ) (r t₀ : List ℕ) (k
     pub order : l ≤ p
     pub inside : p ≤ length r
     pub seen : Seen t g n m′
-        (chain (walkList high (classOf level) (pred left) (paper.inside (a + i)) (a + l) (piece l p r) .tags)
-        (walkList high (classOf level) (pred left) (paper.inside (a + i)) (a + l) (piece l p r) .ended) (from p))
+        (chain (walkList high (classBy reads level) (pred left) (paper.inside (a + i)) (a + l) (piece l p r) .tags)
+        (walkList high (classBy reads level) (pred left) (paper.inside (a + i)) (a + l) (piece l p r) .ended) (from p))
 
   -- ---- the tag at i
   module _ {t g : List ℕ} {i j w : ℕ} (going : Going t g i j w) (some : i < length r) where
     left-over : 0 < length (drop i r)
     left-over = rw length-drop (omega arith)
 
-    head-fault : {e : ℕ} → readHead (classOf level) left (drop i r) ≡ noHead e → listed t g (walked.Fault e (a + i)) ≡ laid t₀ k g₀ m all
-    head-fault {e} is = seen-fault (from i) (going .seen) (list-fault high (classOf level) left own (a + i) (drop i r) e left-over is)
+    head-fault : {e : ℕ} → readHead (classBy reads level) left (drop i r) ≡ noHead e → listed t g (walked.Fault e (a + i)) ≡ laid t₀ k g₀ m all
+    head-fault {e} is = seen-fault (from i) (going .seen) (list-fault high (classBy reads level) left own (a + i) (drop i r) e left-over is)
 
     -- its header passes
-    module _ {code len size : ℕ} (stands : readHead (classOf level) left (drop i r) ≡ head code len size) where
-      fits : Fits (classOf level) left (drop i r) (head code len size)
-      fits = subst (Fits (classOf level) left (drop i r)) stands (head-fits (classOf level) left (drop i r))
+    module _ {code len size : ℕ} (stands : readHead (classBy reads level) left (drop i r) ≡ head code len size) where
+      fits : Fits (classBy reads level) left (drop i r) (head code len size)
+      fits = subst (Fits (classBy reads level) left (drop i r)) stands (head-fits (classBy reads level) left (drop i r))
 
       abbrev R : paper.Owner → ℕ → List ℕ → Walk
-      R = walkList high (classOf level) (pred left)
+      R = walkList high (classBy reads level) (pred left)
 
       abbrev start : ℕ
       start = i + size
@@ -302,13 +303,13 @@ module _ (level left : ℕ) (own : paper.Owner) (a : ℕ) (r t₀ : List ℕ) (k
       body = take len (drop size (drop i r))
 
       abbrev c : Class
-      c = classAt level code
+      c = named (classBy reads level code)
 
       abbrev inner : Walk
       inner = walkOf R c (a + i) (a + start) body (valuesOf c code body .ended)
 
       abbrev later : Bool → Walk
-      later b = afterTag b own (a + stop) (drop stop r) (walkList high (classOf level) left own)
+      later b = afterTag b own (a + stop) (drop stop r) (walkList high (classBy reads level) left own)
 
       abbrev t′ : List ℕ
       t′ = sets t j (tagShown c code body .shown)
@@ -331,8 +332,8 @@ module _ (level left : ℕ) (own : paper.Owner) (a : ℕ) (r t₀ : List ℕ) (k
           let q : a + i + size + len ≡ a + stop = omega arith in
           let n : i + (size + len) ≡ stop = omega arith in
           let d : drop (size + len) (drop i r) ≡ drop stop r = drop-drop (size + len) i r ∙ ap (λ (n : ℕ). drop n r) n in
-          list-tag high (classOf level) left own (a + i) (drop i r) code len size left-over stands
-          ∙ rw (q, p, d, ends-named (classOf level code), within-is R level code (a + i) (a + start) body)
+          list-tag high (classBy reads level) left own (a + i) (drop i r) code len size left-over stands
+          ∙ rw (q, p, d, ends-named (classBy reads level code), within-is R reads level code (a + i) (a + start) body)
 
       tag-seen : Seen t′ g′ j′ (w + 5) (chain (inner .tags) (inner .ended) (later (ends c)))
       tag-seen = seen-tag (8 - left) code (a + i) size len (insideOf R c code (a + i) (a + start) body) (later (ends c))
@@ -383,7 +384,7 @@ module _ (level left : ℕ) (own : paper.Owner) (a : ℕ) (r t₀ : List ℕ) (k
         stood-open {l} {p} {n} z =
             let f : (p ≡ stop) × (n ≡ j′) × (ends c ≡ false) × (contains c ≡ true) × (start ≤ l) × (l ≤ start + length body) × (inner ≡ R (paper.inside (a + i)) (a + l) (drop (l - start) body)) =
             subst (Follows R a (a + i) start stop body c inner j′) z tag-follows in
-            let o : pick true (eqb left 0) false ≡ false = subst (λ (b : Bool). pick b (eqb left 0) false ≡ false) (contains-named (classOf level code) ∙ f .3) (fits .3) in
+            let o : pick true (eqb left 0) false ≡ false = subst (λ (b : Bool). pick b (eqb left 0) false ≡ false) (contains-named (classBy reads level code) ∙ f .3) (fits .3) in
             let q : len - (l - start) ≡ stop - l = omega (arith, f .4) in
             let q′ : i + (size + (l - start)) ≡ l = omega (arith, f .4) in
             let room : drop (l - start) body ≡ piece l stop r =
@@ -400,22 +401,22 @@ module _ (level left : ℕ) (own : paper.Owner) (a : ℕ) (r t₀ : List ℕ) (k
             }
 
     -- reading it, by the class of its code, left this
-    module _ {class : Class} {t′ g′ : List ℕ} (x : Step) (named : class ≡ classAt level (le16 (drop i r) / 64))
+    module _ {class : Class} {t′ g′ : List ℕ} (x : Step) (is-named : class ≡ named (classBy reads level (le16 (drop i r) / 64)))
         (read : stepped t′ g′ x ≡ tagAt class left a r i t j g w (headBy class left (drop i r))) where
-      read-is : stepped t′ g′ x ≡ tagAt (classAt level (le16 (drop i r) / 64)) left a r i t j g w (readHead (classOf level) left (drop i r))
-      read-is = read ∙ rw (named, head-by level left (drop i r))
+      read-is : stepped t′ g′ x ≡ tagAt (named (classBy reads level (le16 (drop i r) / 64))) left a r i t j g w (readHead (classBy reads level) left (drop i r))
+      read-is = read ∙ rw (is-named, head-by (classBy reads level) left (drop i r))
 
       -- by what its header gives
-      by-head : (P : Stepped → Type 0) → ((e : ℕ) → readHead (classOf level) left (drop i r) ≡ noHead e → P (stepped t g (step.Fault e)))
-          → ((code len size : ℕ) → readHead (classOf level) left (drop i r) ≡ head code len size → P (tagAt (classAt level code) left a r i t j g w (head code len size))) → P (stepped t′ g′ x)
-      by-head P f h = subst P (sym read-is) (go (readHead (classOf level) left (drop i r)) refl)
+      by-head : (P : Stepped → Type 0) → ((e : ℕ) → readHead (classBy reads level) left (drop i r) ≡ noHead e → P (stepped t g (step.Fault e)))
+          → ((code len size : ℕ) → readHead (classBy reads level) left (drop i r) ≡ head code len size → P (tagAt (named (classBy reads level code)) left a r i t j g w (head code len size))) → P (stepped t′ g′ x)
+      by-head P f h = subst P (sym read-is) (go (readHead (classBy reads level) left (drop i r)) refl)
         where
-          go : (d : paper.Head) → readHead (classOf level) left (drop i r) ≡ d → P (tagAt (classAt level (le16 (drop i r) / 64)) left a r i t j g w d)
+          go : (d : paper.Head) → readHead (classBy reads level) left (drop i r) ≡ d → P (tagAt (named (classBy reads level (le16 (drop i r) / 64))) left a r i t j g w d)
           go (noHead e) q = f e q
           go (head code len size) q =
               let u : (2 ≤ size) × (size + len ≤ length (drop i r)) × (code ≡ le16 (drop i r) / 64) =
-              subst (FitsBy (drop i r)) (sym (head-by level left (drop i r)) ∙ q) (fits-by (classAt level (le16 (drop i r) / 64)) left (drop i r)) in
-              subst (λ (n : ℕ). P (tagAt (classAt level n) left a r i t j g w (head code len size))) (u .2) (h code len size q)
+              subst (FitsBy (drop i r)) (sym (head-by (classBy reads level) left (drop i r)) ∙ q) (fits-by (named (classBy reads level (le16 (drop i r) / 64))) left (drop i r)) in
+              subst (λ (n : ℕ). P (tagAt (named (classBy reads level n)) left a r i t j g w (head code len size))) (u .2) (h code len size q)
 
       -- the lent tables keep their lengths
       pub tag-sizes : (length t′ ≡ length t₀) × (length g′ ≡ length g₀)
@@ -450,7 +451,7 @@ module _ (level left : ℕ) (own : paper.Owner) (a : ℕ) (r t₀ : List ℕ) (k
       -- and its list was read from there
       module _ {l p n : ℕ} (z : x ≡ step.Open l p n) where
         abbrev R′ : Walk
-        R′ = walkList high (classOf level) (pred left) (paper.inside (a + i)) (a + l) (piece l p r)
+        R′ = walkList high (classBy reads level) (pred left) (paper.inside (a + i)) (a + l) (piece l p r)
 
         pub open-bounds : Bounds left a (length r) k m → Bounds (left - 1) (a + l) (length (piece l p r)) n (w + 5)
         open-bounds b =
@@ -464,7 +465,7 @@ module _ (level left : ℕ) (own : paper.Owner) (a : ℕ) (r t₀ : List ℕ) (k
               row = omega (arith, b .row, b .place, v .1, o .deep, b .depth);
             }
 
-        module _ {t″ g″ : List ℕ} (y : Walked) (done : listed t″ g″ y ≡ laid t′ n g′ (w + 5) (walkList high (classOf level) (left - 1) (paper.inside (a + i)) (a + l) (piece l p r))) where
+        module _ {t″ g″ : List ℕ} (y : Walked) (done : listed t″ g″ y ≡ laid t′ n g′ (w + 5) (walkList high (classBy reads level) (left - 1) (paper.inside (a + i)) (a + l) (piece l p r))) where
           read-inner : listed t″ g″ y ≡ laid t′ n g′ (w + 5) R′
           read-inner = rw (pred-is left) done
 

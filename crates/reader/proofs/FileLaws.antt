@@ -17,11 +17,15 @@ use Rattle.format.specs.Reasons.{startFault, walkFile, gives, refuses, result, 
 use Rattle.format.proofs.LevelLaws.{long-file}
 use Rattle.answers.specs.Answers.{leaves}
 use Rattle.answers.specs.declared.Answer.the-variants.{Accepted, Refused}
+use Rattle.classes.specs.Classes.{classBy}
+use Rattle.classes.specs.declared.Reads.{Reads}
+use Rattle.classes.specs.declared.Reads.the-variants.{Lists}
 use Rattle.lists.specs.Lists.{Listed, listed, walkedOf, laid, Bounds}
 use Rattle.lists.specs.declared.Walked.{Walked}
 use Rattle.lists.specs.declared.Walked.the-variants.{Next, Fault}
 use Rattle.lists.proofs.ListLaws.{piece, piece-rest, length-piece}
 use Rattle.reader.specs.Survey.{surveyed}
+use Rattle.reader.proofs.SkimLaws.{skim-rows}
 
 -- ---- 1 to 5, in this order
 module _ (level : ℕ) (f : List ℕ) where
@@ -85,8 +89,8 @@ module _ (level : ℕ) (f : List ℕ) where
   pub tags-bounds : 9 ≤ length f → length f ≤ 16777216 → Bounds 8 9 (length (piece 9 (length f) f)) 1 0
   tags-bounds l h = record { depth = omega arith; place = omega (arith, length-piece 9 (length f) f (omega arith)); index = omega arith; row = omega arith }
 
-  pub tags-read : (t g : List ℕ) {x : Listed} → x ≡ laid t 1 g 0 (walkList high (classOf level) 8 file 9 (piece 9 (length f) f)) → x ≡ laid t 1 g 0 (walkList high (classOf level) 8 file 9 (drop 9 f))
-  tags-read t g e = e ∙ ap (λ (r : List ℕ). laid t 1 g 0 (walkList high (classOf level) 8 file 9 r)) (piece-rest 9 f)
+  pub tags-read : (reads : Reads) (t g : List ℕ) {x : Listed} → x ≡ laid t 1 g 0 (walkList high (classBy reads level) 8 file 9 (piece 9 (length f) f)) → x ≡ laid t 1 g 0 (walkList high (classBy reads level) 8 file 9 (drop 9 f))
+  tags-read reads t g e = e ∙ ap (λ (r : List ℕ). laid t 1 g 0 (walkList high (classBy reads level) 8 file 9 r)) (piece-rest 9 f)
 
   pub survey-walk : (t g : List ℕ) {t′ g′ : List ℕ} {x : Walked} → startFault level f ≡ 0 → listed t′ g′ x ≡ laid t 1 g 0 (walkList high (classOf level) 8 file 9 (drop 9 f)) → x ≡ surveyed (walkFile high level f)
   survey-walk t g z e = ap (λ (l : Listed). l .answer) e ∙ rw (zero-add, walk-is z)
@@ -171,8 +175,11 @@ module _ (level : ℕ) (f m : List ℕ) where
   pub tags-short : {k j : ℕ} → Next k j ≡ surveyed (walkFile high level f) → length m < j → leaves m (Refused 19 j) ≡ into m (readTags high level f)
   tags-short q h = short-of m (tagTable (walkFile high level f .tags)) (survey-found level f q .rows-are) h ∙ ap (into m) (sym (tags-are (survey-found level f q)))
 
+  -- the run that fills read the lists alone
   pub tags-done : {k j : ℕ} (t : List ℕ) {t′ g : List ℕ} {x : Walked} → Next k j ≡ surveyed (walkFile high level f) → j ≤ length m
-      → listed t′ g x ≡ laid t 1 m 0 (walkList high (classOf level) 8 file 9 (drop 9 f)) → leaves g (Accepted j) ≡ into m (readTags high level f)
+      → listed t′ g x ≡ laid t 1 m 0 (walkList high (classBy Lists level) 8 file 9 (drop 9 f)) → leaves g (Accepted j) ≡ into m (readTags high level f)
   tags-done t q h d =
       let u : Found level f _ _ = survey-found level f q in
-      laid-in m (tagTable (walkFile high level f .tags)) (u .rows-are) h (ap (λ (l : Listed). l .rows) d ∙ rw (walk-is level f (u .start))) ∙ ap (into m) (sym (tags-are u))
+      let e : walkList high (classOf level) 8 file 9 (drop 9 f) .ended ≡ whole = ap (λ (w : Walk). w .ended) (sym (walk-is level f (u .start))) ∙ u .ended in
+      laid-in m (tagTable (walkFile high level f .tags)) (u .rows-are) h
+      (ap (λ (l : Listed). l .rows) d ∙ ap (sets m 0) (skim-rows level 8 file 9 (drop 9 f) e .1) ∙ rw (walk-is level f (u .start))) ∙ ap (into m) (sym (tags-are u))

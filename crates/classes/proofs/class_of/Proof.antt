@@ -9,35 +9,35 @@ use Rattle.classes.proofs.class_of.Reads as reads
 use Rattle.classes.proofs.class_of.Lts as lts
 use Rattle.classes.proofs.at_level.Reads as at-level-reads
 
--- src/lib.rt:102:9
+-- src/lib.rt:108:9
 returns : tie.Need-returns
 returns c = sym (ap named (past-codes _ _ (omega arith)))
 
--- src/lib.rt:104:13
+-- src/lib.rt:110:13
 cast-i : tie.Need-cast-i
 cast-i c = search needs
 
--- src/lib.rt:105:13
+-- src/lib.rt:111:13
 cast-j : tie.Need-cast-j
 cast-j c = search needs
 
--- src/lib.rt:106:27
+-- src/lib.rt:112:27
 mul-at-level : tie.Need-mul-at-level
 mul-at-level c = search needs
 
--- src/lib.rt:106:27
+-- src/lib.rt:112:27
 index-1-at-level : tie.Need-index-1-at-level
 index-1-at-level c = search needs
 
--- src/lib.rt:106:27
+-- src/lib.rt:112:27
 index-2-at-level : tie.Need-index-2-at-level
 index-2-at-level c = search needs
 
--- src/lib.rt:106:5
+-- src/lib.rt:112:5
 at-level-requires : tie.Need-at-level-requires
 at-level-requires c κs = search needs
 
--- src/lib.rt:98:1
+-- src/lib.rt:104:1
 returns-2 : tie.Need-returns-2
 returns-2 c = let a = c .before .before .before .args in c .at-level .ensures ∙ table-at _ refl (a .level) (a .code) _ _ _ refl refl (omega (arith, c .before .before .if1 .left))
 

@@ -1,0 +1,102 @@
+-- A walk of the lists alone, with every other body opaque, gives the tag table of the walk that reads all, where that accepts: `skim-rows`.
+use Prim.Native.Nat.{ℕ, zero, suc, pred, _+_, _-_, _/_}
+use mathlib.Core.List.{List, [], _∷_, _++_}
+use mathlib.Core.Path.{_≡_, refl, ap, subst, sym, _∙_}
+use mathlib.Core.Bool.{Bool, true, false}
+use lib.ListN.{length, take, drop}
+use Rattle.format.specs.Bits.{high}
+use Rattle.format.specs.Reading.{Ending, At, Fault}
+use Rattle.format.specs.Items.{run}
+use Rattle.format.specs.Bodies.{readBody}
+use Rattle.format.specs.FileAndTags.{Class, opaque, end, container, known, classOf, isEnd, Tag, Outcome, whole, fault, Walk, noTags, chain, Head, head, noHead, rawHead, passes, readHead, Owner, inside, Inside, endAt, front, opened, within, afterTag, tagThen, oneTag, walk, walkList}
+use Rattle.format.specs.TableOfNumbers.{tagTable}
+use Rattle.format.proofs.EngineLaws.{tagTable-append}
+use Rattle.classes.specs.Classes.{skimmed, classBy}
+use Rattle.classes.specs.declared.Reads.the-variants.{Lists}
+use Rattle.classes.proofs.ClassLaws.{end-skimmed, container-skimmed}
+
+-- the walk w that reads all, which ended so, and the walk v of the lists alone: after a fault nothing is said
+abbrev Alike : Walk → Walk → Outcome → Type 0
+Alike w v whole = (v .ended ≡ whole) × (tagTable (v .tags) ≡ tagTable (w .tags))
+Alike w v (fault e n) = Unit {0}
+
+-- a tag, with what stands in it, and what follows
+alike-then : (d code a size len : ℕ) (i j : Inside) (w v : Walk) → Alike (i .walk) (j .walk) (i .walk .ended) → Alike w v (w .ended)
+    → Alike (tagThen d code a size len i w) (tagThen d code a size len j v) (tagThen d code a size len i w .ended)
+alike-then d code a size len i j w v x y = inner (i .walk .ended) x
+  where
+    row : Inside → Tag
+    row i = record { depth = d; code = code; place = a; size = size; length = len; state = i .state; values = i .values }
+
+    rest : tagTable (j .walk .tags) ≡ tagTable (i .walk .tags) → (z : Outcome) → Alike w v z
+        → Alike (record { tags = (row i ∷ i .walk .tags) ++ w .tags; ended = z }) (record { tags = (row j ∷ j .walk .tags) ++ v .tags; ended = v .ended }) z
+    rest e whole y = (y .0, rw (tagTable-append (j .walk .tags) (v .tags), tagTable-append (i .walk .tags) (w .tags), e, y .1))
+    rest e (fault r n) y = tt
+
+    inner : (z : Outcome) → Alike (i .walk) (j .walk) z
+        → Alike (chain (row i ∷ i .walk .tags) z w) (chain (row j ∷ j .walk .tags) (j .walk .ended) v) (chain (row i ∷ i .walk .tags) z w .ended)
+    inner whole x = rw (x .0) (rest (x .1) (w .ended) y)
+    inner (fault e n) x = tt
+
+alike-after : (e : Bool) (c : Owner) (a : ℕ) (r : List ℕ) (N M : ℕ → List ℕ → Walk) → Alike (N a r) (M a r) (N a r .ended)
+    → Alike (afterTag e c a r N) (afterTag e c a r M) (afterTag e c a r N .ended)
+alike-after false c a r N M x = x
+alike-after true c a [] N M x = (refl, refl)
+alike-after true c a (y ∷ r) N M x = tt
+
+-- what stands in a tag of the class C; lists are read by R and by S
+alike-within : (R S : Owner → ℕ → List ℕ → Walk) → ((c : Owner) (a : ℕ) (r : List ℕ) → Alike (R c a r) (S c a r) (R c a r .ended))
+    → (C : Class) (a s : ℕ) (body : List ℕ) → Alike (within high R C a s body .walk) (within high S (skimmed Lists C) a s body .walk) (within high R C a s body .walk .ended)
+alike-within R S u opaque a s body = (refl, refl)
+alike-within R S u end a s body = (refl, refl)
+alike-within R S u (known y) a s body = go (readBody high y body .ended)
+  where
+    go : (z : Ending) → Alike (noTags (endAt a z)) (noTags whole) (endAt a z)
+    go (At p) = (refl, refl)
+    go (Fault e) = tt
+alike-within R S u (container f) a s body = go (run high body (front f) 0 .shown) (run high body (front f) 0 .ended)
+  where
+    go : (xs : List ℕ) (z : Ending) → Alike (opened R a s body xs z .walk) (opened S a s body xs z .walk) (opened R a s body xs z .walk .ended)
+    go xs (At p) = u (inside a) (s + p / 8) (drop (p / 8) body)
+    go xs (Fault e) = tt
+
+module _ (level : ℕ) where
+  -- a header passes alike
+  heads-alike : (left : ℕ) (r : List ℕ) → readHead (classBy Lists level) left r ≡ readHead (classOf level) left r
+  heads-alike left r = go (rawHead r)
+    where
+      go : (h : Head) → passes (classBy Lists level) left r h ≡ passes (classOf level) left r h
+      go (noHead e) = refl
+      go (head code len size) = rw (end-skimmed Lists (classOf level code), container-skimmed Lists (classOf level code))
+
+  alike-one : (R S : ℕ → Owner → ℕ → List ℕ → Walk) → ((left : ℕ) (c : Owner) (a : ℕ) (r : List ℕ) → Alike (R left c a r) (S left c a r) (R left c a r .ended))
+      → (left : ℕ) (c : Owner) (a : ℕ) (r : List ℕ) (h : Head)
+      → Alike (oneTag high (classOf level) R left c a r h) (oneTag high (classBy Lists level) S left c a r h) (oneTag high (classOf level) R left c a r h .ended)
+  alike-one R S u left c a r (noHead e) = tt
+  alike-one R S u left c a r (head code len size) =
+      rw (end-skimmed Lists (classOf level code))
+      (alike-then (8 - left) code a size len
+      (within high (R (pred left)) (classOf level code) a (a + size) (take len (drop size r)))
+      (within high (S (pred left)) (classBy Lists level code) a (a + size) (take len (drop size r)))
+      (afterTag (isEnd (classOf level code)) c (a + size + len) (drop (size + len) r) (R left c))
+      (afterTag (isEnd (classOf level code)) c (a + size + len) (drop (size + len) r) (S left c))
+      (alike-within (R (pred left)) (S (pred left)) (u (pred left)) (classOf level code) a (a + size) (take len (drop size r)))
+      (alike-after (isEnd (classOf level code)) c (a + size + len) (drop (size + len) r) (R left c) (S left c) (u left c (a + size + len) (drop (size + len) r))))
+
+  alike : (k left : ℕ) (c : Owner) (a : ℕ) (r : List ℕ) → Alike (walk high (classOf level) k left c a r) (walk high (classBy Lists level) k left c a r) (walk high (classOf level) k left c a r .ended)
+  unfolding walk
+  alike zero left c a r = tt
+  alike (suc k) left c a [] = tt
+  alike (suc k) left c a (x ∷ r) =
+      subst
+      (λ (h : Head). Alike (oneTag high (classOf level) (walk high (classOf level) k) left c a (x ∷ r) (readHead (classOf level) left (x ∷ r)))
+      (oneTag high (classBy Lists level) (walk high (classBy Lists level) k) left c a (x ∷ r) h)
+      (oneTag high (classOf level) (walk high (classOf level) k) left c a (x ∷ r) (readHead (classOf level) left (x ∷ r)) .ended))
+      (sym (heads-alike left (x ∷ r)))
+      (alike-one (walk high (classOf level) k) (walk high (classBy Lists level) k) (alike k) left c a (x ∷ r) (readHead (classOf level) left (x ∷ r)))
+
+  -- the walk of the lists alone accepts too, with the same tag table
+  pub skim-rows : (left : ℕ) (own : Owner) (a : ℕ) (r : List ℕ) → walkList high (classOf level) left own a r .ended ≡ whole
+      → (walkList high (classBy Lists level) left own a r .ended ≡ whole) × (tagTable (walkList high (classBy Lists level) left own a r .tags) ≡ tagTable (walkList high (classOf level) left own a r .tags))
+  skim-rows left own a r e =
+      subst (Alike (walkList high (classOf level) left own a r) (walkList high (classBy Lists level) left own a r)) e (alike (length r) left own a r)
