@@ -18,8 +18,9 @@ use Rattle.classes.specs.declared.Class.{Class}
 use Rattle.classes.specs.declared.Class.the-variants.{Opaque, End, Container, Fixed, Attributes}
 use Rattle.classes.specs.declared.Reads.{Reads}
 use Rattle.classes.specs.declared.Reads.the-variants.{All, Lists}
-use Rattle.classes.specs.Classes.{named, ends, contains, classAt, takenAs, skimmed, classBy}
-use Rattle.classes.proofs.Table.{tab, at, grid, at-grid}
+use Rattle.classes.specs.Classes.{named, allClasses, ends, contains, classAt, takenAs, skimmed, classBy}
+use Rattle.classes.specs.Tables.{tab, grid}
+use Rattle.classes.proofs.Table.{at, at-grid}
 
 -- ---- By its name alone.
 
@@ -175,3 +176,9 @@ table-at rows r level code i j d p q h = go (ltb level code) refl
     go false e =
         at-grid (λ k. named (getD codes k opaque)) d 32 32 rows r code i j (omega arith) (omega arith) (omega arith)
         ∙ sym (ap named (up-to-level level code (ltb-false level code e)))
+
+-- the same for rows that are the table
+pub class-at : (rows : List (List Class)) → rows ≡ allClasses → (level code i j : ℕ) (d : Class) → i ≡ code / 32 → j ≡ code % 32 → code < 1024
+    → pick (ltb level code) Opaque (getD (getD rows i []) j d) ≡ classAt level code
+unfolding allClasses
+class-at rows e = table-at rows e

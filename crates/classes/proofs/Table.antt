@@ -4,11 +4,7 @@ use mathlib.Core.List.{List, [], _∷_}
 use mathlib.Core.Path.{_≡_, _∙_, refl, ap, sym}
 use native.Mathlib.Nat.{add-zero, zero-add, add-suc, suc-add, le-of-suc-le-suc, not-suc-le-zero}
 use lib.ListN.{getD}
-
--- f i, f (i + 1), ..: n of them
-abbrev pub tab : {A : Type 0} → (ℕ → A) → ℕ → ℕ → List A
-tab f i zero = []
-tab f i (suc n) = f i ∷ tab f (suc i) n
+use Rattle.classes.specs.Tables.{tab, grid}
 
 getD-from : {A : Type 0} (f : ℕ → A) (d : A) (n i k : ℕ) → k < n → getD (tab f i n) k d ≡ f (i + k)
 getD-from f d zero i k h = absurd (not-suc-le-zero h)
@@ -18,10 +14,6 @@ getD-from f d (suc n) i (suc k) h = getD-from f d n (suc i) k (le-of-suc-le-suc 
 -- the rule at each entry of a table that is `tab f 0 n`
 pub at : {A : Type 0} (f : ℕ → A) (d : A) (n : ℕ) (xs : List A) → xs ≡ tab f 0 n → (k : ℕ) → k < n → getD xs k d ≡ f k
 at f d n xs e k h = ap (λ l. getD l k d) e ∙ getD-from f d n 0 k h ∙ ap f (zero-add k)
-
--- m rows of n entries, which count on from row to row
-abbrev pub grid : {A : Type 0} → (ℕ → A) → ℕ → ℕ → List (List A)
-grid f m n = tab (λ i. tab (λ j. f (i * n + j)) 0 n) 0 m
 
 -- and of a table of rows that is `grid f m n`
 pub at-grid : {A : Type 0} (f : ℕ → A) (d : A) (m n : ℕ) (rows : List (List A)) → rows ≡ grid f m n

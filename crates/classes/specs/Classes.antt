@@ -1,9 +1,12 @@
 -- The class of a code at a level, as the program has it.
 use Prim.Native.Nat.{ℕ}
+use mathlib.Core.List.{List}
+use lib.ListN.{getD}
 use mathlib.Core.Bool.{Bool, true, false}
 use Rattle.format.specs.Bodies.{fixed, attributes}
 use Rattle.format.specs.FileAndTags as paper
-use Rattle.format.specs.FileAndTags.{classOf}
+use Rattle.format.specs.FileAndTags.{codes, classOf}
+use Rattle.classes.specs.Tables.{grid}
 use Rattle.classes.specs.declared.Class.{Class}
 use Rattle.classes.specs.declared.Class.the-variants.{Opaque, End, Container, Fixed, Attributes}
 use Rattle.classes.specs.declared.Reads.{Reads}
@@ -19,6 +22,10 @@ named (paper.known (attributes rows)) = Attributes
 
 abbrev pub classAt : ℕ → ℕ → Class
 classAt level code = named (classOf level code)
+
+-- the table: 32 rows of 32 classes, those of the codes in order
+unfoldable pub allClasses : List (List Class)
+allClasses = grid (λ code. named (getD codes code paper.opaque)) 32 32
 
 -- the two tests of a header look at the name only
 abbrev pub ends : Class → Bool

@@ -3,7 +3,7 @@ ghost use mathlib.Core.Path.{_≡_};
 ghost use Prim.Native.Nat.{_<_};
 ghost use lib.Dec.{ltb};
 ghost use Rattle.format.specs.Tests.{pick};
-ghost use Rattle.classes.specs.Classes.{classAt, takenAs};
+ghost use Rattle.classes.specs.Classes.{classAt, allClasses, takenAs};
 ghost use Rattle.classes.specs.declared.Class.the-variants.{Opaque};
 
 pub enum Class {
@@ -92,6 +92,13 @@ pub const CLASSES: [[Class; 32]; 32] = [
     OTHERS,
     OTHERS,
 ];
+
+// The table, for a caller that looks up many classes.
+pub fn all() -> [[Class; 32]; 32]
+    ensures { λ r. ⌜ r ≡ allClasses ⌝ }
+{
+    CLASSES
+}
 
 // The class of a code at a level, from its class in the table: a code above the level is opaque.
 pub fn at_level(level: u32, code: u32, listed: Class) -> Class

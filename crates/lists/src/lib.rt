@@ -115,7 +115,7 @@ pub fn read_list(
     requires { ⌜ Bounds left a (length (now r)) k m ⌝ }
     ensures { λ x. ⌜ listed (now (t .exit)) (now (g .exit)) x ≡ laid (now (t .entry)) k (now (g .entry)) m (walkList high (classBy reads level) left (ownerOf own) a (now (r .entry))) ⌝ }
 {
-    let classes = classes::CLASSES;
+    let classes = classes::all();
     let n = r.len();
     let mut i = 0;
     let mut j = k;
