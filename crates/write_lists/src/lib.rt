@@ -142,6 +142,7 @@ pub fn write_list(level: u32, left: u32, out: &mut [u8], at: usize, t: &[u64], f
     requires { ⌜ (at ≤ longest) × (from ≤ length (now t)) ⌝ }
     ensures { λ r. ⌜ stoodAs (now (out .exit)) r ≡ over (now (out .entry)) at from (unwalkList high (classOf level) left (drop from (now (t .entry)))) ⌝ }
 {
+    let classes = classes::CLASSES;
     let mut place = at;
     let mut k = from;
     while k < t.len() {
@@ -150,7 +151,8 @@ pub fn write_list(level: u32, left: u32, out: &mut [u8], at: usize, t: &[u64], f
             return Wrote::Impossible;
         }
         let code = number as u32;
-        let class = classes::class_of(level, code);
+        let listed = classes[(code / 32) as usize][(code % 32) as usize];
+        let class = classes::at_level(level, code, listed);
         if holds_list(class) {
             if left == 0 {
                 return Wrote::Impossible;
