@@ -28,7 +28,7 @@ pub fn put32(out: &mut [u8], at: usize, n: u64)
 }
 
 // How many of n bytes from a place on an output of len bytes has room for.
-fn room_for(len: usize, at: usize, n: usize) -> usize
+pub fn room_for(len: usize, at: usize, n: usize) -> usize
     ensures { λ r. ⌜ r ≡ min n (len - at) ⌝ }
 {
     if len < at {
