@@ -17,7 +17,8 @@ use Rattle.classes.specs.declared.Class.{Class}
 use Rattle.classes.specs.declared.Class.the-variants.{End}
 use Rattle.sink.specs.Lain.{longest, Lain, lain, unlain, lies}
 use Rattle.table.proofs.EngineLaws.{sets-append}
-use Rattle.write_heads.proofs.StoreLaws.{none-left, sets-out}
+use Rattle.sink.proofs.LayingLaws.{sets-out}
+use Rattle.write_heads.proofs.StoreLaws.{none-left}
 use Rattle.write_lists.specs.Tags.{asBytes, LaidAs, valuesIn}
 
 -- ---- bytes, one by one: the whole from the start is what is left from here
