@@ -1,9 +1,8 @@
 // The class of each of the 1,024 codes, from one table.
 ghost use mathlib.Core.Path.{_≡_};
-ghost use Prim.Native.Nat.{_<_};
 ghost use lib.Dec.{ltb};
 ghost use Rattle.format.specs.Tests.{pick};
-ghost use Rattle.classes.specs.Classes.{classAt, allClasses, takenAs};
+ghost use Rattle.classes.specs.Classes.{allClasses, takenAs};
 ghost use Rattle.classes.specs.declared.Class.the-variants.{Opaque};
 
 pub enum Class {
@@ -58,7 +57,7 @@ const FIRST: [Class; 32] = [
 
 const OTHERS: [Class; 32] = [Class::Opaque; 32];
 
-pub const CLASSES: [[Class; 32]; 32] = [
+const CLASSES: [[Class; 32]; 32] = [
     FIRST,
     OTHERS,
     OTHERS,
@@ -105,18 +104,6 @@ pub fn at_level(level: u32, code: u32, listed: Class) -> Class
     ensures { λ r. ⌜ r ≡ pick (ltb level code) Opaque listed ⌝ }
 {
     if level < code { Class::Opaque } else { listed }
-}
-
-// The class of a code at a level; a code that no file can have is opaque.
-pub fn class_of(level: u32, code: u32) -> Class
-    ensures { λ r. ⌜ r ≡ classAt level code ⌝ }
-{
-    if 1024 <= code {
-        return Class::Opaque;
-    }
-    let i = (code / 32) as usize;
-    let j = (code % 32) as usize;
-    at_level(level, code, CLASSES[i][j])
 }
 
 // The class that a walk takes a tag for: where only lists are read, a body that has no list in it is opaque.

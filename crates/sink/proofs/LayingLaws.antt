@@ -11,10 +11,11 @@ use lib.Arith.{digits-lt}
 use lib.Pow.{pow-pos, pow-lt, pow-add, high as hi, low as lo, split, shr-lt}
 use lib.Dec.{eqb}
 use borrow.Author.Tests.{eq-eqb, ne-eqb, eqb-true, eqb-false}
+use Rattle.bits.proofs.StoreLaws.{sets-out}
 use Rattle.format.specs.Bits.{high}
 use Rattle.format.specs.Items.{skipped}
 use Rattle.format.specs.WritingItems.{dig}
-use Rattle.format.proofs.BitLaws.{bit-of}
+use Rattle.format.proofs.BitLaws.{bit-of, length-dig}
 use Rattle.format.specs.WritingBodies.{bit, val, pack}
 use Rattle.format.specs.Tests.{pick}
 use Rattle.format.proofs.ByteLaws.{val-lt, dig-val}
@@ -214,3 +215,23 @@ lay-pack o i (suc k) bs h =
     ∙ ap (λ (st : State). lay st (drop 8 bs)) (lay-byte o i v (val-lt high 8 bs) refl refl ∙ mk-eq refl (omega arith) refl)
     ∙ lay-pack (set o i v) (suc i) k (drop 8 bs) (rw length-drop (omega arith))
     ∙ mk-eq refl (omega arith) refl
+
+-- ---- past the end of the output
+-- whole bytes are dropped, and what does not fill one waits
+pub flow-out : (o : List ℕ) (i n x m : ℕ) {q : ℕ} → length o ≤ i → x < 2 ^ n → m ≡ 2 ^ (n % 8) → i * 8 + n ≡ q → lay (mk o (i * 8) 0) (dig high n x) ≡ mk o q (x % m)
+flow-out o i n x m h l e d =
+    let c : n ≡ 8 * (n / 8) + n % 8 = omega arith in
+    let s : x ≡ x / 2 ^ (n % 8) * 2 ^ (n % 8) + x % 2 ^ (n % 8) = sym (split x (n % 8)) in
+    let b : x / 2 ^ (n % 8) < 2 ^ (8 * (n / 8)) = shr-lt (8 * (n / 8)) (n % 8) (subst (λ (z : ℕ). x < 2 ^ z) c l) in
+    let bs : List Bool = dig high (8 * (n / 8)) (x / 2 ^ (n % 8)) in
+    let f : i * 8 ≡ 8 * i = omega arith in
+    let g : 8 * (i + n / 8) ≡ (i + n / 8) * 8 = omega arith in
+    let whole : lay (mk o (i * 8) 0) bs ≡ mk o ((i + n / 8) * 8) 0 =
+    ap (λ (z : ℕ). lay (mk o z 0) bs) f ∙ lay-pack o i (n / 8) bs (length-dig high (8 * (n / 8)) (x / 2 ^ (n % 8)))
+    ∙ mk-eq (sets-out o i (pack high (n / 8) bs) h) g refl in
+    ap₂ (λ (j y : ℕ). lay (mk o (i * 8) 0) (dig high j y)) c s
+    ∙ ap (lay (mk o (i * 8) 0)) (dig-append (8 * (n / 8)) (n % 8) (x / 2 ^ (n % 8)) (x % 2 ^ (n % 8)) b (mod-lt x (pow-pos (n % 8))))
+    ∙ lay-append (mk o (i * 8) 0) bs (dig high (n % 8) (x % 2 ^ (n % 8)))
+    ∙ ap (λ (st : State). lay st (dig high (n % 8) (x % 2 ^ (n % 8)))) whole
+    ∙ flow-few o (i + n / 8) (n % 8) (x % 2 ^ (n % 8)) (omega arith) (mod-lt x (pow-pos (n % 8))) (omega arith)
+    ∙ mk-eq refl refl (ap (λ (z : ℕ). x % z) (sym e))

@@ -55,6 +55,12 @@ pub fn put_bits(out: &mut [u8], s: Sink, v: u64, w: usize) -> Sink
     let mut i = p / 8;
     let mut n = p % 8 + w;
     let mut x = a * power(w) + v;
+    let place = BitPlace(p + w);
+    // Past the end no byte is stored: only the bits that wait are left to know.
+    if out.len() <= i {
+        let part = x % power(n % 8);
+        return Sink { place, part };
+    }
     while 8 <= n {
         n -= 8;
         let m = power(n);
@@ -62,10 +68,7 @@ pub fn put_bits(out: &mut [u8], s: Sink, v: u64, w: usize) -> Sink
         x %= m;
         i += 1;
     }
-    Sink {
-        place: BitPlace(p + w),
-        part: x,
-    }
+    Sink { place, part: x }
 }
 
 // The next whole byte: zero bits up to it.

@@ -1,71 +1,87 @@
 -- Fields, widths and runs of fields, written.
-use Prim.Native.Nat.{ℕ, zero, suc, pred, _+_, _-_, _*_, _/_, _%_, _^_, _≤_, _<_}
+use Prim.Native.Nat.{ℕ, zero, suc, pred, _+_, _-_, _*_, _/_, _%_, _^_, _≤_, _<_, min}
 use mathlib.Core.List.{List, [], _∷_}
-use mathlib.Core.Path.{_≡_, refl, sym, ap, _∙_, subst}
-use mathlib.Core.Bool.{Bool, true, false}
-use native.Mathlib.Nat.{pow-suc}
+use mathlib.Core.Path.{_≡_, refl, sym, ap, ap₂, _∙_, subst}
+use mathlib.Core.Bool.{Bool, true, false, not}
+use native.Mathlib.Nat.{add-zero, pow-suc, mod-eq-of-lt}
+use native.Mathlib.Numerals.{add-one}
 use native.Mathlib.Omega.{arith}
 use lib.ListN.{length, getD, take, drop, length-drop}
 use lib.Seq.{getD-drop}
-use lib.Pow.{pow-pos, pow-lt}
+use lib.Pow.{pow-pos, pow-lt, high-ones, low as lo}
 use lib.Dec.{leb, ltb}
-use borrow.Author.Tests.{lt-ltb, le-ltb, eq-eqb, ne-eqb, ltb-false, leb-true, leb-false}
+use borrow.Author.Tests.{lt-ltb, le-ltb, eq-eqb, ne-eqb, ltb-true, ltb-false, leb-true, leb-false}
 use Rattle.format.specs.Tests.{pick}
 use Rattle.format.specs.Bits.{high}
 use Rattle.format.specs.Formats.{item, Item, _▹_, times, the}
 use Rattle.format.specs.Items.{signExtend}
 use Rattle.format.specs.WritingItems.{dig, Bits, spelt, none, single, writeItem, spellUB, undo, unextend}
 use Rattle.format.specs.WritingFormats.{unrun}
-use Rattle.table.specs.Fields.{allows, fieldOf, announces, announced}
+use Rattle.table.specs.Fields.{allows, fieldOf, signed, announces, announced}
 use Rattle.table.specs.declared.fields.Field.{Field}
 use Rattle.table.specs.declared.fields.Field.the-variants.{Verb, Interpolation, Bit, ByteValue, Coordinate}
-use Rattle.sink.specs.Laying.{State, at}
+use Rattle.format.proofs.BitLaws.{length-dig}
+use Rattle.sink.specs.Laying.{State, at, lay, Holds}
 use Rattle.sink.specs.declared.Sink.{Sink}
+use Rattle.sink.proofs.LayingLaws.{lay-ok, lay-place}
 use Rattle.spelling.specs.declared.Put.{Put}
 use Rattle.spelling.specs.declared.Put.the-variants.{Done, Impossible}
-use Rattle.spelling.specs.Writing.{Sunk, laid, gone, seen, ran, Fine}
-use Rattle.spelling.specs.Spellings.{fieldSpelling, Announces}
-use Rattle.spelling.proofs.RunLaws.{then-done, then-stop, times-none, times-next, times-stop, ran-fine, one-done, OneDone, the-one}
+use Rattle.spelling.specs.Writing.{gone, seen, ends, ran, limit, Fine, finish}
+use Rattle.spelling.specs.Spellings.{Announces}
+use Rattle.spelling.proofs.RunLaws.{then-done, then-stop, finish-ends, times-end, times-one, times-bad, times-few, one-done, OneDone, the-one}
 use Rattle.spelling.proofs.NumberLaws.{passing-single}
 
 -- ---- UB[w]
-pub ub-in : (w v : ℕ) → v < 2 ^ w → spellUB high w v ≡ spelt (dig high w v)
+ub-in : (w v : ℕ) → v < 2 ^ w → spellUB high w v ≡ spelt (dig high w v)
 ub-in w v h = rw (lt-ltb _ _ h)
 
-pub ub-out : (w v : ℕ) → 2 ^ w ≤ v → spellUB high w v ≡ none
+ub-out : (w v : ℕ) → 2 ^ w ≤ v → spellUB high w v ≡ none
 ub-out w v h = rw (le-ltb _ _ h)
 
--- ---- SB[w]: m is 2 ^ w
-module _ (w v m : ℕ) (low : 1 ≤ w) (few : w ≤ 32) (is : m ≡ 2 ^ w) where
+-- ---- SB[w]: m is 2 ^ w and h half of it; u is v + h, wrapped
+module _ (w v m h u : ℕ) (low : 1 ≤ w) (few : w ≤ 32) (is : m ≡ 2 ^ w) (half : h ≡ m / 2) (small : v < 2 ^ 64) (sum : u ≡ (v + h) % 2 ^ 64) where
   m-small : m < 2 ^ 33
   m-small = let k : w < 33 = omega arith in rw is (pow-lt k)
 
-  even : m / 2 * 2 ≡ m
+  even : h * 2 ≡ m
   even =
       let e : w ≡ suc (w - 1) = omega arith in
       let p : 2 ^ w ≡ 2 ^ (w - 1) * 2 = ap (λ (n : ℕ). 2 ^ n) e ∙ pow-suc 2 (w - 1) in
       omega arith
 
-  pub sb-plus : v < m / 2 → undo (signExtend w) (unextend w) (spellUB high w) v ≡ spelt (dig high w v)
-  sb-plus h =
-      let a : ltb (v * 2) (2 ^ w) ≡ true = lt-ltb (v * 2) (2 ^ w) (omega (arith, even)) in
-      let b : ltb v (2 ^ w) ≡ true = lt-ltb v (2 ^ w) (omega (arith, even)) in
-      rw (a, a, eq-eqb v v refl, b)
+  -- 2 ^ 64 is a multiple of m, so a negative number leaves its field
+  wraps : (d : ℕ) → d + (2 ^ 64 - 2 ^ w) ≡ v → d < m → v % m ≡ d
+  wraps d e l =
+      let c : 64 - w + w ≡ 64 = omega arith in
+      let o : 2 ^ 64 - 2 ^ w ≡ (2 ^ (64 - w) - 1) * 2 ^ w = subst (λ (n : ℕ). 2 ^ n - 2 ^ w ≡ (2 ^ (64 - w) - 1) * 2 ^ w) c (high-ones (64 - w) w) in
+      let q : v ≡ (2 ^ (64 - w) - 1) * 2 ^ w + d = omega arith in
+      rw (is, q) (lo (2 ^ (64 - w) - 1) w (omega arith))
 
-  pub sb-minus : (u : ℕ) → v < 2 ^ 64 → m / 2 ≤ v → u ≡ (v + m) % 2 ^ 64 → u < m → m / 2 ≤ u → undo (signExtend w) (unextend w) (spellUB high w) v ≡ spelt (dig high w u)
-  sb-minus u hv h e l k =
-      let z : v - (2 ^ 64 - 2 ^ w) ≡ u = omega (arith, m-small, even) in
-      let q : u + (2 ^ 64 - 2 ^ w) ≡ v = omega (arith, m-small, even) in
-      let a : ltb (v * 2) (2 ^ w) ≡ false = le-ltb (v * 2) (2 ^ w) (omega (arith, even)) in
-      let b : ltb (u * 2) (2 ^ w) ≡ false = le-ltb (u * 2) (2 ^ w) (omega (arith, even)) in
-      let d : ltb u (2 ^ w) ≡ true = lt-ltb u (2 ^ w) (omega arith) in
-      rw (a, z, b, eq-eqb _ _ q, d)
+  pub sb-in : u < m → undo (signExtend w) (unextend w) (spellUB high w) v ≡ spelt (dig high w (v % m))
+  sb-in l = go (ltb v h) refl
+    where
+      go : (c : Bool) → ltb v h ≡ c → undo (signExtend w) (unextend w) (spellUB high w) v ≡ spelt (dig high w (v % m))
+      go true q =
+          let k : v < h = ltb-true v h q in
+          let a : ltb (v * 2) (2 ^ w) ≡ true = lt-ltb (v * 2) (2 ^ w) (omega (arith, even)) in
+          let b : ltb v (2 ^ w) ≡ true = lt-ltb v (2 ^ w) (omega (arith, even)) in
+          let r : v % m ≡ v = mod-eq-of-lt (omega (arith, even)) in
+          rw (a, a, eq-eqb v v refl, b, r)
+      go false q =
+          let k : h ≤ v = ltb-false v h q in
+          let d : ℕ = v - (2 ^ 64 - 2 ^ w) in
+          let e : d + (2 ^ 64 - 2 ^ w) ≡ v = omega (arith, m-small, even) in
+          let r : v % m ≡ d = wraps d e (omega (arith, m-small, even)) in
+          let a : ltb (v * 2) (2 ^ w) ≡ false = le-ltb (v * 2) (2 ^ w) (omega (arith, even)) in
+          let b : ltb (d * 2) (2 ^ w) ≡ false = le-ltb (d * 2) (2 ^ w) (omega (arith, m-small, even)) in
+          let f : ltb d (2 ^ w) ≡ true = lt-ltb d (2 ^ w) (omega (arith, m-small, even)) in
+          rw (a, b, eq-eqb _ _ e, f, r)
 
-  pub sb-none : (u : ℕ) → v < 2 ^ 64 → m / 2 ≤ v → u ≡ (v + m) % 2 ^ 64 → (u < m → m / 2 ≤ u → ⊥) → undo (signExtend w) (unextend w) (spellUB high w) v ≡ none
-  sb-none u hv h e not = go (ltb ((v - (2 ^ 64 - 2 ^ w)) * 2) (2 ^ w)) refl
+  pub sb-out : m ≤ u → undo (signExtend w) (unextend w) (spellUB high w) v ≡ none
+  sb-out l = go (ltb ((v - (2 ^ 64 - 2 ^ w)) * 2) (2 ^ w)) refl
     where
       a : ltb (v * 2) (2 ^ w) ≡ false
-      a = le-ltb (v * 2) (2 ^ w) (omega (arith, even))
+      a = le-ltb (v * 2) (2 ^ w) (omega (arith, m-small, even))
 
       go : (c : Bool) → ltb ((v - (2 ^ 64 - 2 ^ w)) * 2) (2 ^ w) ≡ c → undo (signExtend w) (unextend w) (spellUB high w) v ≡ none
       go true q = rw (a, q, ne-eqb (v - (2 ^ 64 - 2 ^ w)) v (λ z. omega (arith, m-small, even, pow-pos w)))
@@ -73,11 +89,17 @@ module _ (w v m : ℕ) (low : 1 ≤ w) (few : w ≤ 32) (is : m ≡ 2 ^ w) where
           rw (
             a,
             q,
-            ne-eqb (v - (2 ^ 64 - 2 ^ w) + (2 ^ 64 - 2 ^ w)) v
-                (λ z. not (omega (arith, m-small, even)) (omega (arith, m-small, even, ltb-false ((v - (2 ^ 64 - 2 ^ w)) * 2) (2 ^ w) q))),
+            ne-eqb (v - (2 ^ 64 - 2 ^ w) + (2 ^ 64 - 2 ^ w)) v (λ z. omega (arith, m-small, even, ltb-false ((v - (2 ^ 64 - 2 ^ w)) * 2) (2 ^ w) q)),
           )
 
 -- ---- one field by its kind
+abbrev fieldSpelling : Field → ℕ → ℕ → Bits
+fieldSpelling Verb w v = spellUB high w v
+fieldSpelling Interpolation w v = spellUB high w v
+fieldSpelling Bit w v = spellUB high w v
+fieldSpelling ByteValue w v = spellUB high w v
+fieldSpelling Coordinate w v = undo (signExtend w) (unextend w) (spellUB high w) v
+
 unfoldable pub fieldBits : Field → ℕ → ℕ → ℕ → Bits
 fieldBits f w p v = pick (allows f v) (fieldSpelling f w v) none
 
@@ -89,27 +111,95 @@ field-is Bit w ns p = refl
 field-is ByteValue w ns p = passing-single (λ ns. leb (the ns) 255) (spellUB high w) ns
 field-is Coordinate w ns p = refl
 
-pub field-out : (f : Field) (w p v : ℕ) {c : Bool} → c ≡ allows f v → c ≡ false → fieldBits f w p v ≡ none
+pub field-sb : (w p v : ℕ) {b : Bits} → undo (signExtend w) (unextend w) (spellUB high w) v ≡ b → fieldBits Coordinate w p v ≡ b
 unfolding fieldBits
-field-out f w p v e h = rw (sym e ∙ h)
+field-sb w p v e = e
 
-pub field-in : (f : Field) (w : ℕ) (st : State) (v : ℕ) {c : Bool} {x : Sunk} → c ≡ allows f v → c ≡ true → x ≡ laid st (fieldSpelling f w v) → x ≡ laid st (fieldBits f w (st .place) v)
-unfolding fieldBits
-field-in f w st v e h d = d ∙ rw (sym e ∙ h)
+unsigned-is : (f : Field) (w v : ℕ) → signed f ≡ false → fieldSpelling f w v ≡ spellUB high w v
+unsigned-is Verb w v h = refl
+unsigned-is Interpolation w v h = refl
+unsigned-is Bit w v h = refl
+unsigned-is ByteValue w v h = refl
+unsigned-is Coordinate w v h = absurd (let z : _≡_ {A = ℕ} 0 1 = cc in omega arith)
 
--- ---- a run of fields: left of n are to come, from index j on, and those before announce c
-pub record Going (f : Field) (w : ℕ) (t o : List ℕ) (s : Sink) (k n : ℕ) (u : List ℕ) (cur : Sink) (j left c : ℕ) : Type 0 where
+-- m is 2 ^ w, and c whether the number is allowed
+module _ (f : Field) (w p v m : ℕ) (un : signed f ≡ false) (is : m ≡ 2 ^ w) where
+  pub field-large : m ≤ v → fieldBits f w p v ≡ none
+  unfolding fieldBits
+  field-large h = go (allows f v)
+    where
+      go : (c : Bool) → pick c (fieldSpelling f w v) none ≡ none
+      go true = unsigned-is f w v un ∙ ub-out w v (omega arith)
+      go false = refl
+
+  pub field-out : {c : Bool} → c ≡ allows f v → not c ≡ true → fieldBits f w p v ≡ none
+  unfolding fieldBits
+  field-out {c} e h = go c e h
+    where
+      go : (c : Bool) → c ≡ allows f v → not c ≡ true → pick (allows f v) (fieldSpelling f w v) none ≡ none
+      go true e h = absurd (let z : _≡_ {A = ℕ} 0 1 = cc in omega arith)
+      go false e h = rw (sym e)
+
+  pub field-in : {c : Bool} → c ≡ allows f v → not c ≡ false → v < m → fieldBits f w p v ≡ spelt (dig high w v)
+  unfolding fieldBits
+  field-in {c} e h l = go c e h
+    where
+      go : (c : Bool) → c ≡ allows f v → not c ≡ false → pick (allows f v) (fieldSpelling f w v) none ≡ spelt (dig high w v)
+      go true e h = rw (sym e) (unsigned-is f w v un ∙ ub-in w v (omega arith))
+      go false e h = absurd (let z : _≡_ {A = ℕ} 0 1 = cc in omega arith)
+
+-- ---- a run of fields: i of n were put, and no place was judged
+pub record Going (f : Field) (w : ℕ) (t o : List ℕ) (s : Sink) (k n : ℕ) (u : List ℕ) (cur : Sink) (i : ℕ) : Type 0 where
   pub size : length u ≡ length o
-  pub fine : Fine cur
-  pub up : k ≤ j
-  pub rest : ran t (at o s) k (times n (fieldOf f w)) ≡ ran t (at u cur) j (times left (fieldOf f w))
-  pub counts : c ≡ announced f (take (j - k) (drop k t))
-  pub few : c + 6 * left ≤ 6 * n
+  pub within : i ≤ n
+  pub holds : Holds (cur .place .0) (cur .part)
+  pub low : cur .place .0 ≤ limit + 32 * i
+  pub rest : ran t (at o s) k (times n (fieldOf f w)) ≡ ran t (at u cur) (k + i) (times (n - i) (fieldOf f w))
 
-pub fields-none : (f : Field) (w : ℕ) (t o : List ℕ) (s : Sink) (k n : ℕ) → Fine s → Going f w t o s k n o s k n 0
-fields-none f w t o s k n fine =
-    let z : k - k ≡ 0 = omega arith in
-    record { size = refl; fine = fine; up = omega arith; rest = refl; counts = rw z; few = omega arith }
+pub fields-few : (f : Field) (w : ℕ) (t o : List ℕ) (s : Sink) (k n : ℕ) {m : ℕ} → m ≡ min n (length t - k) → m < n → gone ≡ ran t (at o s) k (times n (fieldOf f w))
+fields-few f w t o s k n e h = sym (times-few (fieldOf f w) (fieldBits f w) (field-is f w) t (at o s) k n (omega arith))
+
+pub fields-start : (f : Field) (w : ℕ) (t o : List ℕ) (s : Sink) (k n : ℕ) → Fine s → Going f w t o s k n o s 0
+fields-start f w t o s k n fine = record {
+  size = refl;
+  within = omega arith;
+  holds = fine .0;
+  low = omega (arith, fine .1);
+  rest = ap₂ (λ (j m : ℕ). ran t (at o s) j (times m (fieldOf f w))) (sym (add-zero k)) (let z : n ≡ n - 0 = omega arith in z);
+}
+
+module _ {f : Field} {w : ℕ} {t o : List ℕ} {s : Sink} {k n : ℕ} {u : List ℕ} {cur : Sink} {i : ℕ} (g : Going f w t o s k n u cur i) (more : i < n) {m : ℕ} (is : m ≡ min n (length t - k)) (few : n ≤ m) where
+  pub fields-bad : fieldBits f w (cur .place .0) (getD t (k + i) 0) ≡ none → gone ≡ ran t (at o s) k (times n (fieldOf f w))
+  fields-bad e = sym (g .rest ∙ times-bad (fieldOf f w) (fieldBits f w) (field-is f w) t (at u cur) (k + i) (n - i) (omega arith) (omega arith) e)
+
+  pub fields-next : (x : ℕ) {u′ : List ℕ} {s′ : Sink} → w ≤ 32 → fieldBits f w (cur .place .0) (getD t (k + i) 0) ≡ spelt (dig high w x) → length u′ ≡ length u
+      → at u′ s′ ≡ lay (at u cur) (dig high w x) → Going f w t o s k n u′ s′ (i + 1)
+  fields-next x {u′} {s′} h e size d = record {
+    size = size ∙ g .size;
+    within = omega arith;
+    holds = subst (λ (z : State). Holds (z .place) (z .part)) (sym d) (lay-ok (at u cur) (dig high w x) (g .holds));
+    low =
+        let p : s′ .place .0 ≡ cur .place .0 + length (dig high w x) = ap (λ (z : State). z .place) d ∙ lay-place (at u cur) (dig high w x) in
+        omega (arith, g .low, length-dig high w x);
+    rest =
+        let a : k + i + 1 ≡ k + (i + 1) = omega arith in
+        let b : n - i - 1 ≡ n - (i + 1) = omega arith in
+        g .rest
+        ∙ times-one (fieldOf f w) (fieldBits f w) (field-is f w) t (at u cur) (k + i) (n - i) (dig high w x) (omega arith) (omega arith) e
+        ∙ ap (λ (z : State). ran t z (k + i + 1) (times (n - i - 1) (fieldOf f w))) (sym d)
+        ∙ ap₂ (λ (j l : ℕ). ran t (at u′ s′) j (times l (fieldOf f w))) a b;
+  }
+
+pub fields-over : {f : Field} {w : ℕ} {t o : List ℕ} {s : Sink} {k n : ℕ} {u : List ℕ} {cur : Sink} {i : ℕ} → Going f w t o s k n u cur i → n ≤ i
+    → {R : Put} → R ≡ finish cur (k + n) → seen u R ≡ ran t (at o s) k (times n (fieldOf f w))
+fields-over {f} {w} {t} {o} {s} {k} {n} {u} {cur} {i} g h e =
+    let a : n - i ≡ 0 = omega arith in
+    let b : k + i ≡ k + n = omega (arith, g .within) in
+    ap (seen u) e ∙ finish-ends u cur (k + n) ∙ sym (g .rest ∙ times-end t (at u cur) (k + i) (fieldOf f w) (n - i) a ∙ ap (ends (at u cur)) b)
+
+-- ---- and those that were put announce c
+abbrev pub Counted : Field → List ℕ → ℕ → ℕ → ℕ → Type 0
+Counted f t k i c = (c ≡ announced f (take i (drop k t))) × (c ≤ 6 * i)
 
 announced-one : (f : Field) (xs : List ℕ) (i v : ℕ) → i < length xs → v ≡ getD xs i 0 → announced f (take (suc i) xs) ≡ announced f (take i xs) + announces f v
 announced-one f [] i v h e = absurd (omega arith)
@@ -118,42 +208,34 @@ announced-one f (x ∷ xs) (suc i) v h e =
     let q : announced f (take (suc i) xs) ≡ announced f (take i xs) + announces f v = announced-one f xs i v (omega arith) e in
     rw q (omega arith)
 
-module _ {f : Field} {w : ℕ} {t o : List ℕ} {s : Sink} {k n : ℕ} {u : List ℕ} {cur : Sink} {j left c : ℕ} (g : Going f w t o s k n u cur j left c) (some : 0 < left)
-    (u′ : List ℕ) (R : Put) (first : seen u′ R ≡ ran t (at u cur) j (fieldOf f w)) where
-  fields-stop : R ≡ Impossible → ran t (at o s) k (times n (fieldOf f w)) ≡ gone
-  fields-stop e = g .rest ∙ times-stop t (at u cur) j (fieldOf f w) left some u′ R first e
+pub counted-next : (f : Field) (t : List ℕ) (k i : ℕ) {c m : ℕ} → Counted f t k i c → k + i < length t → m ≡ announces f (getD t (k + i) 0) → m ≤ 6 → Counted f t k (i + 1) (c + m)
+counted-next f t k i a l e h =
+    let b : i < length (drop k t) = rw length-drop (omega arith) in
+    (rw (add-one i, announced-one f (drop k t) i (getD t (k + i) 0) b (sym (getD-drop k t i 0)), e, a .0), omega (arith, a .1))
 
-  pub fields-stopped : (m : ℕ) → R ≡ Impossible → (seen u′ R ≡ ran t (at o s) k (times n (fieldOf f w))) × Announces f t k n R m
-  fields-stopped m e = (ap (seen u′) e ∙ sym (fields-stop e), subst (λ (x : Put). Announces f t k n x m) (sym e) tt)
+pub counted-over : (f : Field) (t : List ℕ) (k n i : ℕ) {c : ℕ} (s : Sink) {R : Put} → Counted f t k i c → i ≡ n → R ≡ finish s (k + n) → Announces f t k n R c
+counted-over f t k n i {c} s a z e = subst (λ (x : Put). Announces f t k n x c) (sym e) (go (leb (s .place .0) limit))
+  where
+    go : (b : Bool) → Announces f t k n (pick b (Done s (k + n)) Impossible) c
+    go true = let q : k + n - k ≡ i = omega arith in (rw q (a .0), omega (arith, a .1))
+    go false = tt
 
-  module _ (s′ : Sink) (i : ℕ) (e : R ≡ Done s′ i) where
-    done : OneDone (fieldOf f w) (fieldBits f w) (field-is f w) t (at u cur) j i
-    done = one-done (fieldOf f w) (fieldBits f w) (field-is f w) t (at u cur) j (at u′ s′) i (sym first ∙ ap (seen u′) e)
+-- SB fields announce none
+none-announced : (vs : List ℕ) → 0 ≡ announced Coordinate vs
+none-announced [] = refl
+none-announced (v ∷ vs) = let e : 0 ≡ announced Coordinate vs = none-announced vs in rw (← e) refl
 
-    pub field-inside : j < length t
-    field-inside = done .inside
+signed-announces : (t : List ℕ) (k n : ℕ) (R : Put) → Announces Coordinate t k n R 0
+signed-announces t k n (Done s j) = (none-announced (take (j - k) (drop k t)), omega arith)
+signed-announces t k n Impossible = tt
 
-    pub fields-next : (m : ℕ) → length u′ ≡ length u → m ≡ announces f (getD t j 0) → m ≤ 6 → Going f w t o s k n u′ s′ i (left - 1) (c + m)
-    fields-next m size e′ small = record {
-      size = size ∙ g .size;
-      fine = ran-fine t u cur j (fieldOf f w) u′ R (g .fine) first s′ i e;
-      up = omega (arith, done .next, g .up);
-      rest = g .rest ∙ times-next t (at u cur) j (fieldOf f w) left some u′ R first s′ i e;
-      counts =
-          let a : i - k ≡ suc (j - k) = omega (arith, done .next, g .up) in
-          let b : getD (drop k t) (j - k) 0 ≡ getD t j 0 = dropped in
-          let l : j - k < length (drop k t) = rw length-drop (omega (arith, done .inside, g .up)) in
-          rw (a, announced-one f (drop k t) (j - k) (getD t j 0) l (sym b), e′, g .counts);
-      few = omega (arith, g .few, small, some);
-    }
-      where
-        dropped : getD (drop k t) (j - k) 0 ≡ getD t j 0
-        dropped = getD-drop k t (j - k) 0 ∙ ap (λ (x : ℕ). getD t x 0) (let q : k + (j - k) ≡ j = omega (arith, g .up) in q)
-
-pub fields-over : {f : Field} {w : ℕ} {t o : List ℕ} {s : Sink} {k n : ℕ} {u : List ℕ} {cur : Sink} {j left c : ℕ} → Going f w t o s k n u cur j left c → left ≡ 0
-    → (seen u (Done cur j) ≡ ran t (at o s) k (times n (fieldOf f w))) × Announces f t k n (Done cur j) c
-fields-over {f} {w} {t} {o} {s} {k} {n} {u} {cur} {j} {left} g e =
-    (sym (g .rest ∙ times-none t (at u cur) j (fieldOf f w) left (g .fine .1) e), (g .counts, omega (arith, g .few)))
+pub signed-run : (f : Field) (w : ℕ) (t : List ℕ) (st : State) (k n : ℕ) (u : List ℕ) (R : Put) → signed f ≡ true → seen u R ≡ ran t st k (times n (fieldOf Coordinate w))
+    → (seen u R ≡ ran t st k (times n (fieldOf f w))) × Announces f t k n R 0
+signed-run Verb w t st k n u R h e = absurd (let z : _≡_ {A = ℕ} 0 1 = cc in omega arith)
+signed-run Interpolation w t st k n u R h e = absurd (let z : _≡_ {A = ℕ} 0 1 = cc in omega arith)
+signed-run Bit w t st k n u R h e = absurd (let z : _≡_ {A = ℕ} 0 1 = cc in omega arith)
+signed-run ByteValue w t st k n u R h e = absurd (let z : _≡_ {A = ℕ} 0 1 = cc in omega arith)
+signed-run Coordinate w t st k n u R h e = (e, signed-announces t k n R)
 
 -- what a run that was written announces
 pub announces-done : (f : Field) (t : List ℕ) (k n m : ℕ) {R : Put} {s : Sink} {j : ℕ} → Announces f t k n R m → R ≡ Done s j → (m ≡ announced f (take (j - k) (drop k t))) × (m ≤ 6 * n)

@@ -4,6 +4,7 @@ use mathlib.Core.List.{List, [], _∷_, _++_}
 use mathlib.Core.Path.{_≡_, refl, sym, ap, ap₂, _∙_, subst}
 use mathlib.Core.Bool.{Bool, true, false}
 use native.Mathlib.Nat.{add-zero, add-assoc}
+use native.Mathlib.Numerals.{add-one}
 use native.Mathlib.Omega.{arith}
 use lib.ListN.{length, take, drop, getD, length-append, length-drop}
 use lib.Seq.{drop-drop, drop-cons, take-append-seam, drop-append-seam}
@@ -103,21 +104,15 @@ module _ (t : List ℕ) (st : State) (k : ℕ) (f : Format) (g : List ℕ → Fo
   then-off e = ap (seen u) e ∙ sym (then-stop e)
 
 -- ---- n in turn
-pub times-none : (t : List ℕ) (st : State) (k : ℕ) (f : Format) (n : ℕ) → st .place ≤ limit → n ≡ 0 → ran t st k (times n f) ≡ here st k
-unfolding times
-times-none t st k f n h e = rw e (ran-nothing t st k h)
-
 times-pred : (f : Format) (n : ℕ) → 0 < n → times n f ≡ (f ▹ λ xs. times (n - 1) f)
 unfolding times
 times-pred f zero h = absurd (omega arith)
 times-pred f (suc n) h = let e : suc n - 1 ≡ n = omega arith in rw e
 
-module _ (t : List ℕ) (st : State) (k : ℕ) (f : Format) (n : ℕ) (some : 0 < n) (u : List ℕ) (R : Put) (first : seen u R ≡ ran t st k f) where
-  pub times-next : (s : Sink) (j : ℕ) → R ≡ Done s j → ran t st k (times n f) ≡ ran t (at u s) j (times (n - 1) f)
-  times-next s j e = ap (ran t st k) (times-pred f n some) ∙ then-done t st k f (λ xs. times (n - 1) f) u R first s j e
-
-  pub times-stop : R ≡ Impossible → ran t st k (times n f) ≡ gone
-  times-stop e = ap (ran t st k) (times-pred f n some) ∙ then-stop t st k f (λ xs. times (n - 1) f) u R first e
+-- none of them: no place was judged before
+pub times-end : (t : List ℕ) (st : State) (k : ℕ) (f : Format) (n : ℕ) → n ≡ 0 → ran t st k (times n f) ≡ ends st k
+unfolding ran unrun after times
+times-end t st k f n e = rw (e, lay-none, add-zero)
 
 -- ---- what was written leaves a sink to go on with
 pub ran-fine : (t o : List ℕ) (s : Sink) (k : ℕ) (f : Format) (u : List ℕ) (R : Put) → Fine s → seen u R ≡ ran t (at o s) k f
@@ -167,6 +162,20 @@ module _ {t o : List ℕ} {s : Sink} {k : ℕ} {f : Format} {u : List ℕ} {cur 
   going-over e = sym (going .rest ∙ ap (ran t (at u cur) j) e ∙ ran-nothing t (at u cur) j (going .fine .1))
 
 -- ---- one number: g p v are the bits of v from place p on
+too-few : (f : Format) (g : ℕ → ℕ → Bits) → ((ns : List ℕ) (p : ℕ) → unrun high f ns p ≡ single (g p) ns) → (n : ℕ) (ns : List ℕ) (p : ℕ) → length ns < n → unrun high (times n f) ns p ≡ cannot
+unfolding unrun times
+too-few f g is zero ns p h = absurd (omega arith)
+too-few f g is (suc n) ns p h = ap (λ (w : Written). onward w p (λ xs ys q. unrun high (times n f) ys q)) (is ns p) ∙ go ns h (too-few f g is n)
+  where
+    on : (v : ℕ) (ys : List ℕ) → ((q : ℕ) → unrun high (times n f) ys q ≡ cannot) → (b : Bits) → onward (put (v ∷ []) b ys) p (λ xs ys q. unrun high (times n f) ys q) ≡ cannot
+    on v ys more (spelt bs) = ap (adjoin (v ∷ []) bs) (more (p + length bs))
+    on v ys more none = refl
+
+    go : (ns : List ℕ) → length ns < suc n → ((ys : List ℕ) (q : ℕ) → length ys < n → unrun high (times n f) ys q ≡ cannot)
+        → onward (single (g p) ns) p (λ xs ys q. unrun high (times n f) ys q) ≡ cannot
+    go [] h more = refl
+    go (v ∷ ys) h more = on v ys (λ q. more ys q (omega arith)) (g p v)
+
 module _ (f : Format) (g : ℕ → ℕ → Bits) (is : (ns : List ℕ) (p : ℕ) → unrun high f ns p ≡ single (g p) ns) (t : List ℕ) (st : State) (k : ℕ) where
   pub one-none : length t ≤ k → ran t st k f ≡ gone
   unfolding ran after
@@ -183,6 +192,30 @@ module _ (f : Format) (g : ℕ → ℕ → Bits) (is : (ns : List ℕ) (p : ℕ)
   pub one-bad : k < length t → g (st .place) (getD t k 0) ≡ none → ran t st k f ≡ gone
   unfolding after
   one-bad h e = one-some h ∙ rw e
+
+  -- what follows goes on after its bits, wherever they end: if that is past the limit, the whole is gone either way
+  one-then : (h : List ℕ → Format) (bs : List Bool) → k < length t → g (st .place) (getD t k 0) ≡ spelt bs → ran t st k (f ▹ h) ≡ ran t (lay st bs) (k + 1) (h (getD t k 0 ∷ []))
+  unfolding ran unrun after
+  one-then h bs l e =
+      ap (λ (w : Written). after st k (onward w (st .place) (λ xs ys q. unrun high (h xs) ys q)))
+      (is (drop k t) (st .place) ∙ ap (single (g (st .place))) (drop-cons t k 0 l) ∙ ap (λ (b : Bits). put (getD t k 0 ∷ []) b (drop (suc k) t)) e)
+      ∙ go (unrun high (h (getD t k 0 ∷ [])) (drop (suc k) t) (st .place + length bs))
+      ∙ ap₂ (λ (i p : ℕ). after (lay st bs) i (unrun high (h (getD t k 0 ∷ [])) (drop i t) p)) (sym (add-one k)) (sym (lay-place st bs))
+    where
+      go : (w : Written) → after st k (adjoin (getD t k 0 ∷ []) bs w) ≡ after (lay st bs) (suc k) w
+      go (wrote xs bs′ ys) = ap₂ ends (lay-append st bs bs′) (let z : k + suc (length xs) ≡ suc k + length xs = omega arith in z)
+      go cannot = refl
+
+  pub times-one : (n : ℕ) (bs : List Bool) → 0 < n → k < length t → g (st .place) (getD t k 0) ≡ spelt bs → ran t st k (times n f) ≡ ran t (lay st bs) (k + 1) (times (n - 1) f)
+  times-one n bs some l e = ap (ran t st k) (times-pred f n some) ∙ one-then (λ xs. times (n - 1) f) bs l e
+
+  pub times-bad : (n : ℕ) → 0 < n → k < length t → g (st .place) (getD t k 0) ≡ none → ran t st k (times n f) ≡ gone
+  times-bad n some l e = ap (ran t st k) (times-pred f n some) ∙ ran-then t st k f (λ xs. times (n - 1) f) ∙ ap (resume t k (λ xs. times (n - 1) f)) (one-bad l e)
+
+  -- too few numbers are left
+  pub times-few : (n : ℕ) → length t - k < n → ran t st k (times n f) ≡ gone
+  unfolding ran after
+  times-few n h = ap (after st k) (too-few f g is n (drop k t) (st .place) (rw length-drop h))
 
   pub one-in : (u : List ℕ) (R : Spelt) → k < length t → got u R ≡ laid st (g (st .place) (getD t k 0)) → (s : Sink) → R ≡ In s → ran t st k f ≡ ends (at u s) (k + 1)
   unfolding after

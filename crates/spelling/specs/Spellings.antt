@@ -1,16 +1,14 @@
--- The bits of one number by the kinds that the code has: of an item without its skip and its range, of a field without what it may be.
+-- The bits of one number by the kinds of items that the code has, without the skip and the range; and what is said of runs of fields.
 use Prim.Native.Nat.{ℕ, _*_, _-_, _≤_}
 use mathlib.Core.Path.{_≡_}
 use mathlib.Core.List.{List}
 use lib.ListN.{take, drop}
 use Rattle.format.specs.Bits.{high}
-use Rattle.format.specs.Items.{signExtend}
-use Rattle.format.specs.WritingItems.{Bits, spellUB, spellVar, spellI32, spellLE, undo, unextend}
+use Rattle.format.specs.WritingItems.{Bits, spellUB, spellVar, spellI32, spellLE}
 use Rattle.items.specs.declared.Item.{Item}
 use Rattle.items.specs.declared.Item.the-variants.{U32, I32, Time, Float, Byte, Enum, BlendMode, Count}
 use Rattle.table.specs.Fields.{announced}
 use Rattle.table.specs.declared.fields.Field.{Field}
-use Rattle.table.specs.declared.fields.Field.the-variants.{Verb, Interpolation, Bit, ByteValue, Coordinate}
 use Rattle.spelling.specs.declared.Put.{Put}
 use Rattle.spelling.specs.declared.Put.the-variants.{Done, Impossible}
 
@@ -23,13 +21,6 @@ spellingOf Byte v = spellUB high 8 v
 spellingOf (Enum top) v = spellUB high 8 v
 spellingOf BlendMode v = spellUB high 8 v
 spellingOf (Count lo) v = spellVar high 15 v 4
-
-abbrev pub fieldSpelling : Field → ℕ → ℕ → Bits
-fieldSpelling Verb w v = spellUB high w v
-fieldSpelling Interpolation w v = spellUB high w v
-fieldSpelling Bit w v = spellUB high w v
-fieldSpelling ByteValue w v = spellUB high w v
-fieldSpelling Coordinate w v = undo (signExtend w) (unextend w) (spellUB high w) v
 
 -- a run of n fields from index k of the values t announces m signed fields; nothing is said where no file has the run
 abbrev pub Announces : Field → List ℕ → ℕ → ℕ → Put → ℕ → Type 0

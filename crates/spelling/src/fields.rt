@@ -1,16 +1,14 @@
 // Runs of bit fields: verbs, coordinates, interpolations, keyframed Bools and bytes, easing.
 ghost use mathlib.Core.Path.{_≡_};
-ghost use Prim.Native.Nat.{_≤_, _<_, _^_};
-ghost use Rattle.format.specs.Bits.{high};
+ghost use mathlib.Core.Bool.{false};
+ghost use Prim.Native.Nat.{_-_, _≤_, _<_, _^_};
 ghost use Rattle.format.specs.Formats.{item, Item, times, the, _▹_};
-ghost use Rattle.format.specs.Items.{signExtend};
-ghost use Rattle.format.specs.WritingItems.{spellUB, undo, unextend};
-ghost use Rattle.table.specs.Fields.{fieldOf};
+ghost use Rattle.table.specs.Fields.{fieldOf, signed};
+ghost use Rattle.table.specs.declared.fields.Field.the-variants.{Coordinate};
 ghost use Rattle.sink.specs.Laying.{at as «under»};
-ghost use Rattle.spelling.specs.Writing.{laid, got, seen, ran, Fine};
-ghost use Rattle.spelling.specs.Spellings.{fieldSpelling, Announces};
+ghost use Rattle.spelling.specs.Writing.{seen, ran, Fine};
+ghost use Rattle.spelling.specs.Spellings.{Announces};
 use crate::Put;
-use crate::Spelt;
 use crate::ended;
 use sink::Sink;
 use table::fields::Field;
@@ -21,68 +19,67 @@ pub struct Announced {
     pub count: usize,
 }
 
-// UB[w].
-fn spell_ub(out: &mut [u8], s: Sink, v: u64, w: usize) -> Spelt
-    requires { ⌜ Fine s × (w ≤ 32) ⌝ }
-    ensures { λ r. ⌜ got (now (out .exit)) r ≡ laid («under» (now (out .entry)) s) (spellUB high w v) ⌝ }
+// n SB fields of w bits. The sum wraps a negative number back: v is one from -half up to half. Places only grow, so the last one alone is judged.
+fn write_signed(w: usize, n: usize, out: &mut [u8], s: Sink, t: &[u64], k: usize) -> Put
+    requires { ⌜ Fine s × (1 ≤ w) × (w ≤ 32) × (n < 2 ^ 32) ⌝ }
+    ensures { λ r. ⌜ seen (now (out .exit)) r ≡ ran (now (t .entry)) («under» (now (out .entry)) s) k (times n (fieldOf Coordinate w)) ⌝ }
 {
-    if v < sink::power(w) {
-        Spelt::In(sink::put_bits(out, s, v, w))
-    } else {
-        Spelt::No
-    }
-}
-
-// SB[w]: the wrapping sum turns a negative number back.
-fn spell_sb(out: &mut [u8], s: Sink, v: u64, w: usize) -> Spelt
-    requires { ⌜ Fine s × (1 ≤ w) × (w ≤ 32) ⌝ }
-    ensures { λ r. ⌜ got (now (out .exit)) r ≡ laid («under» (now (out .entry)) s) (undo (signExtend w) (unextend w) (spellUB high w) v) ⌝ }
-{
-    let size = sink::power(w);
-    if v < size / 2 {
-        return Spelt::In(sink::put_bits(out, s, v, w));
-    }
-    let field = std::num::wrapping_add_u64(v, size);
-    if field < size {
-        if size / 2 <= field {
-            return Spelt::In(sink::put_bits(out, s, field, w));
-        }
-    }
-    Spelt::No
-}
-
-// One number by its kind; whether it is allowed is looked at before.
-fn spell_field(kind: Field, w: usize, out: &mut [u8], s: Sink, v: u64) -> Spelt
-    requires { ⌜ Fine s × (1 ≤ w) × (w ≤ 32) ⌝ }
-    ensures { λ r. ⌜ got (now (out .exit)) r ≡ laid («under» (now (out .entry)) s) (fieldSpelling kind w v) ⌝ }
-{
-    match kind {
-        Field::Verb => spell_ub(out, s, v, w),
-        Field::Interpolation => spell_ub(out, s, v, w),
-        Field::Bit => spell_ub(out, s, v, w),
-        Field::ByteValue => spell_ub(out, s, v, w),
-        Field::Coordinate => spell_sb(out, s, v, w),
-    }
-}
-
-// One field of w bits.
-fn write_field(kind: Field, w: usize, out: &mut [u8], s: Sink, t: &[u64], k: usize) -> Put
-    requires { ⌜ Fine s × (1 ≤ w) × (w ≤ 32) ⌝ }
-    ensures { λ r. ⌜ seen (now (out .exit)) r ≡ ran (now (t .entry)) («under» (now (out .entry)) s) k (fieldOf kind w) ⌝ }
-{
-    if t.len() <= k {
+    if table::room_for(t.len(), k, n) < n {
         return Put::Impossible;
     }
-    let v = t[k];
-    if table::fields::allowed(kind, v) {
-        let r = spell_field(kind, w, out, s, v);
-        match r {
-            Spelt::In(next) => ended(next, k + 1),
-            Spelt::No => Put::Impossible,
+    let size = sink::power(w);
+    let half = size / 2;
+    let mut cur = s;
+    let mut i = 0;
+    while i < n {
+        let v = t[k + i];
+        if size <= std::num::wrapping_add_u64(v, half) {
+            return Put::Impossible;
         }
-    } else {
-        Put::Impossible
+        cur = sink::put_bits(out, cur, v % size, w);
+        i += 1;
     }
+    ended(cur, k + n)
+}
+
+// n UB fields of w bits, and how many signed fields they announce.
+fn write_unsigned(
+    kind: Field,
+    w: usize,
+    n: usize,
+    out: &mut [u8],
+    s: Sink,
+    t: &[u64],
+    k: usize,
+) -> Announced
+    requires { ⌜ Fine s × (1 ≤ w) × (w ≤ 32) × (n < 2 ^ 32) × (signed kind ≡ false) ⌝ }
+    ensures states { λ r. ⌜ seen (now (out .exit)) (r .put) ≡ ran (now (t .entry)) («under» (now (out .entry)) s) k (times n (fieldOf kind w)) ⌝ }
+    ensures counts { λ r. ⌜ Announces kind (now (t .entry)) k n (r .put) (r .count) ⌝ }
+{
+    let put = Put::Impossible;
+    let mut count = 0;
+    let none = Announced { put, count };
+    if table::room_for(t.len(), k, n) < n {
+        return none;
+    }
+    let size = sink::power(w);
+    let weights = table::fields::weights_of(kind);
+    let mut cur = s;
+    let mut i = 0;
+    while i < n {
+        let v = t[k + i];
+        if size <= v {
+            return none;
+        }
+        if !table::fields::allowed(kind, v) {
+            return none;
+        }
+        cur = sink::put_bits(out, cur, v, w);
+        count += table::fields::weight(&weights, v);
+        i += 1;
+    }
+    let put = ended(cur, k + n);
+    Announced { put, count }
 }
 
 // n fields of w bits.
@@ -99,24 +96,11 @@ pub fn write_fields(
     ensures states { λ r. ⌜ seen (now (out .exit)) (r .put) ≡ ran (now (t .entry)) («under» (now (out .entry)) s) k (times n (fieldOf kind w)) ⌝ }
     ensures counts { λ r. ⌜ Announces kind (now (t .entry)) k n (r .put) (r .count) ⌝ }
 {
-    let mut cur = s;
-    let mut j = k;
-    let mut left = n;
-    let mut count = 0;
-    while 0 < left {
-        let r = write_field(kind, w, out, cur, t, j);
-        let Put::Done(next, i) = r else {
-            return Announced { put: r, count };
-        };
-        count += table::fields::announced_by(kind, t[j]);
-        cur = next;
-        j = i;
-        left -= 1;
+    if table::fields::is_signed(kind) {
+        let put = write_signed(w, n, out, s, t, k);
+        return Announced { put, count: 0 };
     }
-    Announced {
-        put: Put::Done(cur, j),
-        count,
-    }
+    write_unsigned(kind, w, n, out, s, t, k)
 }
 
 // A width: one less than it, in five bits.

@@ -3,7 +3,7 @@ use Prim.Native.Nat.{ℕ, zero, suc, _+_, _-_, _*_, _≤_, _<_}
 use mathlib.Core.List.{List, [], _∷_, _++_, append-nil, append-assoc}
 use mathlib.Core.Path.{_≡_, refl, ap, sym, _∙_}
 use lib.ListN.{length, length-append, set}
-use lib.Seq.{sets, length-sets, set-out}
+use lib.Seq.{sets, length-sets}
 use native.Mathlib.Nat.{add-zero, add-suc, suc-add, add-assoc}
 use native.Mathlib.Omega.{arith}
 use Rattle.format.specs.Bits.{Order, high}
@@ -25,11 +25,6 @@ state-eq p q r = λ i. record { table = p i; count = q i; ended = r i }
 pub sets-append : (t : List ℕ) (k : ℕ) (xs ys : List ℕ) → sets t k (xs ++ ys) ≡ sets (sets t k xs) (k + length xs) ys
 sets-append t k [] ys = rw (add-zero k)
 sets-append t k (x ∷ xs) ys = sets-append (set t k x) (suc k) xs ys ∙ rw (suc-add k (length xs), add-suc k (length xs))
-
--- nothing is stored past the end
-pub sets-out : (t : List ℕ) (k : ℕ) (xs : List ℕ) → length t ≤ k → sets t k xs ≡ t
-sets-out t k [] h = refl
-sets-out t k (x ∷ xs) h = rw (set-out t k x h) (sets-out t (suc k) xs (omega arith))
 
 -- ---- single readings
 

@@ -26,7 +26,8 @@ use Rattle.table.specs.State.{State, after}
 use Rattle.table.specs.Fields.{Fits, allows, judgeNum, fieldOf, signed, announces, announced, weights}
 use Rattle.table.specs.declared.fields.Field.{Field}
 use Rattle.table.specs.declared.fields.Field.the-variants.{Verb, Interpolation, Bit, ByteValue, Coordinate}
-use Rattle.table.proofs.EngineLaws.{state, state-eq, sets-out, after-one, after-stop, times-none, times-next, times-stop}
+use Rattle.bits.proofs.StoreLaws.{sets-out}
+use Rattle.table.proofs.EngineLaws.{state, state-eq, after-one, after-stop, times-none, times-next, times-stop}
 
 -- ---- one field
 
@@ -102,24 +103,6 @@ module _ (b : List ℕ) (p : ℕ) {r : Got} (read : seen r ≡ readWidth high b 
       (((i .inside, f .0 .1), omega (arith, i .next, f .1)), omega (arith, i .value), omega (arith, i .value, i .below))
 
 -- ---- what a field announces
-
-pub eight : (v : ℕ) → (v ≡ 0 → ⊥) → (v ≡ 1 → ⊥) → (v ≡ 2 → ⊥) → (v ≡ 3 → ⊥) → (v ≡ 4 → ⊥) → (v ≡ 5 → ⊥) → (v ≡ 6 → ⊥) → (v ≡ 7 → ⊥) → 8 ≤ v
-eight zero a b c d e f g h = absurd (a refl)
-eight (suc zero) a b c d e f g h = absurd (b refl)
-eight (suc (suc zero)) a b c d e f g h = absurd (c refl)
-eight (suc (suc (suc zero))) a b c d e f g h = absurd (d refl)
-eight (suc (suc (suc (suc zero)))) a b c d e f g h = absurd (e refl)
-eight (suc (suc (suc (suc (suc zero))))) a b c d e f g h = absurd (f refl)
-eight (suc (suc (suc (suc (suc (suc zero)))))) a b c d e f g h = absurd (g refl)
-eight (suc (suc (suc (suc (suc (suc (suc zero))))))) a b c d e f g h = absurd (h refl)
-eight (suc (suc (suc (suc (suc (suc (suc (suc v)))))))) a b c d e f g h = omega arith
-
-pub coordinates-none : (v : ℕ) → 8 ≤ v → 0 ≡ coordinatesOf v
-coordinates-none v h = sym (List·getD-eq-default (0 ∷ 2 ∷ 2 ∷ 1 ∷ 1 ∷ 4 ∷ 4 ∷ 6 ∷ []) 0 h)
-
-module _ {kind : Field} {n : ℕ} where
-  pub announces-of : (v : ℕ) (told : Field) → kind ≡ told → (n ≡ announces told v) × (n ≤ 6) → (n ≡ announces kind v) × (n ≤ 6)
-  announces-of v told e h = (h .0 ∙ ap (λ (z : Field). announces z v) (sym e), h .1)
 
 abbrev zeros : ℕ → List ℕ
 zeros zero = []

@@ -30,36 +30,6 @@ pub struct Announced {
     pub count: usize,
 }
 
-// Coordinates by verb 0 to 7; there is no other verb.
-fn coordinates_of(verb: u64) -> usize
-    ensures { λ r. ⌜ (r ≡ coordinatesOf verb) × (r ≤ 6) ⌝ }
-{
-    match verb {
-        0 => 0,
-        1 => 2,
-        2 => 2,
-        3 => 1,
-        4 => 1,
-        5 => 4,
-        6 => 4,
-        7 => 6,
-        _ => 0,
-    }
-}
-
-// A verb announces its coordinates, a Bezier frame four easing numbers.
-pub fn announced_by(kind: Field, v: u64) -> usize
-    ensures { λ r. ⌜ (r ≡ announces kind v) × (r ≤ 6) ⌝ }
-{
-    match kind {
-        Field::Verb => coordinates_of(v),
-        Field::Interpolation => if v == 2 { 4 } else { 0 },
-        Field::Bit => 0,
-        Field::ByteValue => 0,
-        Field::Coordinate => 0,
-    }
-}
-
 // What the numbers 0 to 7 announce in a field of this kind: a verb its coordinates, a Bezier frame four easing numbers.
 pub fn weights_of(kind: Field) -> [usize; 8]
     ensures { λ r. ⌜ r ≡ «weights» kind ⌝ }
@@ -98,7 +68,7 @@ pub fn allowed(kind: Field, v: u64) -> bool
 }
 
 // A coordinate is signed, and nothing else is.
-fn is_signed(kind: Field) -> bool
+pub fn is_signed(kind: Field) -> bool
     ensures { λ r. ⌜ r ≡ signed kind ⌝ }
 {
     match kind {

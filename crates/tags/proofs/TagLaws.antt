@@ -14,7 +14,8 @@ use Rattle.format.specs.Bodies.{aligned}
 use Rattle.table.specs.State.{State, after}
 use Rattle.table.specs.Run.{left, indexOf}
 use Rattle.table.specs.declared.Run.{Run}
-use Rattle.table.proofs.EngineLaws.{state, state-eq, sets-out, after-none}
+use Rattle.bits.proofs.StoreLaws.{sets-out}
+use Rattle.table.proofs.EngineLaws.{state, state-eq, after-none}
 use Rattle.table.proofs.TextLaws.{set-sets}
 use Rattle.classes.specs.declared.Class.{Class}
 use Rattle.tags.specs.Shown.{stateOf, valuesOf, headed}

@@ -13,8 +13,9 @@ use lib.Seq.{sets, getD-take, getD-drop, drop-cons}
 use Rattle.format.specs.WritingFiles.{spell16, spell32, spellHead}
 use Rattle.table.proofs.EngineLaws.{sets-append}
 use Rattle.table.proofs.TextLaws.{set-sets}
+use Rattle.bits.proofs.StoreLaws.{sets-out}
 use Rattle.write_heads.specs.Heads.{Closed}
-use Rattle.write_heads.proofs.StoreLaws.{at-low, none-left, sets-out, sets-same, drop-sets, sets-comm}
+use Rattle.write_heads.proofs.StoreLaws.{at-low, none-left, sets-same, drop-sets, sets-comm}
 
 pub two-stored : (l : List ℕ) (a x y : ℕ) {u w : List ℕ} → u ≡ set l a x → w ≡ set u (a + 1) y → w ≡ sets l a (x ∷ y ∷ [])
 two-stored l a x y e d = d ∙ rw (e, add-one a)

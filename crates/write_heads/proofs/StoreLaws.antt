@@ -8,8 +8,9 @@ use native.Mathlib.Omega.{arith}
 use lib.Dec.{ltb}
 use borrow.Author.Tests.{ltb-true, ltb-false}
 use lib.ListN.{length, set, getD, take, drop, length-set, length-drop}
-use lib.Seq.{sets, length-sets, getD-set-same, getD-set-other, set-getD, set-out, drop-set-lt, drop-cons, ext-getD}
+use lib.Seq.{sets, length-sets, getD-set-same, getD-set-other, set-getD, drop-set-lt, drop-cons, ext-getD}
 use Rattle.table.proofs.TextLaws.{set-sets}
+use Rattle.bits.proofs.StoreLaws.{sets-out}
 
 -- ---- one number of a run
 pub at-low : (l : List ℕ) (i : ℕ) (xs : List ℕ) (j : ℕ) → j < i → getD (sets l i xs) j 0 ≡ getD l j 0
@@ -27,17 +28,13 @@ at-in l i (x ∷ xs) j zero e h g =
     rw q (at-low (set l j x) (suc j) xs j (omega arith) ∙ getD-set-same l j x 0 g)
 at-in l i (x ∷ xs) j (suc m) e h g = at-in (set l i x) (suc i) xs j m (omega arith) (omega arith) (rw (length-set l i x) g)
 
--- ---- nothing is stored past the end, and nothing changes where the same is stored
+-- ---- nothing is left past the end, and nothing changes where the same is stored
 pub none-left : (l : List ℕ) (i : ℕ) → length l ≤ i → drop i l ≡ []
 none-left l i h = go (drop i l) (rw length-drop (omega arith))
   where
     go : (x : List ℕ) → length x ≡ 0 → x ≡ []
     go [] e = refl
     go (y ∷ x) e = absurd (omega arith)
-
-pub sets-out : (l : List ℕ) (i : ℕ) (xs : List ℕ) → length l ≤ i → sets l i xs ≡ l
-sets-out l i [] h = refl
-sets-out l i (x ∷ xs) h = rw (set-out l i x h) (sets-out l (suc i) xs (omega arith))
 
 pub sets-same : (n : ℕ) (l : List ℕ) (i : ℕ) → sets l i (take n (drop i l)) ≡ l
 sets-same zero l i = refl

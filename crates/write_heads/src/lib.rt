@@ -27,25 +27,12 @@ pub fn put32(out: &mut [u8], at: usize, n: u64)
     sink::put_byte(out, at + 3, n / 16777216);
 }
 
-// How many of n bytes from a place on an output of len bytes has room for.
-fn room_for(len: usize, at: usize, n: usize) -> usize
-    ensures { λ r. ⌜ r ≡ min n (len - at) ⌝ }
-{
-    if len < at {
-        return 0;
-    }
-    if len - at < n {
-        return len - at;
-    }
-    n
-}
-
 // Moves n bytes up by four, the last one first; those for which there is room.
 fn move_up(out: &mut [u8], at: usize, n: usize)
     requires { ⌜ (at < 2 ^ 60) × (n < 2 ^ 60) ⌝ }
     ensures { λ r. ⌜ now (out .exit) ≡ sets (now (out .entry)) (at + 4) (take n (drop at (now (out .entry)))) ⌝ }
 {
-    let mut i = room_for(out.len(), at + 4, n);
+    let mut i = table::room_for(out.len(), at + 4, n);
     while 0 < i {
         i -= 1;
         let from = at + i;

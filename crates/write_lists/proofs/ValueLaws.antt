@@ -1,22 +1,25 @@
 -- The values of a tag put over an output: an opaque tag's bytes one by one, and the others by their class.
-use Prim.Native.Nat.{ℕ, suc, _+_, _-_, _≤_, _<_}
-use mathlib.Core.Bool.{Bool, true, false}
-use mathlib.Core.List.{List}
+use Prim.Native.Nat.{ℕ, zero, suc, _+_, _-_, _≤_, _<_, min}
+use mathlib.Core.Bool.{Bool, true, false, not}
+use mathlib.Core.List.{List, [], _∷_, _++_, append-nil, append-assoc}
 use mathlib.Core.Path.{_≡_, refl, ap, sym, _∙_}
 use native.Mathlib.Nat.{add-zero}
 use native.Mathlib.Numerals.{add-one}
 use native.Mathlib.Omega.{arith}
-use borrow.Author.Tests.{le-leb, lt-leb, lt-ltb, le-ltb, eq-eqb, ne-eqb}
-use lib.ListN.{length, getD, set, drop}
-use lib.Seq.{sets, drop-cons}
+use lib.Dec.{ltb}
+use borrow.Author.Tests.{le-leb, lt-leb, lt-ltb, le-ltb, eq-eqb, ne-eqb, ltb-true, ltb-false}
+use lib.ListN.{length, getD, set, take, drop, length-take, length-drop, take-append-drop}
+use lib.Seq.{sets, sets-eq, length-sets, drop-cons, drop-drop, take-all, length-take-le}
 use Rattle.format.specs.Tests.{pick}
 use Rattle.format.specs.WritingBodies.{bytes, impossible}
 use Rattle.format.specs.WritingFiles.{allBytes}
 use Rattle.classes.specs.declared.Class.{Class}
 use Rattle.classes.specs.declared.Class.the-variants.{End}
 use Rattle.sink.specs.Lain.{longest, Lain, lain, unlain, lies}
+use Rattle.table.proofs.EngineLaws.{sets-append}
+use Rattle.bits.proofs.StoreLaws.{sets-out}
 use Rattle.write_heads.proofs.StoreLaws.{none-left}
-use Rattle.write_lists.specs.Tags.{asBytes, valuesIn}
+use Rattle.write_lists.specs.Tags.{asBytes, LaidAs, valuesIn}
 
 -- ---- bytes, one by one: the whole from the start is what is left from here
 module _ (vs : List ℕ) (i : ℕ) (l : i < length vs) where
@@ -26,10 +29,28 @@ module _ (vs : List ℕ) (i : ℕ) (l : i < length vs) where
   pub bytes-bad : 255 < getD vs i 0 → allBytes (drop i vs) ≡ false
   bytes-bad h = rw (drop-cons vs i 0 l, le-ltb (getD vs i 0) 256 (omega arith))
 
-  pub sets-next : (o : List ℕ) (b : ℕ) {u : List ℕ} → u ≡ set o (b + i) (getD vs i 0) → sets o (b + i) (drop i vs) ≡ sets u (b + (i + 1)) (drop (i + 1) vs)
-  sets-next o b e =
-      let p : b + (i + 1) ≡ suc (b + i) = omega arith in
-      rw (p, add-one i, e, drop-cons vs i 0 l)
+  pub sets-next : (o : List ℕ) {u : List ℕ} → u ≡ set o i (getD vs i 0) → sets o i (drop i vs) ≡ sets u (i + 1) (drop (i + 1) vs)
+  sets-next o e = rw (add-one i, e, drop-cons vs i 0 l)
+
+-- at the end of a loop nothing is left
+pub bytes-all : (vs : List ℕ) (i : ℕ) → length vs ≤ i → allBytes vs ≡ allBytes (drop i vs) → allBytes vs ≡ true
+bytes-all vs i z e = e ∙ ap allBytes (none-left vs i z)
+
+pub sets-all : (o vs : List ℕ) (i : ℕ) {u : List ℕ} → length vs ≡ length o → length vs ≤ i → sets o 0 vs ≡ sets u i (drop i vs) → u ≡ vs
+sets-all o vs i {u} h z d =
+    let s : u ≡ sets o 0 vs = sym (d ∙ ap (sets u i) (none-left vs i z)) in
+    s ∙ sets-eq vs o 0 (omega arith) ∙ ap (λ (x : List ℕ). vs ++ x) (none-left o (0 + length vs) (omega arith)) ∙ append-nil vs
+
+-- ---- bytes for which there is room, and the others
+bytes-split : (m : ℕ) (vs : List ℕ) → allBytes vs ≡ pick (allBytes (take m vs)) (allBytes (drop m vs)) false
+bytes-split zero vs = refl
+bytes-split (suc m) [] = refl
+bytes-split (suc m) (x ∷ xs) = go (ltb x 256) (bytes-split m xs)
+  where
+    go : (c : Bool) → allBytes xs ≡ pick (allBytes (take m xs)) (allBytes (drop m xs)) false
+        → pick c (allBytes xs) false ≡ pick (pick c (allBytes (take m xs)) false) (allBytes (drop m xs)) false
+    go true e = e
+    go false e = refl
 
 module _ (o : List ℕ) (b : ℕ) (vs : List ℕ) where
   pub copy-long : b ≤ longest → longest - b < length vs → unlain ≡ lies o b (asBytes vs)
@@ -40,17 +61,57 @@ module _ (o : List ℕ) (b : ℕ) (vs : List ℕ) where
       go true = rw (lt-leb (b + length vs) longest (omega arith))
       go false = refl
 
-  pub copy-bad : (i : ℕ) → allBytes vs ≡ allBytes (drop i vs) → allBytes (drop i vs) ≡ false → unlain ≡ lies o b (asBytes vs)
-  unfolding lies
-  copy-bad i e f = rw (e, f)
+  -- m of them were laid, which left u
+  abbrev pub Front : ℕ → List ℕ → Type 0
+  Front m u = (allBytes (take m vs) ≡ true) × (u ≡ sets o b (take m vs))
 
-  pub copy-done : (u : List ℕ) (i : ℕ) → b ≤ longest → length vs ≤ longest - b → length vs ≤ i → allBytes vs ≡ allBytes (drop i vs) → sets o b vs ≡ sets u (b + i) (drop i vs)
-      → lain u (b + length vs) ≡ lies o b (asBytes vs)
+  pub front-none : (m : ℕ) {u : List ℕ} → m ≡ 0 → u ≡ o → Front m u
+  front-none m e q = (rw e refl, q ∙ rw e refl)
+
+  -- the part p of the output that was lent, back in its place
+  pub front-some : (m k j : ℕ) (r : Bool) (p : List ℕ) {u : List ℕ} → k ≡ m → j ≡ m → 0 < m → m ≡ min (length vs) (length o - b) → not r ≡ false → LaidAs r (take j vs) p
+      → u ≡ take b o ++ (p ++ drop k (drop b o)) → Front m u
+  front-some m k j false p d e z h n l q = absurd (let x : _≡_ {A = ℕ} 0 1 = cc in omega arith)
+  front-some m k j true p d e z h n l q =
+      let f : p ≡ take m vs = l .1 ∙ ap (λ (x : ℕ). take x vs) e in
+      let len : length (take m vs) ≡ m = length-take-le m vs (omega arith) in
+      let i : b + k ≡ b + length (take m vs) = omega arith in
+      let t : drop k (drop b o) ≡ drop (b + length (take m vs)) o = drop-drop k b o ∙ ap (λ (x : ℕ). drop x o) i in
+      (ap (λ (x : ℕ). allBytes (take x vs)) (sym e) ∙ l .0, q ∙ rw (f, t) (sym (append-assoc (take b o) (take m vs) (drop (b + length (take m vs)) o))) ∙ sym (sets-eq (take m vs) o b (omega arith)))
+
+  pub front-length : (m : ℕ) {u : List ℕ} → Front m u → length u ≡ length o
+  front-length m f = ap length (f .1) ∙ length-sets o b (take m vs)
+
+  pub copy-bad : (j : ℕ) (r : Bool) (p : List ℕ) → not r ≡ true → LaidAs r (take j vs) p → unlain ≡ lies o b (asBytes vs)
   unfolding lies
-  copy-done u i h l z e d =
-      let a : allBytes vs ≡ true = rw (none-left vs i z) at e in
-      let s : sets o b vs ≡ u = rw (none-left vs i z) at d in
-      rw (a, le-leb (b + length vs) longest (omega arith), s)
+  copy-bad j true p n l = absurd (let x : _≡_ {A = ℕ} 0 1 = cc in omega arith)
+  copy-bad j false p n l = rw (bytes-split j vs, l)
+
+  -- the others, as a part of the slice up to its end
+  after-front : (m : ℕ) {u : List ℕ} {r : Bool} → Front m u → r ≡ allBytes (take (length vs - m) (drop m vs)) → allBytes vs ≡ r
+  after-front m f e = bytes-split m vs ∙ rw (f .0) (ap allBytes (sym (take-all (length vs - m) (drop m vs) (rw length-drop (omega arith)))) ∙ sym e)
+
+  pub copy-bad-after : (m : ℕ) {u : List ℕ} {r : Bool} → Front m u → r ≡ allBytes (take (length vs - m) (drop m vs)) → r ≡ false → unlain ≡ lies o b (asBytes vs)
+  unfolding lies
+  copy-bad-after m f e q = rw (after-front m f e, q)
+
+  -- what there is no room for is dropped
+  sets-room : (m : ℕ) → m ≡ min (length vs) (length o - b) → sets o b vs ≡ sets o b (take m vs)
+  sets-room m e = go (ltb m (length vs)) refl
+    where
+      go : (c : Bool) → ltb m (length vs) ≡ c → sets o b vs ≡ sets o b (take m vs)
+      go true q =
+          let h : m < length vs = ltb-true m (length vs) q in
+          ap (sets o b) (sym (take-append-drop m vs)) ∙ sets-append o b (take m vs) (drop m vs)
+          ∙ sets-out (sets o b (take m vs)) (b + length (take m vs)) (drop m vs) (rw (length-sets, length-take) (omega arith))
+      go false q = ap (sets o b) (sym (take-all m vs (ltb-false m (length vs) q)))
+
+  pub copy-done : (m : ℕ) {u : List ℕ} {r : Bool} → m ≡ min (length vs) (length o - b) → b ≤ longest → length vs ≤ longest - b → Front m u
+      → r ≡ allBytes (take (length vs - m) (drop m vs)) → r ≡ true → lain u (b + length vs) ≡ lies o b (asBytes vs)
+  unfolding lies
+  copy-done m {u} e h l f g q =
+      let s : u ≡ sets o b vs = f .1 ∙ sym (sets-room m e) in
+      rw (after-front m f g, q, le-leb (b + length vs) longest (omega arith), s)
 
   -- ---- by the class that a `match` tells
   pub values-of : (code : ℕ) {class : Class} {x : Lain} (told : Class) → class ≡ told → x ≡ lies o b (valuesIn told code vs) → x ≡ lies o b (valuesIn class code vs)

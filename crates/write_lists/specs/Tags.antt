@@ -1,6 +1,8 @@
 -- One tag, as this crate's functions write it: first what stands in it, then for a container its list, last the header before it.
 use Prim.Native.Nat.{ℕ, _+_, _-_, _≤_}
+use mathlib.Core.Bool.{Bool, true, false}
 use mathlib.Core.List.{List, [], _∷_, _++_}
+use mathlib.Core.Path.{_≡_}
 use lib.Dec.{leb, eqb}
 use lib.ListN.{length, take, drop}
 use Rattle.format.specs.Tests.{pick}
@@ -23,6 +25,11 @@ use Rattle.write_lists.specs.Stood.{Stood, stood, fell}
 -- an opaque tag's values are its body
 abbrev pub asBytes : List ℕ → Bytes
 asBytes vs = pick (allBytes vs) (bytes vs) impossible
+
+-- the answer of a function that lays numbers as bytes, and what it leaves: the numbers, if all of them are bytes
+abbrev pub LaidAs : Bool → List ℕ → List ℕ → Type 0
+LaidAs true vs u = (allBytes vs ≡ true) × (u ≡ vs)
+LaidAs false vs u = allBytes vs ≡ false
 
 -- what a tag's values are written as; of a container they stand before its list
 abbrev pub valuesIn : Class → ℕ → List ℕ → Bytes

@@ -5,11 +5,11 @@ ghost use Prim.Native.Nat.{_+_, _≤_, _<_};
 ghost use lib.ListN.{length, getD, drop};
 ghost use Rattle.format.specs.Bits.{high};
 ghost use Rattle.format.specs.FileAndTags.{classOf};
-ghost use Rattle.format.specs.WritingFiles.{unwalkList};
+ghost use Rattle.format.specs.WritingFiles.{allBytes, unwalkList};
 ghost use Rattle.classes.specs.Classes.{contains, ends};
 ghost use Rattle.sink.specs.Lain.{longest, lies, lainAs};
 ghost use Rattle.write_lists.specs.Stood.{over, stoodAs};
-ghost use Rattle.write_lists.specs.Tags.{asBytes, valuesIn, begun, shut as «shutBy», shutAs, After};
+ghost use Rattle.write_lists.specs.Tags.{asBytes, LaidAs, valuesIn, begun, shut as «shutBy», shutAs, After};
 use classes::Class;
 use sink::Body;
 
@@ -19,7 +19,40 @@ pub enum Wrote {
     Impossible,
 }
 
-// The values of an opaque tag are its bytes, in one plain loop.
+// Bytes from numbers, up to the first number that is none. The two have one length and are plain locals in the loop: no room is tested.
+fn lay_bytes(values: &[u64], out: &mut [u8]) -> bool
+    requires { ⌜ length (now values) ≡ length (now out) ⌝ }
+    ensures { λ r. ⌜ LaidAs r (now (values .entry)) (now (out .exit)) ⌝ }
+{
+    let n = values.len();
+    let mut i = 0;
+    while i < n {
+        let x = values[i];
+        if 255 < x {
+            return false;
+        }
+        out[i] = x as u8;
+        i += 1;
+    }
+    true
+}
+
+// Whether these numbers are bytes: those for which there is no room.
+fn are_bytes(values: &[u64]) -> bool
+    ensures { λ r. ⌜ r ≡ allBytes (now (values .entry)) ⌝ }
+{
+    let n = values.len();
+    let mut i = 0;
+    while i < n {
+        if 255 < values[i] {
+            return false;
+        }
+        i += 1;
+    }
+    true
+}
+
+// The values of an opaque tag are its bytes.
 fn copy_bytes(values: &[u64], out: &mut [u8], at: usize) -> Body
     requires { ⌜ at ≤ longest ⌝ }
     ensures { λ r. ⌜ lainAs (now (out .exit)) r ≡ lies (now (out .entry)) at (asBytes (now (values .entry))) ⌝ }
@@ -28,16 +61,17 @@ fn copy_bytes(values: &[u64], out: &mut [u8], at: usize) -> Body
     if 16777216 - at < n {
         return Body::No;
     }
-    let mut i = 0;
-    while i < n {
-        let x = values[i];
-        if 255 < x {
+    let m = table::room_for(out.len(), at, n);
+    if 0 < m {
+        let to = at + m;
+        if !lay_bytes(&values[0..m], &mut out[at..to]) {
             return Body::No;
         }
-        sink::put_byte(out, at + i, x);
-        i += 1;
     }
-    Body::To(at + n)
+    if are_bytes(&values[m..]) {
+        return Body::To(at + n);
+    }
+    Body::No
 }
 
 // The values of a tag, by its class.
@@ -142,6 +176,7 @@ pub fn write_list(level: u32, left: u32, out: &mut [u8], at: usize, t: &[u64], f
     requires { ⌜ (at ≤ longest) × (from ≤ length (now t)) ⌝ }
     ensures { λ r. ⌜ stoodAs (now (out .exit)) r ≡ over (now (out .entry)) at from (unwalkList high (classOf level) left (drop from (now (t .entry)))) ⌝ }
 {
+    let classes = classes::all();
     let mut place = at;
     let mut k = from;
     while k < t.len() {
@@ -150,7 +185,8 @@ pub fn write_list(level: u32, left: u32, out: &mut [u8], at: usize, t: &[u64], f
             return Wrote::Impossible;
         }
         let code = number as u32;
-        let class = classes::class_of(level, code);
+        let listed = classes[(code / 32) as usize][(code % 32) as usize];
+        let class = classes::at_level(level, code, listed);
         if holds_list(class) {
             if left == 0 {
                 return Wrote::Impossible;

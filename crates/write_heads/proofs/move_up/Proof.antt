@@ -8,7 +8,7 @@ use Rattle.write_heads.proofs.move_up.Statement.{statement}
 use Rattle.write_heads.proofs.move_up.Tie as tie
 use Rattle.write_heads.proofs.move_up.Reads as reads
 use Rattle.write_heads.proofs.move_up.Lts as lts
-use Rattle.write_heads.proofs.room_for.Reads as room-for-reads
+use Rattle.table.proofs.room_for.Reads as room-for-reads
 
 abbrev Inv-loop : tie.InvT-loop
 Inv-loop out₀ at n i₀ out i = (length out ≡ length out₀) × (i ≤ min n (length out₀ - (at + 4))) × (out ≡ movedFrom out₀ at n i)
