@@ -396,11 +396,23 @@ static void show_bytes(struct body *b, const uint8_t *bytes, size_t n)
     b->count += n;
 }
 
+/* The first zero byte, or NULL. With BYTE_LOOP it is looked for as the library does, so that bench/run can tell what the C library's way is worth. */
+static const uint8_t *zero_in(const uint8_t *from, size_t left)
+{
+#ifdef BYTE_LOOP
+    for (size_t i = 0; i < left; i++)
+        if (from[i] == 0) return from + i;
+    return NULL;
+#else
+    return left ? memchr(from, 0, left) : NULL;
+#endif
+}
+
 static int read_string(struct body *b)
 {
     const uint8_t *from = b->bytes + b->at / 8;
     size_t left = b->len - b->at / 8;
-    const uint8_t *zero = left ? memchr(from, 0, left) : NULL;
+    const uint8_t *zero = zero_in(from, left);
     if (!zero) return PAG_ITEM_PAST_THE_BODY;
     size_t n = (size_t)(zero - from);
     show(b, n);
