@@ -1,10 +1,11 @@
--- The theorems: document 01's examples; the round trip; two levels of one file; how much room tables need.
+-- The theorems: document 01's examples; the round trip; two levels of one file; how much room tables need; the reasons of refusals.
 pub mod Examples
 pub mod Tested
 pub mod RoundTrip
 pub mod Promises
 pub mod LevelLaws
 pub mod RoomLaws
+pub mod ReasonLaws
 -- What a proof of the reader or of the writer cites, step by step.
 pub mod EngineLaws
 pub mod ListLaws

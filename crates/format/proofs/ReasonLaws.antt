@@ -1,0 +1,423 @@
+-- Every refusal has a reason: `read-reason` and `tags-reason` (1 to 18) and `answer-reason` (19 too), at the end. None is 0, which means
+-- 'accepted' to a host.
+use Prim.Native.Nat.{ℕ, zero, suc, pred, _+_, _*_, _/_, _%_, _≤_}
+use mathlib.Core.List.{List, [], _∷_}
+use mathlib.Core.Path.{_≡_, refl, subst}
+use mathlib.Core.Bool.{Bool, true, false}
+use lib.ListN.{length, getD, take, drop}
+use lib.Dec.{T, ltb, leb, eqb, lit≤}
+use borrow.Author.Tests.{leb-true, eqb-false}
+use native.Mathlib.Omega.{arith}
+use Rattle.format.specs.Tests.{pick, _and_}
+use Rattle.format.specs.Bits.{Order, ub}
+use Rattle.format.specs.Reading.{Ending, At, Fault, Reading, follow}
+use Rattle.format.specs.Formats.{Item, Format, nothing, item, only, _▹_, _▸_, times, the}
+use Rattle.format.specs.Items.{skipped, room, Num, num, bad, showNum, mapNum, signExtend, readUB, carry, readVar, sign, notOne, exist, readFlag, above, readLE, Text, text, cut, readText, showText, readAlign, readItem, judge, run, byteItem, u32, i32, time, color, count, coordinates, path}
+use Rattle.format.specs.Bodies.{fontTables, compositionAttributes, solidColor, Kind, Value, Fixed, BitFlag, Simple, Discrete, DataType, U32s, Times, Floats, Ratios, Bools, Bytes, BlendModes, TrackMatteTypes, MaskModes, Paths, Attribute, flagsOf, value, values, interpolations, beziers, aligned, keyframed, contentOf, allFlags, rows, handOn, readBlock, Body, fixed, attributes, readPart, toEnd, usedUp, readBody}
+use Rattle.format.specs.FileAndTags.{signatureRight, versionRight, lengthRight, Class, opaque, end, container, known, codes, classOf, isEnd, isContainer, Tag, Outcome, whole, fault, Walk, broken, chain, Head, head, noHead, le16, le32, rawHead, passes, readHead, Owner, file, inside, endAt, front, opened, within, afterTag, oneTag, walk, walkList}
+use Rattle.format.specs.TableOfNumbers.{table, tagTable}
+use Rattle.format.specs.Reasons.{startFault, walkFile, Result, gives, refuses, result, readFile, readTags, Answer, accepted, refused, Left, into}
+
+-- a reason that the reader gives: 1 to 18
+abbrev pub IsReason : ℕ → Type 0
+IsReason e = (1 ≤ e) × (e ≤ 18)
+
+-- for a number that is written out: `reason tt`
+reason : {e : ℕ} → T (leb 1 e and leb e 18) → IsReason e
+reason {e} h = go (leb 1 e) refl h
+  where
+    go : (c : Bool) → leb 1 e ≡ c → T (pick c (leb e 18) false) → IsReason e
+    go true q h = (leb-true 1 e q, lit≤ h)
+    go false q h = absurd h
+
+-- what holds both ways holds of a test's outcome
+either-way : {A : Type 0} (P : A → Type 0) (c : Bool) {x y : A} → P x → P y → P (pick c x y)
+either-way P true h k = h
+either-way P false h k = k
+
+-- ---- endings: a fault has a reason
+abbrev pub NamedEnd : Ending → Type 0
+NamedEnd (At p) = Unit {0}
+NamedEnd (Fault e) = IsReason e
+
+named-follow : (xs : List ℕ) (z : Ending) (k : List ℕ → ℕ → Reading) → NamedEnd z → ((p : ℕ) → NamedEnd (k xs p .ended)) → NamedEnd (follow xs z k .ended)
+named-follow xs (At p) k h l = l p
+named-follow xs (Fault e) k h l = h
+
+named-judge : (t : List ℕ → Bool) (e : ℕ) (xs : List ℕ) (z : Ending) → IsReason e → NamedEnd z → NamedEnd (judge t e xs z .ended)
+named-judge t e xs (At p) h k = either-way (λ (r : Reading). NamedEnd (r .ended)) (t xs) tt h
+named-judge t e xs (Fault e′) h k = k
+
+-- ---- what items read: 13 and 14; skipped bits are 15
+abbrev NamedNum : Num → Type 0
+NamedNum r = NamedEnd (showNum r .ended)
+
+named-map : (f : ℕ → ℕ) (r : Num) → NamedNum r → NamedNum (mapNum f r)
+named-map f (num v p) h = tt
+named-map f (bad e) h = h
+
+named-carry : (x : ℕ) (r : Num) → NamedNum r → NamedNum (carry x r)
+named-carry x (num zero p) h = reason tt
+named-carry x (num (suc v) p) h = tt
+named-carry x (bad e) h = h
+
+named-not-one : (r : Num) → NamedNum r → NamedNum (notOne r)
+named-not-one (num d p) h = either-way NamedNum (eqb d 1) (reason tt) tt
+named-not-one (bad e) h = h
+
+named-above : (x : ℕ) (r : Num) → NamedNum r → NamedNum (above x r)
+named-above x (num v p) h = tt
+named-above x (bad e) h = h
+
+named-exist : (r : Num) → NamedNum r → NamedNum (exist r)
+named-exist (num v p) h = tt
+named-exist (bad e) h = h
+
+named-text : (t : Text) → NamedEnd (showText t .ended)
+named-text (text xs p) = tt
+named-text (cut xs) = reason tt
+
+module _ (o : Order) where
+  module _ (b : List ℕ) where
+    named-ub : (p n : ℕ) → NamedNum (readUB o b p n)
+    named-ub p n = either-way NamedNum (room b p n) tt (reason tt)
+
+    named-var : (c p k : ℕ) → NamedNum (readVar o b c p k)
+    unfolding readVar
+    named-var c p zero = either-way NamedNum (room b p 8) (either-way NamedNum (leb (ub o b p 8) c) tt (reason tt)) (reason tt)
+    named-var c p (suc k) = either-way NamedNum (room b p 8)
+        (either-way NamedNum (ltb (ub o b p 8) 128) tt (named-carry (ub o b p 8) (readVar o b c (p + 8) k) (named-var c (p + 8) k))) (reason tt)
+
+    named-le : (p n : ℕ) → NamedNum (readLE o b p n)
+    unfolding readLE
+    named-le p zero = tt
+    named-le p (suc n) = either-way NamedNum (room b p 8) (named-above (ub o b p 8) (readLE o b (p + 8) n) (named-le (p + 8) n)) (reason tt)
+
+    named-flag : (p n : ℕ) → NamedNum (readFlag o b p n)
+    unfolding readFlag
+    named-flag p zero = tt
+    named-flag p (suc n) = either-way NamedNum (room b p 1)
+        (either-way NamedNum (eqb (ub o b p 1) 0) tt (named-exist (readFlag o b (p + 1) n) (named-flag (p + 1) n))) (reason tt)
+
+    named-align : (p : ℕ) → NamedEnd (readAlign o b p .ended)
+    named-align p = either-way (λ (r : Reading). NamedEnd (r .ended)) (eqb (ub o b p (skipped p)) 0) tt (reason tt)
+
+  -- ---- formats: the faults of a reading have reasons, wherever it starts
+  pub record Named (f : Format) : Type 0 where
+    pub ends : (b : List ℕ) (p : ℕ) → NamedEnd (run o b f p .ended)
+
+  item-ends : (i : Item) (b : List ℕ) (p : ℕ) → NamedEnd (readItem o b i p .ended)
+  unfolding readItem
+  item-ends Item.U32 b p = named-var b 15 p 4
+  item-ends Item.U64 b p = named-var b 1 p 9
+  item-ends Item.I32 b p = named-map sign (notOne (readVar o b 15 p 4)) (named-not-one (readVar o b 15 p 4) (named-var b 15 p 4))
+  item-ends (Item.LE n) b p = named-le b p n
+  item-ends Item.string b p = named-text (readText o b p (length b))
+  item-ends (Item.UB n) b p = named-ub b p n
+  item-ends (Item.SB n) b p = named-map (signExtend n) (readUB o b p n) (named-ub b p n)
+  item-ends Item.width b p = named-map suc (readUB o b p 5) (named-ub b p 5)
+  item-ends Item.align b p = named-align b p
+  item-ends (Item.flag n) b p = named-flag b p n
+  item-ends (Item.echo n) b p = tt
+
+  pub named-item : (i : Item) → Named (item i)
+  unfolding run
+  named-item i = record { ends = λ b p. item-ends i b p }
+
+  pub named-nothing : Named nothing
+  unfolding run
+  named-nothing = record { ends = λ b p. tt }
+
+  pub named-only : {t : List ℕ → Bool} {e : ℕ} {f : Format} → IsReason e → Named f → Named (only t e f)
+  unfolding run
+  named-only {t} {e} {f} h k = record { ends = λ b p. named-judge t e (run o b f p .shown) (run o b f p .ended) h (k .ends b p) }
+
+  pub named-then : {f : Format} {g : List ℕ → Format} → Named f → ((xs : List ℕ) → Named (g xs)) → Named (f ▹ g)
+  unfolding run
+  named-then {f} {g} h k = record {
+    ends = λ b p. named-follow (run o b f p .shown) (run o b f p .ended) (λ xs q. run o b (g xs) q) (h .ends b p) (λ q. k (run o b f p .shown) .ends b q);
+  }
+
+  pub named-seq : {f g : Format} → Named f → Named g → Named (f ▸ g)
+  named-seq h k = named-then h (λ xs. k)
+
+  pub named-times : (n : ℕ) {f : Format} → Named f → Named (times n f)
+  unfolding times
+  named-times zero h = named-nothing
+  named-times (suc n) h = named-seq h (named-times n h)
+
+  -- ---- the formats of document 01; a number out of its range is 16 or 17
+  named-byte : (i : Item) → Named (byteItem i)
+  named-byte i = named-seq (named-item Item.align) (named-item i)
+
+  named-count : (lo hi : ℕ) → Named (count lo hi)
+  named-count lo hi = named-only (reason tt) (named-byte Item.U32)
+
+  named-color : Named color
+  named-color = named-times 3 (named-byte (Item.UB 8))
+
+  -- a width, and n fields of that width
+  named-fields : (n : ℕ) → Named (item Item.width ▹ λ w. times n (item (Item.SB (the w))))
+  named-fields n = named-then (named-item Item.width) (λ w. named-times n (named-item (Item.SB (the w))))
+
+  named-path : Named path
+  named-path = named-then (named-count 0 4096) (λ n. named-then (named-times (the n) (named-item (Item.UB 3))) (λ verbs. named-fields (coordinates verbs)))
+
+  named-value : (d : DataType) → Named (value d)
+  named-value U32s = named-byte Item.U32
+  named-value Times = named-byte Item.U64
+  named-value Floats = named-byte (Item.LE 4)
+  named-value Ratios = named-seq (named-byte Item.I32) (named-byte Item.U32)
+  named-value Bools = named-only (reason tt) (named-byte (Item.UB 8))
+  named-value Bytes = named-byte (Item.UB 8)
+  named-value BlendModes = named-only (reason tt) (named-byte (Item.UB 8))
+  named-value TrackMatteTypes = named-only (reason tt) (named-byte (Item.UB 8))
+  named-value MaskModes = named-only (reason tt) (named-byte (Item.UB 8))
+  named-value Paths = named-path
+
+  named-values : (d : DataType) (n : ℕ) → Named (values d n)
+  named-values U32s n = named-times n (named-value U32s)
+  named-values Times n = named-times n (named-value Times)
+  named-values Floats n = named-times n (named-value Floats)
+  named-values Ratios n = named-times n (named-value Ratios)
+  named-values Bools n = named-times n (named-item (Item.UB 1))
+  named-values Bytes n = named-then (named-item Item.width) (λ w. named-times n (named-only (reason tt) (named-item (Item.UB (the w)))))
+  named-values BlendModes n = named-times n (named-value BlendModes)
+  named-values TrackMatteTypes n = named-times n (named-value TrackMatteTypes)
+  named-values MaskModes n = named-times n (named-value MaskModes)
+  named-values Paths n = named-times n named-path
+
+  named-interpolations : (k : Kind) (n : ℕ) → Named (interpolations k n)
+  named-interpolations Value n = named-nothing
+  named-interpolations Fixed n = named-nothing
+  named-interpolations BitFlag n = named-nothing
+  named-interpolations Simple n = named-times n (named-only (reason tt) (named-item (Item.UB 2)))
+  named-interpolations Discrete n = named-nothing
+
+  named-aligned : {f : Format} → Named f → Named (aligned ▸ f)
+  named-aligned h = named-seq (named-item Item.align) h
+
+  named-keyframed : (k : Kind) (d : DataType) → Named (keyframed k d)
+  named-keyframed k d = named-then (named-count 1 4096) (λ n.
+      named-then (named-aligned (named-interpolations k (the n))) (λ kinds.
+      named-seq (named-times (suc (the n)) (named-value Times))
+      (named-aligned (named-seq (named-values d (suc (the n)))
+      (named-aligned (named-fields (beziers kinds * 4)))))))
+
+  named-content : (k : Kind) (d : DataType) (φ : ℕ) → Named (contentOf k d φ)
+  named-content Value d φ = either-way Named (eqb φ 0) named-nothing (named-value d)
+  named-content Fixed d φ = named-value d
+  named-content BitFlag d φ = named-nothing
+  named-content Simple d φ = either-way Named (eqb φ 0) named-nothing (either-way Named (eqb φ 1) (named-value d) (named-keyframed Simple d))
+  named-content Discrete d φ = either-way Named (eqb φ 0) named-nothing (either-way Named (eqb φ 1) (named-value d) (named-keyframed Discrete d))
+
+  -- ---- attribute blocks, whatever their attributes
+  named-flags : (attrs : List Attribute) → Named (allFlags attrs)
+  unfolding allFlags
+  named-flags [] = named-nothing
+  named-flags (a ∷ attrs) = named-seq (named-item (flagsOf (a .kind))) (named-flags attrs)
+
+  named-rows : (attrs : List Attribute) (φs : List ℕ) → Named (rows attrs φs)
+  unfolding rows
+  named-rows [] φs = named-nothing
+  named-rows (a ∷ attrs) [] = named-nothing
+  named-rows (a ∷ attrs) (φ ∷ φs) = named-seq (named-item (Item.echo φ)) (named-seq (named-content (a .kind) (a .dataType) φ) (named-rows attrs φs))
+
+  pub named-block : (attrs : List Attribute) (b : List ℕ) (p : ℕ) → NamedEnd (readBlock o b attrs p .ended)
+  unfolding readBlock
+  named-block attrs b p = go (run o b (allFlags attrs) p .shown) (run o b (allFlags attrs) p .ended) (named-flags attrs .ends b p)
+    where
+      go : (φs : List ℕ) (z : Ending) → NamedEnd z → NamedEnd (handOn φs z (λ φs q. run o b (rows attrs φs) q) .ended)
+      go φs (At q) h = named-rows attrs φs .ends b q
+      go φs (Fault e) h = h
+
+  -- ---- bodies: 15 and 18 at the end
+  abbrev pub NamedBody : Body → Type 0
+  NamedBody (fixed f) = Named f
+  NamedBody (attributes attrs) = Unit {0}
+
+  named-part : (y : Body) → NamedBody y → (b : List ℕ) (p : ℕ) → NamedEnd (readPart o b y p .ended)
+  unfolding readPart
+  named-part (fixed f) h b p = h .ends b p
+  named-part (attributes attrs) h b p = named-block attrs b p
+
+  pub named-body : (y : Body) → NamedBody y → (b : List ℕ) → NamedEnd (readBody o y b .ended)
+  unfolding readBody
+  named-body y h b = go (toEnd o b y .shown) (toEnd o b y .ended)
+      (named-follow (readPart o b y 0 .shown) (readPart o b y 0 .ended) (λ xs p. readAlign o b p) (named-part y h b 0) (λ p. named-align b p))
+    where
+      go : (xs : List ℕ) (z : Ending) → NamedEnd z → NamedEnd (usedUp (8 * length b) xs z .ended)
+      go xs (At p) h = either-way NamedEnd (eqb p (8 * length b)) tt (reason tt)
+      go xs (Fault e) h = h
+
+  -- ---- classes: each code's, at each level
+  abbrev pub NamedClass : Class → Type 0
+  NamedClass opaque = Unit {0}
+  NamedClass end = Unit {0}
+  NamedClass (container f) = Named f
+  NamedClass (known y) = NamedBody y
+
+  abbrev NamedAll : List Class → Type 0
+  NamedAll [] = Unit {0}
+  NamedAll (c ∷ cs) = NamedClass c × NamedAll cs
+
+  named-at : (cs : List Class) → NamedAll cs → (n : ℕ) → NamedClass (getD cs n opaque)
+  named-at [] h n = tt
+  named-at (c ∷ cs) h zero = h .0
+  named-at (c ∷ cs) h (suc n) = named-at cs (h .1) n
+
+  named-codes : NamedAll codes
+  named-codes = (tt, (fonts, (u, (composition, (tt, (named-seq (named-byte (Item.UB 8)) u, (tt, (solid, (tt, (tt, (tt, (u, (named-seq u t, (tt, (tt, tt)))))))))))))))
+    where
+      u : Named u32
+      u = named-byte Item.U32
+
+      i : Named i32
+      i = named-byte Item.I32
+
+      t : Named time
+      t = named-byte Item.U64
+
+      fonts : Named fontTables
+      fonts = named-then (named-count 0 4096) (λ n. named-times (the n) (named-seq (named-byte Item.string) (named-byte Item.string)))
+
+      composition : Named compositionAttributes
+      composition = named-seq i (named-seq i (named-seq t (named-seq (named-byte (Item.LE 4)) named-color)))
+
+      solid : Named solidColor
+      solid = named-seq named-color (named-seq i i)
+
+  pub named-class : (level code : ℕ) → NamedClass (classOf level code)
+  unfolding classOf
+  named-class level code = either-way NamedClass (ltb level code) tt (named-at codes named-codes code)
+
+-- ---- headers: 6, 8, 9, 10, 12
+abbrev pub NamedHead : Head → Type 0
+NamedHead (head code len size) = Unit {0}
+NamedHead (noHead e) = IsReason e
+
+named-raw : (r : List ℕ) → NamedHead (rawHead r)
+named-raw r =
+    either-way NamedHead (ltb (length r) 2) (reason tt)
+    (either-way NamedHead (eqb (le16 r % 64) 63)
+    (either-way NamedHead (ltb (length r) 6) (reason tt) (either-way NamedHead (ltb (le32 (drop 2 r)) 63) (reason tt) tt))
+    tt)
+
+pub named-head : (class : ℕ → Class) (left : ℕ) (r : List ℕ) → NamedHead (readHead class left r)
+named-head class left r = go (rawHead r) (named-raw r)
+  where
+    go : (g : Head) → NamedHead g → NamedHead (passes class left r g)
+    go (noHead e) h = h
+    go (head code len size) h =
+        either-way NamedHead (ltb (length (drop size r)) len) (reason tt)
+        (either-way NamedHead (isEnd (class code) and ltb 0 len) (reason tt)
+        (either-way NamedHead (isContainer (class code) and eqb left 0) (reason tt) tt))
+
+-- ---- walks: 7, 11, and what stands inside
+abbrev pub NamedOutcome : Outcome → Type 0
+NamedOutcome whole = Unit {0}
+NamedOutcome (fault e n) = IsReason e
+
+abbrev pub NamedWalk : Walk → Type 0
+NamedWalk w = NamedOutcome (w .ended)
+
+named-end-at : (a : ℕ) (z : Ending) → NamedEnd z → NamedOutcome (endAt a z)
+named-end-at a (At p) h = tt
+named-end-at a (Fault e) h = h
+
+named-chain : (ts : List Tag) (z : Outcome) (w : Walk) → NamedOutcome z → NamedWalk w → NamedWalk (chain ts z w)
+named-chain ts whole w h k = k
+named-chain ts (fault e n) w h k = h
+
+named-after : (e : Bool) (c : Owner) (a : ℕ) (r : List ℕ) (next : ℕ → List ℕ → Walk) → NamedWalk (next a r) → NamedWalk (afterTag e c a r next)
+named-after false c a r next h = h
+named-after true c a [] next h = tt
+named-after true c a (x ∷ r) next h = reason tt
+
+module _ (o : Order) where
+  named-within : (R : Owner → ℕ → List ℕ → Walk) → ((c : Owner) (a : ℕ) (r : List ℕ) → NamedWalk (R c a r)) → (cl : Class) → NamedClass o cl
+      → (a s : ℕ) (body : List ℕ) → NamedWalk (within o R cl a s body .walk)
+  named-within R u opaque h a s body = tt
+  named-within R u end h a s body = tt
+  named-within R u (known y) h a s body = named-end-at a (readBody o y body .ended) (named-body o y h body)
+  named-within R u (container f) h a s body =
+      go (run o body (front f) 0 .shown) (run o body (front f) 0 .ended) (named-seq o h (named-item o Item.align) .ends body 0)
+    where
+      go : (xs : List ℕ) (z : Ending) → NamedEnd z → NamedWalk (opened R a s body xs z .walk)
+      go xs (At p) h = u (inside a) (s + p / 8) (drop (p / 8) body)
+      go xs (Fault e) h = h
+
+  pub named-walk : (class : ℕ → Class) → ((code : ℕ) → NamedClass o (class code)) → (k left : ℕ) (c : Owner) (a : ℕ) (r : List ℕ) → NamedWalk (walk o class k left c a r)
+  unfolding walk
+  named-walk class h zero left c a r = reason tt
+  named-walk class h (suc k) left c a [] = reason tt
+  named-walk class h (suc k) left c a (x ∷ r) = one (λ left c a r. named-walk class h k left c a r) (readHead class left (x ∷ r)) (named-head class left (x ∷ r))
+    where
+      R : ℕ → Owner → ℕ → List ℕ → Walk
+      R = walk o class k
+
+      one : ((left : ℕ) (c : Owner) (a : ℕ) (r : List ℕ) → NamedWalk (R left c a r)) → (g : Head) → NamedHead g → NamedWalk (oneTag o class R left c a (x ∷ r) g)
+      one u (noHead e) g = g
+      one u (head code len size) g =
+          named-chain _ (within o (R (pred left)) (class code) a (a + size) (take len (drop size (x ∷ r))) .walk .ended) _
+          (named-within (R (pred left)) (u (pred left)) (class code) (h code) a (a + size) (take len (drop size (x ∷ r))))
+          (named-after (isEnd (class code)) c (a + size + len) (drop (size + len) (x ∷ r)) (R left c) (u left c (a + size + len) (drop (size + len) (x ∷ r))))
+
+-- ---- files: 1 to 5 before the walk
+start-most : (level : ℕ) (f : List ℕ) → startFault level f ≤ 5
+unfolding startFault
+start-most level f =
+    most (ltb 1023 level) (lit≤ tt)
+    (most (ltb (length f) 9) (lit≤ tt)
+    (most (signatureRight f)
+    (most (versionRight f)
+    (most (lengthRight f) (lit≤ tt)
+    (lit≤ tt))
+    (lit≤ tt))
+    (lit≤ tt)))
+  where
+    most : (c : Bool) {x y : ℕ} → x ≤ 5 → y ≤ 5 → pick c x y ≤ 5
+    most c h k = either-way (λ (n : ℕ). n ≤ 5) c h k
+
+named-file : (o : Order) (level : ℕ) (f : List ℕ) → NamedWalk (walkFile o level f)
+unfolding walkFile
+named-file o level f = go (eqb (startFault level f) 0) refl
+  where
+    go : (c : Bool) → eqb (startFault level f) 0 ≡ c → NamedWalk (pick c (walkList o (classOf level) 8 file 9 (drop 9 f)) (broken (startFault level f) 0))
+    go true e = named-walk o (classOf level) (λ code. named-class o level code) (length (drop 9 f)) 8 file 9 (drop 9 f)
+    go false e = (omega (arith, eqb-false (startFault level f) 0 e), omega (arith, start-most level f))
+
+-- what refuses is a fault, with its reason
+abbrev NamedResult : Result → Type 0
+NamedResult (gives ns) = Unit {0}
+NamedResult (refuses e n) = IsReason e
+
+named-result : (ns : List ℕ) (z : Outcome) → NamedOutcome z → NamedResult (result ns z)
+named-result ns whole h = tt
+named-result ns (fault e n) h = h
+
+named-read : (o : Order) (level : ℕ) (f : List ℕ) → NamedResult (readFile o level f)
+unfolding readFile
+named-read o level f = named-result (table f (walkFile o level f)) (walkFile o level f .ended) (named-file o level f)
+
+named-tags : (o : Order) (level : ℕ) (f : List ℕ) → NamedResult (readTags o level f)
+unfolding readTags
+named-tags o level f = named-result (tagTable (walkFile o level f .tags)) (walkFile o level f .ended) (named-file o level f)
+
+pub read-reason : (o : Order) (level : ℕ) (f : List ℕ) {e n : ℕ} → readFile o level f ≡ refuses e n → IsReason e
+read-reason o level f q = subst NamedResult q (named-read o level f)
+
+pub tags-reason : (o : Order) (level : ℕ) (f : List ℕ) {e n : ℕ} → readTags o level f ≡ refuses e n → IsReason e
+tags-reason o level f q = subst NamedResult q (named-tags o level f)
+
+-- ---- answers, with lent memory m: 19 too
+abbrev NamedAnswer : Answer → Type 0
+NamedAnswer (accepted n) = Unit {0}
+NamedAnswer (refused e n) = (1 ≤ e) × (e ≤ 19)
+
+named-into : (m : List ℕ) (r : Result) → ((e n : ℕ) → r ≡ refuses e n → IsReason e) → NamedAnswer (into m r .answer)
+named-into m (gives ns) h = either-way (λ (l : Left). NamedAnswer (l .answer)) (leb (length ns) (length m)) tt (lit≤ tt, lit≤ tt)
+named-into m (refuses e n) h = (h e n refl .0, omega (arith, h e n refl .1))
+
+pub answer-reason : (m : List ℕ) (r : Result) → ((e n : ℕ) → r ≡ refuses e n → IsReason e) → {e n : ℕ} → into m r .answer ≡ refused e n → (1 ≤ e) × (e ≤ 19)
+answer-reason m r h q = subst NamedAnswer q (named-into m r h)
