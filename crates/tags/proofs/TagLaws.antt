@@ -5,7 +5,7 @@ use mathlib.Core.Path.{_≡_, refl, ap, sym, _∙_}
 use native.Mathlib.Nat.{add-zero}
 use native.Mathlib.Omega.{arith}
 use lib.ListN.{length, set, getD, drop, length-set, length-drop}
-use lib.Seq.{sets, drop-cons}
+use lib.Seq.{sets, length-sets, drop-cons}
 use Rattle.format.specs.Bits.{high}
 use Rattle.format.specs.Reading.{At, Fault, Reading, shows, stop}
 use Rattle.format.specs.Formats.{_▸_}
@@ -90,6 +90,18 @@ headed-stored t k code s r R e a b c d =
       set-sets (set (set t k code) (suc k) s) (suc (suc k)) (suc (suc (suc k))) (length v) v (omega arith),
     ))
     (m ∙ omega arith)
+    (ap (λ (z : State). z .ended) e)
+
+-- there is no room for any of them
+pub headed-out : (t : List ℕ) (k code : ℕ) (s : ℕ) (r : Reading) {u : List ℕ} (R : Run) → left u R ≡ after t (k + 3) r → length u ≤ k → left u R ≡ after t k (headed code s r)
+unfolding after
+headed-out t k code s r {u} R e h =
+    let v : List ℕ = r .shown in
+    let d : u ≡ sets t (k + 3) v = ap (λ (z : State). z .table) e in
+    let n : length t ≤ k = omega (arith, ap length d, length-sets t (k + 3) v) in
+    state-eq
+    (d ∙ sets-out t (k + 3) v (omega arith) ∙ sym (sets-out t k (headed code s r .shown) n))
+    (ap (λ (z : State). z .count) e ∙ omega arith)
     (ap (λ (z : State). z .ended) e)
 
 -- ---- five numbers in a row

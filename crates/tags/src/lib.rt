@@ -86,12 +86,15 @@ pub fn state(class: Class) -> u64
     }
 }
 
-// A tag's numbers: its values are stored first, behind its code, its state and their count.
+// A tag's numbers: its values are stored first, behind its code, its state and their count. The walk that counts has no room for any of them.
 pub fn show_tag(class: Class, code: u32, body: &[u8], t: &mut [u64], k: usize) -> Run
     requires { ⌜ (length (now body) < 2 ^ 60) × (k < 2 ^ 60) ⌝ }
     ensures { λ r. ⌜ left (now (t .exit)) r ≡ after (now (t .entry)) k (headed code (stateOf class) (valuesOf class code (now (body .entry)))) ⌝ }
 {
     let r = read_values(class, code, body, t, k + 3);
+    if t.len() <= k {
+        return r;
+    }
     table::put(t, k, code as u64);
     table::put(t, k + 1, state(class));
     table::put(t, k + 2, (index(r) - (k + 3)) as u64);
@@ -112,6 +115,9 @@ pub fn show_row(depth: u32, code: u32, place: u32, size: u32, len: u32, g: &mut 
     requires { ⌜ m < 2 ^ 60 ⌝ }
     ensures { λ r. ⌜ now (g .exit) ≡ sets (now (g .entry)) m (depth ∷ code ∷ place ∷ size ∷ len ∷ []) ⌝ }
 {
+    if g.len() <= m {
+        return;
+    }
     put_row(g, m, depth);
     put_row(g, m + 1, code);
     put_row(g, m + 2, place);
