@@ -47,10 +47,12 @@ def compile_c(program, sources, flags):
     subprocess.run([*compiler, '-std=c11', '-Wall', '-Wextra', '-Werror', '-I', INCLUDE, *flags, *sources, '-o', program], check=True)
 
 
+def kit():
+    """The folder of the Rattle kit."""
+    guide = subprocess.run(['rt', 'doc'], stdout=subprocess.PIPE, check=True, text=True).stdout.strip()
+    return os.path.dirname(os.path.dirname(guide))
+
+
 def runner():
     """What stands before a program's name to run it."""
-    if is_native():
-        return []
-    guide = subprocess.run(['rt', 'doc'], stdout=subprocess.PIPE, check=True, text=True).stdout.strip()
-    kit = os.path.dirname(os.path.dirname(guide))
-    return [os.path.join(kit, 'on', platform.machine(), 'toolchain', 'bin', 'qemu-x86_64')]
+    return [] if is_native() else [os.path.join(kit(), 'on', platform.machine(), 'toolchain', 'bin', 'qemu-x86_64')]

@@ -5,7 +5,7 @@ use mathlib.Core.Path.{_≡_, refl, ap, sym, subst, _∙_}
 use mathlib.Core.Bool.{Bool, true, false}
 use lib.ListN.{length, length-set, set, getD, List·getD-eq-default}
 use lib.Seq.{sets}
-use native.Mathlib.Nat.{add-zero, sub-zero, add-mul, one-mul, suc-mul, mul-le-mul, mul-le-mul-right}
+use native.Mathlib.Nat.{add-zero, add-mul, one-mul, suc-mul, mul-le-mul, mul-le-mul-right}
 use lib.Dec.{eqb}
 use borrow.Author.Tests.{ne-eqb}
 use native.Mathlib.Omega.{arith}
@@ -26,7 +26,7 @@ use Rattle.table.specs.State.{State, after}
 use Rattle.table.specs.Fields.{Fits, allows, judgeNum, fieldOf, signed, announces, announced, weights}
 use Rattle.table.specs.declared.fields.Field.{Field}
 use Rattle.table.specs.declared.fields.Field.the-variants.{Verb, Interpolation, Bit, ByteValue, Coordinate}
-use Rattle.bits.proofs.StoreLaws.{sets-out}
+use Rattle.table.proofs.StoringLaws.{Storing, storing-start, storing-next, storing-done}
 use Rattle.table.proofs.EngineLaws.{state, state-eq, after-one, after-stop, times-none, times-next, times-stop}
 
 -- ---- one field
@@ -249,48 +249,46 @@ steps-run w s (suc n) p h =
     let one : shows (signExtend w (ub high s p w) ∷ []) (p + w) ≡ run high s (fieldOf Coordinate w) p = field-in Coordinate s p w (omega (arith, h, m)) refl refl refl in
     rw (← one, steps-run w s n (p + w) (omega (arith, h, m)), e)
 
+steps-length : (w : ℕ) (s : List ℕ) (n p : ℕ) → length (steps w s n p) ≡ n
+steps-length w s zero p = refl
+steps-length w s (suc n) p = ap suc (steps-length w s n (p + w))
+
+step-at : (w : ℕ) (s : List ℕ) (n p i : ℕ) → i < n → getD (steps w s n p) i 0 ≡ signExtend w (ub high s (p + i * w) w)
+step-at w s zero p i h = absurd (omega arith)
+step-at w s (suc n) p zero h = let e : p + 0 * w ≡ p = omega arith in rw e
+step-at w s (suc n) p (suc i) h = let e : p + suc i * w ≡ p + w + i * w = omega (arith, suc-mul i w) in rw e (step-at w s n (p + w) i (omega arith))
+
 module _ (w : ℕ) (s t₀ : List ℕ) (k n p₀ : ℕ) where
-  -- the first i numbers are stored, and the others would go from here on
+  -- the first i numbers are stored, and the next field is at q
   pub record Laying (t : List ℕ) (q i : ℕ) : Type 0 where
-    pub size : length t ≡ length t₀
+    pub stored : Storing t₀ (steps w s n p₀) k t i
     pub place : q ≡ p₀ + i * w
-    pub upto : i ≤ n
-    pub rest : sets t₀ k (steps w s n p₀) ≡ sets t (k + i) (steps w s (n - i) q)
 
   pub laying-start : Laying t₀ p₀ 0
-  laying-start = record { size = refl; place = omega arith; upto = omega arith; rest = rw (add-zero k, sub-zero n) }
+  laying-start = record { stored = storing-start t₀ (steps w s n p₀) k; place = omega arith }
 
   module _ {t : List ℕ} {q i : ℕ} (g : Laying t q i) where
+    pub laying-upto : i ≤ n
+    laying-upto = omega (arith, g .stored .upto, steps-length w s n p₀)
+
     pub laying-in : i < n → p₀ + n * w ≤ 8 * length s → q + w ≤ 8 * length s
     laying-in h l = omega (arith, g .place, step-in i n w h, l)
 
     pub laying-next : {x v : ℕ} → i < n → x ≡ ub high s q w → v ≡ signExtend w x → Laying (set t (k + i) v) (q + w) (i + 1)
     laying-next {x} {v} h e f =
-        let m : n - i ≡ suc (n - (i + 1)) = omega arith in
-        let j : suc (k + i) ≡ k + (i + 1) = omega arith in
         let d : (i + 1) * w ≡ i * w + w = add-mul i 1 w ∙ ap (λ (y : ℕ). i * w + y) (one-mul w) in
-        let y : signExtend w (ub high s q w) ≡ v = sym (f ∙ ap (signExtend w) e) in
+        let z : v ≡ getD (steps w s n p₀) i 0 = f ∙ ap (signExtend w) (e ∙ ap (λ (y : ℕ). ub high s y w) (g .place)) ∙ sym (step-at w s n p₀ i h) in
         record {
-          size = length-set t (k + i) v ∙ g .size;
+          stored = storing-next t₀ (steps w s n p₀) k (g .stored) (omega (arith, h, steps-length w s n p₀)) z;
           place = omega (arith, g .place, d);
-          upto = omega arith;
-          rest = g .rest ∙ ap (λ (c : ℕ). sets t (k + i) (steps w s c q)) m ∙ ap (λ (c : ℕ). sets (set t (k + i) c) (suc (k + i)) (steps w s (n - (i + 1)) (q + w))) y ∙ ap (λ (c : ℕ). sets (set t (k + i) v) c (steps w s (n - (i + 1)) (q + w))) j;
         }
 
     -- all are stored, or there is no more room
     pub laying-done : {m e : ℕ} → m ≡ min n (length t - k) → m ≤ i → e ≡ p₀ + n * w → e ≤ 8 * length s → state t (k + n) (At e) ≡ after t₀ k (run high s (times n (fieldOf Coordinate w)) p₀)
     unfolding after
     laying-done {m} {e} h l f inside =
-        let full : t ≡ sets t₀ k (steps w s n p₀) = sym (g .rest ∙ stored (n - i) refl) in
-        rw (steps-run w s n p₀ (omega (arith, f, inside))) (state-eq full (ap (λ (c : ℕ). k + c) (sym (steps-length n p₀))) (ap At f))
-      where
-        steps-length : (n p : ℕ) → length (steps w s n p) ≡ n
-        steps-length zero p = refl
-        steps-length (suc n) p = ap suc (steps-length n (p + w))
-
-        stored : (c : ℕ) → n - i ≡ c → sets t (k + i) (steps w s (n - i) q) ≡ t
-        stored zero z = rw z
-        stored (suc c) z = sets-out t (k + i) (steps w s (n - i) q) (omega (arith, h, l))
+        let full : t ≡ sets t₀ k (steps w s n p₀) = storing-done t₀ (steps w s n p₀) k (g .stored) (h ∙ ap (λ (y : ℕ). min y (length t - k)) (sym (steps-length w s n p₀))) l in
+        rw (steps-run w s n p₀ (omega (arith, f, inside))) (state-eq full (ap (λ (c : ℕ). k + c) (sym (steps-length w s n p₀))) (ap At f))
 
 -- the one signed kind
 pub signed-run : (kind : Field) (w n : ℕ) (s t : List ℕ) (k p : ℕ) {x : State} → signed kind ≡ true → x ≡ after t k (run high s (times n (fieldOf Coordinate w)) p) → x ≡ after t k (run high s (times n (fieldOf kind w)) p)

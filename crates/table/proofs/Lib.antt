@@ -1,4 +1,5 @@
 pub mod EngineLaws
+pub mod StoringLaws
 pub mod FieldLaws
 pub mod TextLaws
 pub mod RunLaws

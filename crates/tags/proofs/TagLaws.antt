@@ -16,40 +16,15 @@ use Rattle.table.specs.Run.{left, indexOf}
 use Rattle.table.specs.declared.Run.{Run}
 use Rattle.bits.proofs.StoreLaws.{sets-out}
 use Rattle.table.proofs.EngineLaws.{state, state-eq, after-none}
+use Rattle.table.proofs.StoringLaws.{Storing, storing-done}
 use Rattle.table.proofs.TextLaws.{set-sets}
 use Rattle.classes.specs.declared.Class.{Class}
 use Rattle.tags.specs.Shown.{stateOf, valuesOf, headed}
 
--- ---- bytes, one by one
-module _ (t₀ b : List ℕ) (k : ℕ) where
-  -- the first i are stored, and the others would go from here on
-  pub record Copying (t : List ℕ) (i : ℕ) : Type 0 where
-    pub size : length t ≡ length t₀
-    pub upto : i ≤ length b
-    pub rest : sets t₀ k b ≡ sets t (k + i) (drop i b)
-
-  pub copy-start : Copying t₀ 0
-  copy-start = record { size = refl; upto = omega arith; rest = rw (add-zero k) }
-
-  module _ {t : List ℕ} {i : ℕ} (g : Copying t i) where
-    pub copy-next : {x : ℕ} → i < length b → x ≡ getD b i 0 → Copying (set t (k + i) x) (i + 1)
-    copy-next {x} h e =
-        let one : i + 1 ≡ suc i = omega arith in
-        let j : k + suc i ≡ suc (k + i) = omega arith in
-        record {
-          size = length-set t (k + i) x ∙ g .size;
-          upto = omega arith;
-          rest = g .rest ∙ ap (sets t (k + i)) (drop-cons b i 0 h) ∙ ap (λ (y : ℕ). sets (set t (k + i) y) (suc (k + i)) (drop (suc i) b)) (sym e) ∙ sym (ap (λ (y : ℕ). sets (set t (k + i) x) (k + y) (drop y b)) one ∙ ap (λ (y : ℕ). sets (set t (k + i) x) y (drop (suc i) b)) j);
-        }
-
-    -- all are stored, or there is no more room
-    pub copy-done : {m : ℕ} → m ≡ min (length b) (length t - k) → m ≤ i → state t (k + length b) (At 0) ≡ after t₀ k (shows b 0)
-    unfolding after
-    copy-done h l = state-eq (sym (g .rest ∙ stored (drop i b) (length-drop i b))) refl refl
-      where
-        stored : (xs : List ℕ) → length xs ≡ length b - i → sets t (k + i) xs ≡ t
-        stored [] e = refl
-        stored (x ∷ xs) e = sets-out t (k + i) (x ∷ xs) (omega (arith, h, l))
+-- ---- bytes, one by one: all are stored, or there is no more room
+pub copied : (t₀ b : List ℕ) (k : ℕ) {t : List ℕ} {i m : ℕ} → Storing t₀ b k t i → m ≡ min (length b) (length t - k) → m ≤ i → state t (k + length b) (At 0) ≡ after t₀ k (shows b 0)
+unfolding after
+copied t₀ b k {t} {i} {m} g h l = state-eq (storing-done t₀ b k g h l) refl refl
 
 -- ---- a reading that showed nothing more
 pub none-left : (t : List ℕ) (k : ℕ) {q : ℕ} {r : Reading} → r ≡ shows [] q → state t k (At q) ≡ after t k r

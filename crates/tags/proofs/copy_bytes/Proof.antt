@@ -4,7 +4,8 @@ use denote.Ref.{now}
 use native.Mathlib.Omega.{arith}
 use borrow.Author.Needs.{needs}
 use lib.ListN.{length}
-use Rattle.tags.proofs.TagLaws.{Copying, copy-start, copy-next, copy-done}
+use Rattle.table.proofs.StoringLaws.{Storing, storing-start, storing-next}
+use Rattle.tags.proofs.TagLaws.{copied}
 use Rattle.tags.proofs.copy_bytes.Statement.{statement}
 use Rattle.tags.proofs.copy_bytes.Tie as tie
 use Rattle.tags.proofs.copy_bytes.Reads as reads
@@ -13,7 +14,7 @@ use Rattle.bits.proofs.wide.Reads as wide-reads
 use Rattle.table.proofs.room_for.Reads as room-for-reads
 
 abbrev Inv-loop : tie.InvT-loop
-Inv-loop body t₀ k n m i₀ t i = Copying t₀ body k t i
+Inv-loop body t₀ k n m i₀ t i = Storing t₀ body k t i
 
 abbrev μ-loop : tie.MeasureT-loop
 μ-loop body t₀ k n m i₀ t i = m - i
@@ -22,7 +23,7 @@ room-for-requires : tie.Need-room-for-requires Inv-loop μ-loop
 room-for-requires c κs = tt
 
 loop-holds : tie.Need-loop-holds Inv-loop μ-loop
-loop-holds c = let a = c .before .before .before .args in copy-start (now (a .t)) (now (a .body)) (a .k)
+loop-holds c = let a = c .before .before .before .args in storing-start (now (a .t)) (now (a .body)) (a .k)
 
 add-j : tie.Need-add-j Inv-loop μ-loop
 add-j c = omega (arith, c .before .loop .inv .upto, c .before .before .before .before .before .pre)
@@ -46,7 +47,7 @@ loop-less : tie.Need-loop-less Inv-loop μ-loop
 loop-less c = omega (arith, c .before .before .loop-test .taken)
 
 loop-again : tie.Need-loop-again Inv-loop μ-loop
-loop-again c = let a = c .before .before .before .before .before .before .before .args in copy-next (now (a .t)) (now (a .body)) (a .k) (c .before .before .before .loop .inv) (omega (arith, c .before .before .loop-test .taken, c .before .before .before .before .room-for .ensures)) (c .wide .ensures .0)
+loop-again c = let a = c .before .before .before .before .before .before .before .args in storing-next (now (a .t)) (now (a .body)) (a .k) (c .before .before .before .loop .inv) (omega (arith, c .before .before .loop-test .taken, c .before .before .before .before .room-for .ensures)) (c .wide .ensures .0)
 
 add-t8 : tie.Need-add-t8 Inv-loop μ-loop
 add-t8 c = omega (arith, c .before .before .before .before .before .pre)
@@ -55,7 +56,7 @@ same-length : tie.Need-same-length Inv-loop μ-loop
 same-length c = c .before .loop .inv .size
 
 returns : tie.Need-returns Inv-loop μ-loop
-returns c = let a = c .before .before .before .before .before .args in copy-done (now (a .t)) (now (a .body)) (a .k) (c .before .loop .inv) {m = c .before .before .room-for .result} (rw (c .before .loop .inv .size) (c .before .before .room-for .ensures)) (omega (arith, c .loop-test .left))
+returns c = let a = c .before .before .before .before .before .args in copied (now (a .t)) (now (a .body)) (a .k) (c .before .loop .inv) {m = c .before .before .room-for .result} (rw (c .before .loop .inv .size) (c .before .before .room-for .ensures)) (omega (arith, c .loop-test .left))
 
 pub copy-bytes-spec : {M : Type 1} → statement M
 copy-bytes-spec =

@@ -4,7 +4,7 @@ use mathlib.Core.Path.{refl, sym, _∙_}
 use native.Mathlib.Omega.{arith}
 use borrow.Author.Needs.{needs}
 use denote.Ref.{now}
-use Rattle.table.proofs.FieldLaws.{run-small, Laying, laying-start, laying-in, laying-next, laying-done}
+use Rattle.table.proofs.FieldLaws.{run-small, Laying, laying-start, laying-upto, laying-in, laying-next, laying-done}
 use Rattle.table.proofs.fields.read_signed.Statement.{statement}
 use Rattle.table.proofs.fields.read_signed.Tie as tie
 use Rattle.table.proofs.fields.read_signed.Reads as reads
@@ -45,7 +45,7 @@ loop-holds : tie.Need-loop-holds Inv-loop μ-loop
 loop-holds c = let a = c .before .before .before .before .before .args in laying-start (a .w) (now (a .s)) (now (a .t)) (a .k) (a .n) (a .at .0)
 
 add-j : tie.Need-add-j Inv-loop μ-loop
-add-j c = let a = c .before .before .before .before .before .before .before .args in omega (arith, c .before .loop .inv .upto, c .before .before .before .before .before .before .before .pre .0, c .before .before .before .before .before .before .before .pre .3)
+add-j c = let a = c .before .before .before .before .before .before .before .args in omega (arith, laying-upto (a .w) (now (a .s)) (now (a .t)) (a .k) (a .n) (a .at .0) (c .before .loop .inv), c .before .before .before .before .before .before .before .pre .0, c .before .before .before .before .before .before .before .pre .3)
 
 field-requires : tie.Need-field-requires Inv-loop μ-loop
 field-requires c κs = let a = c .before .before .before .before .before .before .before .args in (laying-in (a .w) (now (a .s)) (now (a .t)) (a .k) (a .n) (a .at .0) (c .before .loop .inv) (omega (arith, c .loop-test .taken, c .before .before .room-for .ensures)) (omega (arith, c .before .before .before .if1 .left)), c .before .before .before .before .before .before .before .pre .0 .0 .1, c .before .before .before .before .before .before .before .pre .1, c .before .before .before .before .before .before .before .pre .2)
@@ -57,13 +57,13 @@ mul-t : tie.Need-mul-t Inv-loop μ-loop
 mul-t c = search needs
 
 slice-write-t : tie.Need-slice-write-t Inv-loop μ-loop
-slice-write-t c = omega (arith, c .before .before .before .loop .inv .size, c .before .before .loop-test .taken, c .before .before .before .before .room-for .ensures)
+slice-write-t c = omega (arith, c .before .before .before .loop .inv .stored .size, c .before .before .loop-test .taken, c .before .before .before .before .room-for .ensures)
 
 add-place : tie.Need-add-place Inv-loop μ-loop
 add-place c = let a = c .before .before .before .before .before .before .before .before .before .args in omega (arith, laying-in (a .w) (now (a .s)) (now (a .t)) (a .k) (a .n) (a .at .0) (c .before .before .before .loop .inv) (omega (arith, c .before .before .loop-test .taken, c .before .before .before .before .room-for .ensures)) (omega (arith, c .before .before .before .before .before .if1 .left)), c .before .before .before .before .before .before .before .before .before .pre .0 .0 .1)
 
 add-i : tie.Need-add-i Inv-loop μ-loop
-add-i c = omega (arith, c .before .before .before .loop .inv .upto, c .before .before .before .before .before .before .before .before .before .pre .3)
+add-i c = let a = c .before .before .before .before .before .before .before .before .before .args in omega (arith, laying-upto (a .w) (now (a .s)) (now (a .t)) (a .k) (a .n) (a .at .0) (c .before .before .before .loop .inv), c .before .before .before .before .before .before .before .before .before .pre .3)
 
 loop-less : tie.Need-loop-less Inv-loop μ-loop
 loop-less c = omega (arith, c .before .before .loop-test .taken)
@@ -75,10 +75,10 @@ add-t16 : tie.Need-add-t16 Inv-loop μ-loop
 add-t16 c = omega (arith, c .before .before .before .before .before .before .before .pre .0, c .before .before .before .before .before .before .before .pre .3)
 
 same-length-2 : tie.Need-same-length-2 Inv-loop μ-loop
-same-length-2 c = c .before .loop .inv .size
+same-length-2 c = c .before .loop .inv .stored .size
 
 returns-2 : tie.Need-returns-2 Inv-loop μ-loop
-returns-2 c = let a = c .before .before .before .before .before .before .before .args in laying-done (a .w) (now (a .s)) (now (a .t)) (a .k) (a .n) (a .at .0) (c .before .loop .inv) {m = c .before .before .room-for .result} (rw (c .before .loop .inv .size) (c .before .before .room-for .ensures)) (omega (arith, c .loop-test .left)) refl (omega (arith, c .before .before .before .if1 .left))
+returns-2 c = let a = c .before .before .before .before .before .before .before .args in laying-done (a .w) (now (a .s)) (now (a .t)) (a .k) (a .n) (a .at .0) (c .before .loop .inv) {m = c .before .before .room-for .result} (rw (c .before .loop .inv .stored .size) (c .before .before .room-for .ensures)) (omega (arith, c .loop-test .left)) refl (omega (arith, c .before .before .before .if1 .left))
 
 pub read-signed-spec : {M : Type 1} → statement M
 read-signed-spec =
