@@ -56,7 +56,7 @@ same-length : tie.Need-same-length Inv-loop μ-loop
 same-length c = c .before .loop .inv .size
 
 returns : tie.Need-returns Inv-loop μ-loop
-returns c = let a = c .before .before .before .before .before .args in copied (now (a .t)) (now (a .body)) (a .k) (c .before .loop .inv) {m = c .before .before .room-for .result} (rw (c .before .loop .inv .size) (c .before .before .room-for .ensures)) (omega (arith, c .loop-test .left))
+returns c = let a = c .before .before .before .before .before .args in copied (now (a .t)) (now (a .body)) (a .k) {m = c .before .before .room-for .result} (c .before .loop .inv) (rw (c .before .loop .inv .size) (c .before .before .room-for .ensures)) (omega (arith, c .loop-test .left))
 
 pub copy-bytes-spec : {M : Type 1} → statement M
 copy-bytes-spec =
