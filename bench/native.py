@@ -7,7 +7,7 @@ import subprocess
 
 from shared import ARCHIVE, ROOT, kit, need, need_archive
 
-# $1 is where the copy goes, and $2 the kit's clang.
+# Where the copy goes, and the kit's clang.
 KEEPING_CLANG = """#!/bin/sh
 for word; do case $word in *.bc) cp "$word" '%s' ;; esac; done
 exec '%s' "$@"

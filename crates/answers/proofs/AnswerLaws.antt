@@ -1,6 +1,6 @@
 -- No second answer fits a promise that says what a call leaves.
 use mathlib.Core.List.{List}
-use mathlib.Core.Path.{_≡_, refl, ap}
+use mathlib.Core.Path.{_≡_, ap}
 use Prim.Native.Nat.{ℕ}
 use Rattle.format.specs.Reasons as paper
 use Rattle.answers.specs.declared.Answer.{Answer}

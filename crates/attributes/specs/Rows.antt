@@ -1,7 +1,6 @@
 -- The constant table of attributes, in the words of the definitions.
 use Prim.Native.Nat.{ℕ, _+_, _≤_}
-use mathlib.Core.List.{List, [], _∷_, _++_}
-use mathlib.Core.Path.{_≡_}
+use mathlib.Core.List.{List, [], _++_}
 use lib.Dec.{eqb}
 use lib.Seq.{slice}
 use Rattle.format.specs.Tests.{pick}

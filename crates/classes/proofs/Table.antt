@@ -1,6 +1,6 @@
 -- A table's rule, proved once: one equation that antt computes over the whole table, and one law that gives the rule at each entry.
 use Prim.Native.Nat.{ℕ, zero, suc, _+_, _*_, _<_}
-use mathlib.Core.List.{List, [], _∷_}
+use mathlib.Core.List.{List, []}
 use mathlib.Core.Path.{_≡_, _∙_, refl, ap, sym}
 use native.Mathlib.Nat.{add-zero, zero-add, add-suc, suc-add, le-of-suc-le-suc, not-suc-le-zero}
 use lib.ListN.{getD}

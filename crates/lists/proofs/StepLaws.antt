@@ -1,14 +1,14 @@
 -- One tag: its header, its row, its own numbers, and what comes after them.
 use Prim.Native.Nat.{ℕ, _+_, _-_, _/_, _≤_}
 use mathlib.Core.List.{List, [], _∷_}
-use mathlib.Core.Path.{_≡_, refl, ap, sym, subst, _∙_}
+use mathlib.Core.Path.{_≡_, ap, sym, subst, _∙_}
 use native.Mathlib.Omega.{arith}
 use lib.ListN.{length, take, drop, length-drop}
 use lib.Seq.{sets, drop-drop}
 use lib.Dec.{eqb}
 use borrow.Author.Tests.{eq-eqb, ne-eqb}
 use Rattle.bits.specs.declared.BitPlace.{BitPlace}
-use Rattle.format.specs.Reading.{At, Fault, Reading}
+use Rattle.format.specs.Reading.{At, Fault}
 use Rattle.format.specs.FileAndTags as paper
 use Rattle.format.specs.FileAndTags.{blame}
 use Rattle.table.specs.State.{State, after}
@@ -20,7 +20,7 @@ use Rattle.headers.specs.Heads.{seenHead, headBy}
 use Rattle.headers.specs.declared.Head.{Head}
 use Rattle.headers.specs.declared.Head.the-variants as heads
 use Rattle.headers.proofs.HeadLaws.{FitsBy, fits-by}
-use Rattle.lists.specs.Lists.{ownerOf, tagShown, stepBy, stepOf, Stepped, stepped, tagAt, lastOf}
+use Rattle.lists.specs.Lists.{ownerOf, tagShown, stepBy, stepOf, stepped, tagAt, lastOf}
 use Rattle.lists.specs.declared.Owner.{Owner}
 use Rattle.lists.specs.declared.Step.{Step}
 use Rattle.lists.specs.declared.Step.the-variants as step

@@ -11,7 +11,7 @@ use lib.Dec.{ltb, leb, eqb}
 use borrow.Author.Tests.{lt-ltb, le-ltb, lt-leb, le-leb, leb-true, eq-eqb, ne-eqb, eqb-true}
 use Rattle.format.specs.Tests.{pick, _and_}
 use Rattle.format.specs.Bits.{high}
-use Rattle.format.specs.FileAndTags.{le32, signatureRight, versionRight, lengthRight, classOf, Outcome, whole, fault, Walk, broken, file, walkList}
+use Rattle.format.specs.FileAndTags.{le32, signatureRight, versionRight, classOf, Outcome, whole, fault, Walk, broken, file, walkList}
 use Rattle.format.specs.TableOfNumbers.{numbers, table, tagTable}
 use Rattle.format.specs.Reasons.{startFault, walkFile, gives, refuses, result, readFile, readTags, into}
 use Rattle.format.proofs.LevelLaws.{long-file}

@@ -1,7 +1,7 @@
 -- A walk of the lists alone, with every other body opaque, gives the tag table of the walk that reads all, where that accepts: `skim-rows`.
 use Prim.Native.Nat.{ℕ, zero, suc, pred, _+_, _-_, _/_}
 use mathlib.Core.List.{List, [], _∷_, _++_}
-use mathlib.Core.Path.{_≡_, refl, ap, subst, sym, _∙_}
+use mathlib.Core.Path.{_≡_, refl, ap, subst, sym}
 use mathlib.Core.Bool.{Bool, true, false}
 use lib.ListN.{length, take, drop}
 use Rattle.format.specs.Bits.{high}

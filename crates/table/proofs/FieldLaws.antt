@@ -1,9 +1,9 @@
 -- Bit fields of each kind: what one reads as, and what a run of them leaves and announces.
 use Prim.Native.Nat.{ℕ, zero, suc, _+_, _-_, _*_, _^_, _≤_, _<_, min}
-use mathlib.Core.List.{List, [], _∷_, _++_}
+use mathlib.Core.List.{List, [], _∷_}
 use mathlib.Core.Path.{_≡_, refl, ap, sym, subst, _∙_}
 use mathlib.Core.Bool.{Bool, true, false}
-use lib.ListN.{length, length-set, set, getD, List·getD-eq-default}
+use lib.ListN.{length, length-set, set, getD}
 use lib.Seq.{sets}
 use native.Mathlib.Nat.{add-zero, add-mul, one-mul, suc-mul, mul-le-mul, mul-le-mul-right}
 use lib.Dec.{eqb}
@@ -12,7 +12,7 @@ use native.Mathlib.Omega.{arith}
 use Rattle.format.specs.Tests.{pick}
 use Rattle.format.specs.Bits.{high, ub}
 use Rattle.format.specs.Reading.{At, Fault, Reading, shows, stop}
-use Rattle.format.specs.Formats.{Item, Format, item, only, times, the}
+use Rattle.format.specs.Formats.{Item, item, only, times, the}
 use Rattle.format.specs.Items.{Num, num, bad, mapNum, showNum, readUB, readWidth, readItem, signExtend, judge, run, coordinatesOf, coordinates}
 use Rattle.format.specs.Bodies.{beziers}
 use Rattle.format.proofs.SizeLaws.{Fair, FairReading, fair-item, fair-only}

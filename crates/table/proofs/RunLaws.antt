@@ -6,7 +6,7 @@ use lib.ListN.{length}
 use lib.Seq.{length-sets}
 use native.Mathlib.Omega.{arith}
 use Rattle.format.specs.Bits.{high}
-use Rattle.format.specs.Reading.{Ending, At, Fault, shows, stop}
+use Rattle.format.specs.Reading.{Ending, At, shows, stop}
 use Rattle.format.specs.Formats.{Item, Format, nothing, item, _▹_, _▸_, times}
 use Rattle.format.specs.Items.{run, readItem, u32, byte}
 use Rattle.format.proofs.SizeLaws.{Fair, fair-byte, fair-only}

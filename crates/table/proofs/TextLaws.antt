@@ -1,21 +1,18 @@
 -- Strings: the bytes are stored first, and their count before them last.
-use Prim.Native.Nat.{ℕ, zero, suc, _+_, _-_, _*_, _^_, _≤_, _<_}
-use mathlib.Core.List.{List, [], _∷_, _++_}
+use Prim.Native.Nat.{ℕ, zero, suc, _+_, _-_, _*_, _≤_, _<_}
+use mathlib.Core.List.{List, [], _∷_}
 use mathlib.Core.Path.{_≡_, refl, ap, sym, _∙_}
-use mathlib.Core.Bool.{Bool, true, false}
 use lib.ListN.{length, length-set, set, getD}
 use lib.Seq.{sets, set-comm}
 use lib.Dec.{eqb}
 use borrow.Author.Tests.{le-leb, lt-leb, eq-eqb, ne-eqb}
 use native.Mathlib.Nat.{add-zero, mod-eq-of-lt}
 use native.Mathlib.Omega.{arith}
-use Rattle.format.specs.Tests.{pick}
 use Rattle.format.specs.Bits.{high, ub}
-use Rattle.format.specs.Reading.{Ending, At, Fault, Reading}
-use Rattle.format.specs.Items.{room, Text, text, cut, addText, readText, showText}
+use Rattle.format.specs.Reading.{At, Fault}
+use Rattle.format.specs.Items.{Text, text, cut, addText, readText, showText}
 use Rattle.format.proofs.ByteLaws.{ub-byte}
 use Rattle.table.specs.State.{State, after}
-use Rattle.table.specs.Fields.{Fits}
 use Rattle.table.proofs.EngineLaws.{state, state-eq}
 
 -- a store below a run of stores may come last

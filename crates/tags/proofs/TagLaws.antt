@@ -1,16 +1,11 @@
 -- One tag: its bytes copied one by one, its values by its class, and its code, state and count stored before them last.
-use Prim.Native.Nat.{ℕ, suc, _+_, _-_, _≤_, _<_, min}
-use mathlib.Core.List.{List, [], _∷_, _++_}
+use Prim.Native.Nat.{ℕ, suc, _+_, _-_, _≤_, min}
+use mathlib.Core.List.{List, [], _∷_}
 use mathlib.Core.Path.{_≡_, refl, ap, sym, _∙_}
-use native.Mathlib.Nat.{add-zero}
 use native.Mathlib.Omega.{arith}
-use lib.ListN.{length, set, getD, drop, length-set, length-drop}
-use lib.Seq.{sets, length-sets, drop-cons}
-use Rattle.format.specs.Bits.{high}
-use Rattle.format.specs.Reading.{At, Fault, Reading, shows, stop}
-use Rattle.format.specs.Formats.{_▸_}
-use Rattle.format.specs.Items.{run}
-use Rattle.format.specs.Bodies.{aligned}
+use lib.ListN.{length, set, length-set}
+use lib.Seq.{sets, length-sets}
+use Rattle.format.specs.Reading.{At, Reading, shows}
 use Rattle.table.specs.State.{State, after}
 use Rattle.table.specs.Run.{left, indexOf}
 use Rattle.table.specs.declared.Run.{Run}
@@ -19,7 +14,7 @@ use Rattle.table.proofs.EngineLaws.{state, state-eq, after-none}
 use Rattle.table.proofs.StoringLaws.{Storing, storing-done}
 use Rattle.table.proofs.TextLaws.{set-sets}
 use Rattle.classes.specs.declared.Class.{Class}
-use Rattle.tags.specs.Shown.{stateOf, valuesOf, headed}
+use Rattle.tags.specs.Shown.{valuesOf, headed}
 
 -- ---- bytes, one by one: all are stored, or there is no more room
 pub copied : (t₀ b : List ℕ) (k : ℕ) {t : List ℕ} {i m : ℕ} → Storing t₀ b k t i → m ≡ min (length b) (length t - k) → m ≤ i → state t (k + length b) (At 0) ≡ after t₀ k (shows b 0)

@@ -1,18 +1,18 @@
 -- Paths, values and keyframed content: the formats of their parts, and what a `match` tells.
 use Prim.Native.Nat.{ℕ, suc, _+_, _*_, _≤_}
-use mathlib.Core.List.{List, [], _∷_}
-use mathlib.Core.Path.{_≡_, refl, ap, sym, subst, _∙_}
+use mathlib.Core.List.{List, []}
+use mathlib.Core.Path.{_≡_, ap, sym, subst, _∙_}
 use native.Mathlib.Numerals.{add-one}
 use native.Mathlib.Omega.{arith}
 use Rattle.format.specs.Bits.{high}
 use Rattle.format.specs.Reading.{At, Fault, shows, stop}
-use Rattle.format.specs.Formats.{Item, Format, nothing, item, _▹_, _▸_, times, the}
+use Rattle.format.specs.Formats.{Item, Format, nothing, item, _▸_, times, the}
 use Rattle.format.specs.Items.{run, time, coordinates}
 use Rattle.format.specs.Bodies as bodies
 use Rattle.format.specs.Bodies.{value, values, interpolations, beziers, aligned}
 use Rattle.format.proofs.SizeLaws.{Fair, fair-item, fair-seq, fair-times, fair-value, fair-values, fair-interpolations}
 use Rattle.table.specs.State.{State, after}
-use Rattle.table.specs.Fields.{Fits, fieldOf, announced}
+use Rattle.table.specs.Fields.{fieldOf, announced}
 use Rattle.table.specs.declared.fields.Field.the-variants.{Verb, Interpolation}
 use Rattle.table.proofs.EngineLaws.{state, after-none, none-then, never-then, then-never, alike-assoc, alike-after}
 use Rattle.table.proofs.FieldLaws.{announced-verbs, announced-frames}

@@ -1,5 +1,5 @@
 -- Parts of document 01's formats that functions of their own read: what stands after a path's count, and the parts of keyframed content.
-use Prim.Native.Nat.{ℕ, suc, _*_, _<_}
+use Prim.Native.Nat.{ℕ, suc, _*_}
 use Rattle.format.specs.Formats.{Item, Format, item, _▹_, _▸_, times, the}
 use Rattle.format.specs.Items.{coordinates, time}
 use Rattle.format.specs.Bodies as bodies

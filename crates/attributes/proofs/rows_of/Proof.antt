@@ -1,5 +1,4 @@
 -- `attributes::rows_of` meets its contract: the rows are those of the code that the `match` told.
-use mathlib.Core.Path.{refl}
 use borrow.Author.Tests.{ne-eqb}
 use Rattle.attributes.proofs.rows_of.Statement.{statement}
 use Rattle.attributes.proofs.rows_of.Tie as tie

@@ -1,4 +1,3 @@
-use mathlib.Core.Path.{refl}
 use borrow.Author.Tests.{eq-eqb, ne-eqb}
 use Rattle.bodies.proofs.is_block.Statement.{statement}
 use Rattle.bodies.proofs.is_block.Tie as tie

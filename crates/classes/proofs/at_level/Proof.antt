@@ -1,5 +1,3 @@
-use Prim.Native.Nat.{ℕ}
-use mathlib.Core.Path.{refl}
 use borrow.Author.Tests.{lt-ltb, le-ltb}
 use Rattle.classes.proofs.at_level.Statement.{statement}
 use Rattle.classes.proofs.at_level.Tie as tie

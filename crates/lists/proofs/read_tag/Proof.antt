@@ -1,6 +1,5 @@
 use denote.Ref.{now}
 use mathlib.Core.Path.{refl}
-use native.Mathlib.Omega.{arith}
 use lib.ListN.{drop}
 use Rattle.headers.specs.Heads.{headBy}
 use Rattle.lists.proofs.StepLaws.{tag-none, tag-stands, tag-stop, tag-shown}

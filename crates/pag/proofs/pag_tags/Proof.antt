@@ -1,4 +1,3 @@
-use denote.Ref.{now}
 use Rattle.pag.proofs.PlainLaws.{plainly}
 use borrow.Author.Needs.{needs}
 use Rattle.pag.proofs.pag_tags.Statement.{statement}

@@ -1,6 +1,6 @@
 use native.Mathlib.Omega.{arith}
 use denote.Ref.{now}
-use mathlib.Core.Path.{sym, _∙_, refl}
+use mathlib.Core.Path.{sym, _∙_}
 use Rattle.reader.proofs.FileLaws.{fair-file, survey-found, read-size, read-refused, read-short, read-done}
 use borrow.Author.Needs.{needs}
 use Rattle.reader.proofs.read.Statement.{statement}

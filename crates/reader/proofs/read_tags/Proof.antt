@@ -1,6 +1,4 @@
-use native.Mathlib.Omega.{arith}
 use denote.Ref.{now}
-use mathlib.Core.Path.{sym, _∙_, refl}
 use Rattle.reader.proofs.FileLaws.{tags-bounds, tags-read}
 use borrow.Author.Needs.{needs}
 use Rattle.reader.proofs.read_tags.Statement.{statement}

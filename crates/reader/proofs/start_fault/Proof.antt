@@ -1,6 +1,5 @@
 use native.Mathlib.Omega.{arith}
 use denote.Ref.{now}
-use mathlib.Core.Path.{sym, _∙_, refl}
 use Rattle.reader.proofs.FileLaws.{start-1, start-2, start-3, start-4, start-5, start-5-long, start-0}
 use borrow.Author.Needs.{needs}
 use Rattle.reader.proofs.start_fault.Statement.{statement}

@@ -1,6 +1,5 @@
-use native.Mathlib.Omega.{arith}
 use denote.Ref.{now}
-use mathlib.Core.Path.{sym, _∙_, refl}
+use mathlib.Core.Path.{sym, _∙_}
 use Rattle.reader.proofs.FileLaws.{fair-file, survey-found, tags-refused, tags-short, tags-done}
 use borrow.Author.Needs.{needs}
 use Rattle.reader.proofs.tags.Statement.{statement}

@@ -1,5 +1,5 @@
 use borrow.Author.Needs.{needs}
-use Prim.Native.Nat.{_-_, _≤_}
+use Prim.Native.Nat.{_≤_}
 use Rattle.round_trips.proofs.main.Statement.{statement}
 use Rattle.round_trips.proofs.main.Tie as tie
 use Rattle.round_trips.proofs.main.Reads as reads

@@ -1,5 +1,5 @@
 -- `tags::copy_bytes` meets its contract: what is not stored yet is what there is still room for.
-use Prim.Native.Nat.{_+_, _-_}
+use Prim.Native.Nat.{_-_}
 use denote.Ref.{now}
 use native.Mathlib.Omega.{arith}
 use borrow.Author.Needs.{needs}

@@ -1,5 +1,4 @@
 use denote.Ref.{now}
-use native.Mathlib.Omega.{arith}
 use Rattle.format.specs.Bits.{high}
 use Rattle.format.specs.Formats.{the}
 use Rattle.format.specs.Items.{count}

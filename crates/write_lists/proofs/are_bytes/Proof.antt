@@ -3,7 +3,7 @@ use denote.Ref.{now}
 use mathlib.Core.Path.{_≡_, refl, sym, _∙_}
 use native.Mathlib.Omega.{arith}
 use borrow.Author.Needs.{needs}
-use lib.ListN.{length, drop}
+use lib.ListN.{drop}
 use Rattle.format.specs.WritingFiles.{allBytes}
 use Rattle.write_lists.proofs.ValueLaws.{bytes-next, bytes-bad, bytes-all}
 use Rattle.write_lists.proofs.are_bytes.Statement.{statement}

@@ -1,6 +1,5 @@
 use Prim.Native.Nat.{_+_, _-_}
 use denote.Ref.{now}
-use mathlib.Core.Path.{_≡_}
 use mathlib.Core.Logic.{⊎-elim}
 use native.Mathlib.Omega.{arith}
 use lib.ListN.{length}

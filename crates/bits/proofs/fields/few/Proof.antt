@@ -1,6 +1,6 @@
 -- `bits::fields::few` meets its contract: the bytes so far are the field of their bits.
 use denote.Ref.{now}
-use Prim.Native.Nat.{_*_, _-_, _^_, _≤_, _<_}
+use Prim.Native.Nat.{_*_, _-_, _≤_}
 use mathlib.Core.Path.{_≡_, sym}
 use native.Mathlib.Omega.{arith}
 use lib.ListN.{length}

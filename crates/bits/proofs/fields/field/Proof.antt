@@ -1,6 +1,6 @@
 -- `bits::fields::field` meets its contract: the field is cut out of a longer one.
 use denote.Ref.{now}
-use Prim.Native.Nat.{_*_, _-_, _+_}
+use Prim.Native.Nat.{_*_, _-_}
 use mathlib.Core.Path.{sym}
 use native.Mathlib.Omega.{arith}
 use lib.ListN.{length}

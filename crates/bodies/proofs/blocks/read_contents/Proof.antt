@@ -1,5 +1,5 @@
 -- `blocks::read_contents` meets its contract. The loop's invariant: the rows' attributes are what is left from here on.
-use Prim.Native.Nat.{_+_, _-_}
+use Prim.Native.Nat.{_-_}
 use denote.Ref.{now}
 use mathlib.Core.Path.{refl, _∙_}
 use native.Mathlib.Omega.{arith}

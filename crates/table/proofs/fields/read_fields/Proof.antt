@@ -1,5 +1,4 @@
 -- `table::fields::read_fields` meets its contract: what is left to read is what is left of the whole.
-use Prim.Native.Nat.{_+_, _*_, _-_}
 use mathlib.Core.Path.{refl, sym, _∙_}
 use native.Mathlib.Nat.{zero-add}
 use native.Mathlib.Omega.{arith}

@@ -1,6 +1,5 @@
 -- `table::fields::read_scaled` meets its contract: a width, and the run that it tells.
 use denote.Ref.{now}
-use mathlib.Core.Path.{refl}
 use Rattle.format.specs.Bits.{high}
 use Rattle.format.specs.Formats.{Item, item, times, the}
 use Rattle.table.specs.Fields.{fieldOf}

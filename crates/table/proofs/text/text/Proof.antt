@@ -1,7 +1,6 @@
-use Prim.Native.Nat.{_+_, _*_, _-_}
-use mathlib.Core.Path.{refl, sym, ap, _∙_}
+use Prim.Native.Nat.{_-_}
+use mathlib.Core.Path.{ap, _∙_}
 use native.Mathlib.Omega.{arith}
-use borrow.Author.Needs.{needs}
 use denote.Ref.{now}
 use lib.ListN.{length, length-set}
 use Rattle.table.proofs.TextLaws.{Going, going-start, going-more, going-ends, going-cut}

@@ -1,7 +1,6 @@
 use Prim.Native.Nat.{_+_}
 use denote.Ref.{now}
 use native.Mathlib.Omega.{arith}
-use Rattle.format.specs.Bits.{high}
 use Rattle.format.specs.Formats.{_▸_, times}
 use Rattle.format.specs.Items.{time}
 use Rattle.format.specs.Bodies.{aligned, values}
