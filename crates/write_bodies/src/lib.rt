@@ -27,21 +27,6 @@ fn write_part(code: u32, values: &[u64], out: &mut [u8], s: Sink) -> Put
     write_fixed::write_fixed(code, out, s, values, 0)
 }
 
-// The end of a body: all n values are used up, and zero bits go up to a whole byte.
-fn conclude(r: Put, n: usize, out: &mut [u8]) -> Body
-    requires { ⌜ FineAfter r ⌝ }
-    ensures { λ b. ⌜ lainAs (now (out .exit)) b ≡ concluded n (seen (now (out .entry)) r) ⌝ }
-{
-    let Put::Done(s, k) = r else {
-        return Body::No;
-    };
-    if k != n {
-        return Body::No;
-    }
-    let end = sink::align(out, s);
-    Body::To(end.byte.0)
-}
-
 // The body of a leaf tag, from a byte place on. No file is longer than 16,777,216 bytes.
 pub fn write_body(code: u32, values: &[u64], out: &mut [u8], at: usize) -> Body
     requires { ⌜ at ≤ 16777218 ⌝ }
