@@ -1,11 +1,12 @@
 -- A block's bytes: those of its flags, and then those of its contents. Flags that are put before contents that stand already.
-use Prim.Native.Nat.{ℕ, zero, suc, _+_, _-_, _*_, _/_, _%_, _≤_, _<_}
+use Prim.Native.Nat.{ℕ, zero, suc, _+_, _-_, _*_, _/_, _%_, _^_, _≤_, _<_}
 use mathlib.Core.List.{List, [], _∷_, _++_, append-assoc}
-use mathlib.Core.Path.{_≡_, refl, sym, ap, ap₂, _∙_}
+use mathlib.Core.Path.{_≡_, refl, sym, ap, ap₂, _∙_, subst}
 use mathlib.Core.Bool.{Bool, true, false}
 use native.Mathlib.Nat.{zero-add}
 use native.Mathlib.Omega.{arith}
 use lib.ListN.{length, take, drop, length-append, length-drop}
+use lib.Pow.{pow-pos}
 use lib.Seq.{sets, length-sets}
 use lib.Dec.{leb, eqb}
 use borrow.Author.Tests.{leb-true, leb-false, le-leb, lt-leb}
@@ -21,9 +22,9 @@ use Rattle.format.specs.WritingBodies.{flagsIn, usedUp, writeBlock, writePart, 
 use Rattle.format.proofs.BitLaws.{length-dig}
 use Rattle.format.proofs.ByteLaws.{length-pack}
 use Rattle.sink.specs.Lain.{Lain, lain, unlain, lies, longest}
-use Rattle.sink.specs.Laying.{State, mk, at, lay, Skipped}
+use Rattle.sink.specs.Laying.{State, mk, at, lay, Holds, Skipped}
 use Rattle.sink.specs.declared.Sink.{Sink}
-use Rattle.sink.proofs.LayingLaws.{lay-append, lay-pack, lay-place}
+use Rattle.sink.proofs.LayingLaws.{lay-append, lay-pack, lay-place, lay-ok}
 use Rattle.table.proofs.EngineLaws.{sets-append}
 use Rattle.spelling.specs.Ends.{concluded}
 use Rattle.spelling.specs.Writing.{Seen, here, gone, ran}
@@ -264,3 +265,45 @@ module _ (ks : List Attribute) (t : List ℕ) (any : anyFlag ks ≡ true) (o : L
       go : (b : Bits) → flagBits ks (flagsIn high ks t) ≡ b → lies o a (writeBody high (attributes ks) t) ≡ unlain
       go none e = ap (lies o a) (block-none ks t e)
       go (spelt bs) e = ap (lies o a) (block-some ks t bs e) ∙ more (flagBytes bs) (packed high (contents ks t 0)) (some-bytes bs e)
+
+-- ---- as the code has it: the bytes moved up, the flags' bits, and the skip after them
+module _ (l : List ℕ) (a : ℕ) (f : Flags) (some : 0 < f .width) where
+  size-is : length (flagBytes (bitsOf f)) ≡ (f .width + 7) / 8
+  size-is = flag-size (bitsOf f) ∙ ap (λ (n : ℕ). (n + 7) / 8) (length-dig high (f .width) (f .bits))
+
+  -- past the longest file
+  pub put-over : (n more end : ℕ) → more ≡ (f .width + 7) / 8 - 1 → end ≡ a + 1 + n + more → longest < end → unlain ≡ underFlags l a (flagBytes (bitsOf f)) n
+  put-over n more end em ee h = rw (lt-leb (a + length (flagBytes (bitsOf f)) + n) longest (omega (arith, size-is)))
+
+  -- what waits after the bits
+  pub put-fine : (u w : List ℕ) (s : Sink) → a ≤ longest → f .width ≤ 18 → at w s ≡ lay (mk u (8 * a) 0) (bitsOf f) → Holds (s .place .0) (s .part) × (s .place .0 ≤ 2 ^ 60)
+  put-fine u w s low few e =
+      let p : s .place .0 ≡ 8 * a + length (bitsOf f) = ap (λ (x : State). x .place) e ∙ lay-place (mk u (8 * a) 0) (bitsOf f) in
+      (subst (λ (x : State). Holds (x .place) (x .part)) (sym e) (lay-ok (mk u (8 * a) 0) (bitsOf f) (pow-pos (8 * a % 8))), omega (arith, p, length-dig high (f .width) (f .bits)))
+
+  flags-laid : (u w v : List ℕ) (s : Sink) (byte bit : ℕ) → at w s ≡ lay (mk u (8 * a) 0) (bitsOf f) → Skipped (at w s) v byte bit → v ≡ sets u a (flagBytes (bitsOf f))
+  flags-laid u w v s byte bit e skip = ap (λ (x : State). x .bytes) (skip .laid ∙ whole)
+    where
+      place : skipped (s .place .0) ≡ skipped (length (bitsOf f))
+      place =
+          let p : s .place .0 ≡ 8 * a + length (bitsOf f) = ap (λ (x : State). x .place) e ∙ lay-place (mk u (8 * a) 0) (bitsOf f) in
+          let m : (8 * a + length (bitsOf f)) % 8 ≡ length (bitsOf f) % 8 = omega arith in
+          rw (p, m)
+
+      whole : lay (at w s) (dig high (skipped (s .place .0)) 0) ≡ mk (sets u a (flagBytes (bitsOf f))) (8 * (a + (length (bitsOf f) + 7) / 8)) 0
+      whole =
+          ap₂ (λ (x : State) (n : ℕ). lay x (dig high n 0)) e place
+          ∙ sym (lay-append (mk u (8 * a) 0) (bitsOf f) (dig high (skipped (length (bitsOf f))) 0))
+          ∙ lay-pack u a ((length (bitsOf f) + 7) / 8) (bitsOf f ++ dig high (skipped (length (bitsOf f))) 0) (flag-whole (bitsOf f))
+
+  pub put-done : (n more end : ℕ) (u w v : List ℕ) (s : Sink) (byte bit : ℕ) → more ≡ (f .width + 7) / 8 - 1 → end ≡ a + 1 + n + more → end ≤ longest
+      → u ≡ sets l (a + 1 + more) (take n (drop (a + 1) l)) → at w s ≡ lay (mk u (8 * a) 0) (bitsOf f) → Skipped (at w s) v byte bit → lain v end ≡ underFlags l a (flagBytes (bitsOf f)) n
+  put-done n more end u w v s byte bit em ee h moved put skip =
+      let z : a + length (flagBytes (bitsOf f)) + n ≡ end = omega (arith, size-is) in
+      let m : a + 1 + more ≡ a + length (flagBytes (bitsOf f)) = omega (arith, size-is) in
+      let p : v ≡ sets l a (flagBytes (bitsOf f) ++ take n (drop (a + 1) l)) =
+      flags-laid u w v s byte bit put skip
+      ∙ ap (λ (x : List ℕ). sets x a (flagBytes (bitsOf f))) (moved ∙ ap (λ (i : ℕ). sets l i (take n (drop (a + 1) l))) m)
+      ∙ sets-comm l (a + length (flagBytes (bitsOf f))) (take n (drop (a + 1) l)) a (flagBytes (bitsOf f)) (omega arith)
+      ∙ sym (sets-append l a (flagBytes (bitsOf f)) (take n (drop (a + 1) l))) in
+      rw (z, le-leb end longest h) (ap (λ (x : List ℕ). lain x end) p)
