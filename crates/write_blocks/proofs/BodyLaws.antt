@@ -21,18 +21,22 @@ use Rattle.format.specs.WritingFormats.{adjoin, onward, unrun}
 use Rattle.format.specs.WritingBodies.{flagsIn, usedUp, writeBlock, writePart, pack, val, Bytes, bytes, impossible, packed, writeBody}
 use Rattle.format.proofs.BitLaws.{length-dig}
 use Rattle.format.proofs.ByteLaws.{length-pack}
-use Rattle.sink.specs.Lain.{Lain, lain, unlain, lies, longest}
+use Rattle.sink.specs.Lain.{Lain, lain, unlain, lies, lainAs, longest}
 use Rattle.sink.specs.Laying.{State, mk, at, lay, Holds, Skipped}
+use Rattle.sink.specs.declared.Body.{Body}
+use Rattle.sink.specs.declared.Body.the-variants.{To, No as BodyNo}
 use Rattle.sink.specs.declared.Sink.{Sink}
 use Rattle.sink.proofs.LayingLaws.{lay-append, lay-pack, lay-place, lay-ok}
 use Rattle.table.proofs.EngineLaws.{sets-append}
 use Rattle.spelling.specs.Ends.{concluded}
-use Rattle.spelling.specs.Writing.{Seen, here, gone, ran}
+use Rattle.spelling.specs.Writing.{Seen, here, gone, ran, limit, Fine}
 use Rattle.spelling.proofs.EndLaws.{front-law}
 use Rattle.spelling.proofs.ShiftLaws.{shift, whole-bytes}
 use Rattle.write_heads.proofs.StoreLaws.{sets-comm, sets-cover, sets-taken}
 use Rattle.write_blocks.specs.Flags.{flagSpelling, joined, flagBits, flagBytes, hasFlag, anyFlag, bitsOf, Held}
-use Rattle.write_blocks.specs.Filling.{Both, both, neither, bothOf, fills, underFlags}
+use Rattle.write_blocks.specs.Filling.{Both, both, neither, bothOf, fills, filled, Ready, underFlags}
+use Rattle.write_blocks.specs.declared.Filled.{Filled}
+use Rattle.write_blocks.specs.declared.Filled.the-variants.{With, No}
 use Rattle.write_blocks.specs.declared.Flags.{Flags}
 use Rattle.write_blocks.proofs.WholeLaws.{adjoin-twice, onward-adjoin, whole-rows}
 
@@ -307,3 +311,63 @@ module _ (l : List ℕ) (a : ℕ) (f : Flags) (some : 0 < f .width) where
       ∙ sets-comm l (a + length (flagBytes (bitsOf f))) (take n (drop (a + 1) l)) a (flagBytes (bitsOf f)) (omega arith)
       ∙ sym (sets-append l a (flagBytes (bitsOf f)) (take n (drop (a + 1) l))) in
       rw (z, le-leb end longest h) (ap (λ (x : List ℕ). lain x end) p)
+
+-- ---- the block, as the code has it: R is what its contents and flags left
+both-is : (b : Bits) (x : Seen) (bs : List Bool) (st : State) (k : ℕ) → both bs st k ≡ bothOf b x → (b ≡ spelt bs) × (x ≡ here st k)
+both-is (spelt cs) (here st′ j) bs st k e =
+    let p : cs ≡ bs = cc in
+    let q : st′ ≡ st = cc in
+    let i : j ≡ k = cc in
+    (ap spelt p, ap₂ here q i)
+both-is (spelt cs) gone bs st k e = absurd (let z : _≡_ {A = ℕ} 0 1 = cc in omega arith)
+both-is none x bs st k e = absurd (let z : _≡_ {A = ℕ} 0 1 = cc in omega arith)
+
+lies-between : (o : List ℕ) (a : ℕ) (b : Bytes) (u : List ℕ) (stop : ℕ) → lain u stop ≡ lies o a b → (a ≤ stop) × (stop ≤ longest)
+unfolding lies
+lies-between o a impossible u stop e = absurd (let z : _≡_ {A = ℕ} 0 1 = cc in omega arith)
+lies-between o a (bytes xs) u stop e = go (leb (a + length xs) longest) refl e
+  where
+    go : (c : Bool) → leb (a + length xs) longest ≡ c → lain u stop ≡ pick c (lain (sets o a xs) (a + length xs)) unlain → (a ≤ stop) × (stop ≤ longest)
+    go true q d = let z : stop ≡ a + length xs = cc in (omega arith, omega (arith, leb-true (a + length xs) longest q))
+    go false q d = absurd (let z : _≡_ {A = ℕ} 0 1 = cc in omega arith)
+
+module _ (ks : List Attribute) (t : List ℕ) (any : anyFlag ks ≡ true) (o : List ℕ) (a : ℕ) (u : List ℕ) (R : Filled)
+    (e : (filled u R ≡ fills ks t (mk o (8 * (a + 1)) 0)) × Ready R) where
+  pub block-gone : R ≡ No → unlain ≡ lies o a (writeBody high (attributes ks) t)
+  block-gone d = sym (block-law ks t any o a ∙ ap (finished (length t) a) (sym (e .0) ∙ ap (filled u) d))
+
+  module _ (f : Flags) (s : Sink) (k : ℕ) (d : R ≡ With f s k) where
+    ready : Held f × (f .width ≤ 18) × Fine s
+    ready = subst Ready d (e .1)
+
+    pub block-fine : Fine s
+    block-fine = ready .2
+
+    is : both (bitsOf f) (at u s) k ≡ fills ks t (mk o (8 * (a + 1)) 0)
+    is = ap (filled u) (sym d) ∙ e .0
+
+    parts : (flagBits ks (flagsIn high ks t) ≡ spelt (bitsOf f)) × (ran t (mk o (8 * (a + 1)) 0) 0 (rows ks (flagsIn high ks t)) ≡ here (at u s) k)
+    parts = both-is (flagBits ks (flagsIn high ks t)) (ran t (mk o (8 * (a + 1)) 0) 0 (rows ks (flagsIn high ks t))) (bitsOf f) (at u s) k is
+
+    -- C is how the contents end
+    module _ (v : List ℕ) (C : Body) (h : lainAs v C ≡ concluded (length t) (here (at u s) k)) where
+      ends : lies o a (writeBody high (attributes ks) t) ≡ closed a (flagBytes (bitsOf f)) (lainAs v C)
+      ends = block-law ks t any o a ∙ ap (finished (length t) a) (sym is) ∙ ap (closed a (flagBytes (bitsOf f))) (sym h)
+
+      pub block-stop : C ≡ BodyNo → unlain ≡ lies o a (writeBody high (attributes ks) t)
+      block-stop z = sym (ends ∙ rw z)
+
+      module _ (stop : ℕ) (z : C ≡ To stop) where
+        pub block-room : Held f × (0 < f .width) × (f .width ≤ 18) × (a + 1 ≤ stop) × (stop ≤ longest)
+        block-room =
+            let some : 0 < length (bitsOf f) = rw (parts .0) at (some-flags ks (flagsIn high ks t) any) in
+            let at-end : lain v stop ≡ lies o (a + 1) (packed high (unrun high (front (rows ks (flagsIn high ks t))) t 0)) =
+            ap (lainAs v) (sym z) ∙ h ∙ ap (concluded (length t)) (sym (parts .1)) ∙ sym (front-law (rows ks (flagsIn high ks t)) t o (a + 1)) in
+            let between = lies-between o (a + 1) (packed high (unrun high (front (rows ks (flagsIn high ks t))) t 0)) v stop at-end in
+            (ready .0, omega (arith, some, length-dig high (f .width) (f .bits)), ready .1, between .0, between .1)
+
+        pub block-done : {x : Lain} → x ≡ underFlags v a (flagBytes (bitsOf f)) (stop - (a + 1)) → x ≡ lies o a (writeBody high (attributes ks) t)
+        block-done q = q ∙ sym (ends ∙ rw z)
+
+pub start-fine : (a : ℕ) → a < longest → Holds (8 * (a + 1)) 0 × (8 * (a + 1) ≤ limit)
+start-fine a h = (pow-pos (8 * (a + 1) % 8), omega arith)
