@@ -11,7 +11,7 @@ use lib.Dec.{leb, eqb}
 use borrow.Author.Tests.{leb-true, leb-false, le-leb, lt-leb, eq-eqb, ne-eqb}
 use Rattle.format.specs.Tests.{pick}
 use Rattle.format.specs.Bits.{high}
-use Rattle.format.specs.Formats.{Item, Format}
+use Rattle.format.specs.Formats.{Format}
 use Rattle.format.specs.Items.{skipped}
 use Rattle.format.specs.FileAndTags.{front}
 use Rattle.format.specs.WritingItems.{dig, Written, wrote, cannot, writeItem}
@@ -22,7 +22,7 @@ use Rattle.format.proofs.ByteLaws.{length-pack}
 use Rattle.sink.specs.Lain.{Lain, lain, unlain, lies, longest}
 use Rattle.sink.specs.Laying.{State, mk, at, lay, Holds, Skipped}
 use Rattle.sink.specs.declared.Sink.{Sink}
-use Rattle.sink.proofs.LayingLaws.{lay-append, lay-pack, lay-place, lay-ok}
+use Rattle.sink.proofs.LayingLaws.{lay-append, lay-pack, lay-place}
 use Rattle.spelling.specs.Ends.{skippedTo, concluded, FineAfter}
 use Rattle.spelling.specs.Writing.{Seen, here, gone, seen, ends, after, ran, limit, Fine}
 use Rattle.spelling.specs.declared.Put.{Put}

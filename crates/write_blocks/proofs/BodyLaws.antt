@@ -1,18 +1,18 @@
 -- A block's bytes: those of its flags, and then those of its contents. Flags that are put before contents that stand already.
 use Prim.Native.Nat.{ℕ, zero, suc, _+_, _-_, _*_, _/_, _%_, _^_, _≤_, _<_}
-use mathlib.Core.List.{List, [], _∷_, _++_, append-assoc}
+use mathlib.Core.List.{List, [], _∷_, _++_}
 use mathlib.Core.Path.{_≡_, refl, sym, ap, ap₂, _∙_, subst}
 use mathlib.Core.Bool.{Bool, true, false}
 use native.Mathlib.Nat.{zero-add}
 use native.Mathlib.Omega.{arith}
-use lib.ListN.{length, take, drop, length-append, length-drop}
+use lib.ListN.{length, take, drop, length-append}
 use lib.Pow.{pow-pos}
 use lib.Seq.{sets, length-sets}
 use lib.Dec.{leb, eqb}
 use borrow.Author.Tests.{leb-true, leb-false, le-leb, lt-leb}
 use Rattle.format.specs.Tests.{pick}
 use Rattle.format.specs.Bits.{high}
-use Rattle.format.specs.Formats.{Item, Format, item, _▸_}
+use Rattle.format.specs.Formats.{Item, item}
 use Rattle.format.specs.Items.{skipped}
 use Rattle.format.specs.Bodies.{Kind, Value, Fixed, BitFlag, Simple, Discrete, Attribute, flagsOf, allFlags, rows, attributes}
 use Rattle.format.specs.FileAndTags.{front}
@@ -29,7 +29,7 @@ use Rattle.sink.specs.declared.Sink.{Sink}
 use Rattle.sink.proofs.LayingLaws.{lay-append, lay-pack, lay-place, lay-ok}
 use Rattle.table.proofs.EngineLaws.{sets-append}
 use Rattle.spelling.specs.Ends.{concluded}
-use Rattle.spelling.specs.Writing.{Seen, here, gone, ran, limit, Fine}
+use Rattle.spelling.specs.Writing.{Seen, here, gone, ran, Fine}
 use Rattle.spelling.proofs.EndLaws.{front-law}
 use Rattle.spelling.proofs.ShiftLaws.{shift, whole-bytes}
 use Rattle.write_heads.proofs.StoreLaws.{sets-comm, sets-cover, sets-taken}
@@ -368,6 +368,3 @@ module _ (ks : List Attribute) (t : List ℕ) (any : anyFlag ks ≡ true) (o : L
 
         pub block-done : {x : Lain} → x ≡ underFlags v a (flagBytes (bitsOf f)) (stop - (a + 1)) → x ≡ lies o a (writeBody high (attributes ks) t)
         block-done q = q ∙ sym (ends ∙ rw z)
-
-pub start-fine : (a : ℕ) → a < longest → Holds (8 * (a + 1)) 0 × (8 * (a + 1) ≤ limit)
-start-fine a h = (pow-pos (8 * (a + 1) % 8), omega arith)

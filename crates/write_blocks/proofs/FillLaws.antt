@@ -1,6 +1,6 @@
 -- A block's contents, an attribute at a time, and the flags that are gathered on the way.
 use Prim.Native.Nat.{ℕ, suc, _+_, _*_, _≤_, _<_}
-use mathlib.Core.List.{List, [], _∷_, _++_, append-nil, append-assoc}
+use mathlib.Core.List.{List, [], _∷_, append-nil, append-assoc}
 use mathlib.Core.Path.{_≡_, refl, sym, ap, ap₂, _∙_, subst}
 use mathlib.Core.Bool.{Bool}
 use native.Mathlib.Numerals.{add-one}
@@ -9,7 +9,7 @@ use lib.ListN.{length, getD, drop, length-drop}
 use lib.Seq.{drop-cons, slice-empty}
 use borrow.Author.Tests.{eq-eqb}
 use Rattle.format.specs.Bits.{high}
-use Rattle.format.specs.Formats.{Item, Format, item, _▸_}
+use Rattle.format.specs.Formats.{Item, item, _▸_}
 use Rattle.format.specs.Bodies.{Attribute, content, rows}
 use Rattle.format.specs.WritingItems.{dig, Bits, spelt, none, before, writeItem}
 use Rattle.format.specs.WritingFormats.{unrun}

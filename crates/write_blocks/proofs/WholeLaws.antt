@@ -1,5 +1,5 @@
 -- Contents start on a whole byte: written from any place, they are zero bits up to it, and then what they are from there on.
-use Prim.Native.Nat.{ℕ, _+_, _%_}
+use Prim.Native.Nat.{ℕ, _+_}
 use mathlib.Core.List.{List, [], _∷_, _++_, append-assoc, append-nil}
 use mathlib.Core.Path.{_≡_, refl, sym, ap, _∙_}
 use mathlib.Core.Bool.{Bool, true, false}
@@ -13,7 +13,7 @@ use Rattle.format.specs.Formats.{Item, Format, nothing, item, only, _▹_, _▸
 use Rattle.format.specs.Items.{skipped, byteItem}
 use Rattle.format.specs.Bodies.{Kind, Value, Fixed, BitFlag, Simple, Discrete, DataType, U32s, Times, Floats, Ratios, Bools, Bytes, BlendModes, TrackMatteTypes, MaskModes, Paths, Attribute, value, keyframed, contentOf, content, rows}
 use Rattle.format.specs.FileAndTags.{front}
-use Rattle.format.specs.WritingItems.{dig, Written, wrote, cannot, Bits, spelt, none, put, single, writeItem}
+use Rattle.format.specs.WritingItems.{dig, Written, wrote, cannot, spelt, none, put, writeItem}
 use Rattle.format.specs.WritingFormats.{passing, adjoin, onward, unrun}
 use Rattle.format.proofs.BitLaws.{length-dig}
 

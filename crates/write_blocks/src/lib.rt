@@ -86,7 +86,11 @@ fn add_flags(kind: Kind, f: Flags, v: u64) -> Flagged
 {
     match kind {
         Kind::Value => add_flag(f, v),
-        Kind::Fixed => if v == 1 { Flagged::With(f) } else { Flagged::No },
+        Kind::Fixed => if v == 1 {
+            Flagged::With(f)
+        } else {
+            Flagged::No
+        },
         Kind::BitFlag => add_flag(f, v),
         Kind::Simple => add_two_flags(f, v),
         Kind::Discrete => add_two_flags(f, v),
@@ -182,12 +186,13 @@ fn put_flags(flags: Flags, out: &mut [u8], at: usize, stop: usize) -> Body
     ensures { λ r. ⌜ lainAs (now (out .exit)) r ≡ underFlags (now (out .entry)) at (flagBytes (bitsOf flags)) (stop - (at + 1)) ⌝ }
 {
     let width = flags.width;
+    let from = at + 1;
     let more = (width + 7) / 8 - 1;
     let end = stop + more;
     if 16777216 < end {
         return Body::No;
     }
-    write_heads::move_up(out, at + 1, stop - (at + 1), more);
+    write_heads::move_up(out, from, stop - from, more);
     let s = Sink {
         place: BitPlace(8 * at),
         part: 0,

@@ -1,3 +1,4 @@
+-- `write_blocks::write_contents` meets its contract. The loop's invariant: the block from the loop's start is what was gathered and put, with the rows from here on.
 use Prim.Native.Nat.{_+_, _-_, _≤_}
 use denote.Ref.{now}
 use mathlib.Core.Path.{_∙_}
@@ -8,11 +9,6 @@ use Rattle.attributes.proofs.FlagLaws.{rowAt, rows-next}
 use Rattle.write_blocks.proofs.FillLaws.{Filling, no-rows, fill-start, fill-short, fill-flag, fill-gone, fill-next, fill-done}
 use Rattle.write_blocks.proofs.write_contents.Statement.{statement}
 use Rattle.write_blocks.proofs.write_contents.Tie as tie
-use Rattle.write_blocks.proofs.write_contents.Reads as reads
-use Rattle.write_blocks.proofs.write_contents.Lts as lts
-use Rattle.write_blocks.proofs.add_flags.Reads as add-flags-reads
-use Rattle.write_blocks.proofs.write_content.Reads as write-content-reads
-
 
 abbrev Inv-loop : tie.InvT-loop
 Inv-loop t out₀ attributes end flags₀ cur₀ k₀ row₀ out flags cur k row = (row₀ ≤ row) × (row ≤ end) × Filling (rowsFrom row₀ end) t out₀ cur₀ out flags cur (row - row₀) k (rowsFrom row end)
@@ -20,95 +16,72 @@ Inv-loop t out₀ attributes end flags₀ cur₀ k₀ row₀ out flags cur k row
 abbrev μ-loop : tie.MeasureT-loop
 μ-loop t out₀ attributes end flags₀ cur₀ k₀ row₀ out flags cur k row = end - row
 
--- src/lib.rt:156:5
 loop-holds : tie.Need-loop-holds Inv-loop μ-loop
 loop-holds c = let a = c .before .before .args in (omega arith, c .before .before .pre .0 .up, fill-start (rowsFrom (a .rows .start) (a .rows .end)) (now (a .t)) (now (a .out)) (a .s) (a .rows .start - a .rows .start) (c .before .before .pre .1))
 
--- src/lib.rt:158:13
 same-length : tie.Need-same-length Inv-loop μ-loop
 same-length c = c .before .before .loop .inv .2 .size
 
--- src/lib.rt:158:13
 returns : tie.Need-returns Inv-loop μ-loop
 returns c = (fill-short (c .before .before .loop .inv .2) (attributeOf (rowAt (c .before .before .loop .row))) (rowsFrom (c .before .before .loop .row + 1) (c .before .before .before .before .before .args .rows .end)) (rows-next (c .before .loop-test .taken) (c .before .before .before .before .before .pre .0 .inside)) (omega (arith, c .if1 .taken)), tt)
 
--- src/lib.rt:160:17
 mul-v : tie.Need-mul-v Inv-loop μ-loop
 mul-v c = search needs
 
--- src/lib.rt:160:17
 shared-slice-read-v : tie.Need-shared-slice-read-v Inv-loop μ-loop
 shared-slice-read-v c = search needs
 
--- src/lib.rt:161:25
 mul-attribute : tie.Need-mul-attribute Inv-loop μ-loop
 mul-attribute c = search needs
 
--- src/lib.rt:161:25
 array-copy-out-attribute : tie.Need-array-copy-out-attribute Inv-loop μ-loop
 array-copy-out-attribute c = omega (arith, c .before .before .before .before .before .before .pre .0 .inside, c .before .before .loop-test .taken)
 
--- src/lib.rt:163:13
 add-flags-requires : tie.Need-add-flags-requires Inv-loop μ-loop
 add-flags-requires c κs = (c .before .before .before .before .loop .inv .2 .held, omega (arith, c .before .before .before .before .loop .inv .2 .few, c .before .before .before .before .loop .inv .0, c .before .before .before .loop-test .taken, c .before .before .before .before .before .before .before .pre .0 .few))
 
--- src/lib.rt:164:27
 enum-known-f : tie.Need-enum-known-f Inv-loop μ-loop
 enum-known-f c = search needs
 
--- src/lib.rt:165:13
 enum-told : tie.Need-enum-told Inv-loop μ-loop
 enum-told c = search needs
 
--- src/lib.rt:165:13
 same-length-2 : tie.Need-same-length-2 Inv-loop μ-loop
 same-length-2 c = c .before .before .before .before .before .before .before .loop .inv .2 .size
 
--- src/lib.rt:165:13
 returns-2 : tie.Need-returns-2 Inv-loop μ-loop
 returns-2 c = (fill-flag (c .before .before .before .before .before .before .before .loop .inv .2) (attributeOf (rowAt (c .before .before .before .before .before .before .before .loop .row))) (rowsFrom (c .before .before .before .before .before .before .before .loop .row + 1) (c .before .before .before .before .before .before .before .before .before .before .args .rows .end)) (rows-next (c .before .before .before .before .before .before .loop-test .taken) (c .before .before .before .before .before .before .before .before .before .before .pre .0 .inside)) (omega (arith, c .before .before .before .before .before .if1 .left)) (c .before .before .add-flags .result) (c .before .before .add-flags .ensures) (c .enum-told .given .1), tt)
 
--- src/lib.rt:167:58
 add-write-content : tie.Need-add-write-content Inv-loop μ-loop
 add-write-content c = search needs
 
--- src/lib.rt:167:13
 write-content-requires : tie.Need-write-content-requires Inv-loop μ-loop
 write-content-requires c κs = c .before .before .before .before .before .before .before .before .before .loop .inv .2 .fine
 
--- src/lib.rt:168:23
 enum-known-r : tie.Need-enum-known-r Inv-loop μ-loop
 enum-known-r c = search needs
 
--- src/lib.rt:169:13
 enum-told-2 : tie.Need-enum-told-2 Inv-loop μ-loop
 enum-told-2 c = search needs
 
--- src/lib.rt:169:13
 same-length-3 : tie.Need-same-length-3 Inv-loop μ-loop
 same-length-3 c = c .before .before .before .before .write-content .kept .1 .1 .0 ∙ c .before .before .before .before .before .before .before .before .before .before .before .before .before .before .loop .inv .2 .size
 
--- src/lib.rt:169:13
 returns-3 : tie.Need-returns-3 Inv-loop μ-loop
 returns-3 c = (fill-gone (c .before .before .before .before .before .before .before .before .before .before .before .before .before .before .loop .inv .2) (attributeOf (rowAt (c .before .before .before .before .before .before .before .before .before .before .before .before .before .before .loop .row))) (rowsFrom (c .before .before .before .before .before .before .before .before .before .before .before .before .before .before .loop .row + 1) (c .before .before .before .before .before .before .before .before .before .before .before .before .before .before .before .before .before .args .rows .end)) (rows-next (c .before .before .before .before .before .before .before .before .before .before .before .before .before .loop-test .taken) (c .before .before .before .before .before .before .before .before .before .before .before .before .before .before .before .before .before .pre .0 .inside)) (omega (arith, c .before .before .before .before .before .before .before .before .before .before .before .before .if1 .left)) (c .before .before .before .before .before .before .before .before .before .add-flags .result) (c .before .before .before .before .before .before .before .before .before .add-flags .ensures) (c .before .before .before .before .write-content .last .1 .1 .0) (c .before .before .before .before .write-content .result) (c .before .before .before .before .write-content .ensures) (c .enum-told2 .given .1), tt)
 
--- src/lib.rt:174:9
 add-row : tie.Need-add-row Inv-loop μ-loop
 add-row c = omega (arith, c .before .before .before .before .before .before .before .before .before .before .before .before .before .before .before .before .before .before .pre .0 .inside, c .before .before .before .before .before .before .before .before .before .before .before .before .before .before .loop-test .taken)
 
--- src/lib.rt:156:5
 loop-less : tie.Need-loop-less Inv-loop μ-loop
 loop-less c = omega (arith, c .before .before .before .before .before .before .before .before .before .before .before .before .before .before .loop-test .taken)
 
--- src/lib.rt:156:5
 loop-again : tie.Need-loop-again Inv-loop μ-loop
 loop-again c = (omega (arith, c .before .before .before .before .before .before .before .before .before .before .before .before .before .before .before .loop .inv .0), omega (arith, c .before .before .before .before .before .before .before .before .before .before .before .before .before .before .loop-test .taken), fill-next (c .before .before .before .before .before .before .before .before .before .before .before .before .before .before .before .loop .inv .2) (attributeOf (rowAt (c .before .before .before .before .before .before .before .before .before .before .before .before .before .before .before .loop .row))) (rowsFrom (c .before .before .before .before .before .before .before .before .before .before .before .before .before .before .before .loop .row + 1) (c .before .before .before .before .before .before .before .before .before .before .before .before .before .before .before .before .before .before .args .rows .end)) (rows-next (c .before .before .before .before .before .before .before .before .before .before .before .before .before .before .loop-test .taken) (c .before .before .before .before .before .before .before .before .before .before .before .before .before .before .before .before .before .before .pre .0 .inside)) (omega (arith, c .before .before .before .before .before .before .before .before .before .before .before .before .before .if1 .left)) (c .before .before .before .before .before .before .before .before .before .before .add-flags .result) (c .before .before .before .before .before .before .before .before .before .before .add-flags .ensures) (c .before .before .before .before .before .write-content .last .1 .1 .0) (c .before .before .before .before .before .write-content .result) (c .before .before .before .before .before .write-content .ensures) (c .before .before .before .before .before .before .before .before .f .given .0 .0) (c .before .r .given .0 .0) (c .before .r .given .0 .1 .0) (c .before .before .before .before .before .before .before .before .before .before .before .before .before .before .before .loop .row + 1 - c .before .before .before .before .before .before .before .before .before .before .before .before .before .before .before .before .before .before .args .rows .start) (c .before .before .before .before .before .before .before .before .f .given .1) (c .before .r .given .1) (c .before .before .before .before .before .write-content .kept .1 .1 .0) (omega (arith, c .before .before .before .before .before .before .before .before .before .before .before .before .before .before .before .loop .inv .0)))
 
--- src/lib.rt:146:1
 same-length-4 : tie.Need-same-length-4 Inv-loop μ-loop
 same-length-4 c = c .before .loop .inv .2 .size
 
--- src/lib.rt:146:1
 returns-4 : tie.Need-returns-4 Inv-loop μ-loop
 returns-4 c = (fill-done (c .before .loop .inv .2) (no-rows (c .before .loop .row) (c .before .before .before .before .args .rows .end) (omega (arith, c .before .loop .inv .1, c .loop-test .left))), (c .before .loop .inv .2 .held, omega (arith, c .before .loop .inv .2 .few, c .before .loop .inv .0, c .before .loop .inv .1, c .before .before .before .before .pre .0 .few), c .before .loop .inv .2 .fine))
 

@@ -6,10 +6,6 @@ use lib.ListN.{length, length-set}
 use Rattle.write_heads.proofs.HeadLaws.{movedFrom, move-none, move-nowhere, move-next, move-all}
 use Rattle.write_heads.proofs.move_up.Statement.{statement}
 use Rattle.write_heads.proofs.move_up.Tie as tie
-use Rattle.write_heads.proofs.move_up.Reads as reads
-use Rattle.write_heads.proofs.move_up.Lts as lts
-use Rattle.table.proofs.room_for.Reads as room-for-reads
-
 
 abbrev Inv-loop : tie.InvT-loop
 Inv-loop out₀ at n by i₀ out i = (length out ≡ length out₀) × (i ≤ min n (length out₀ - (at + by))) × (out ≡ movedFrom out₀ at n by i)
