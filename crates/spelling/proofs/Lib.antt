@@ -4,3 +4,4 @@ pub mod FieldLaws
 pub mod TextLaws
 pub mod ShiftLaws
 pub mod AlikeLaws
+pub mod EndLaws

@@ -267,7 +267,7 @@ the-one t k j e h =
     rw (z, drop-cons t k 0 h)
 
 -- ---- the skip to a whole byte
-skip-le : (p : ℕ) → p ≤ limit → p + skipped p ≤ limit
+pub skip-le : (p : ℕ) → p ≤ limit → p + skipped p ≤ limit
 skip-le p h = omega arith
 
 skip-end : (st : State) {st′ : State} → st .place ≤ limit → st′ ≡ lay st (dig high (skipped (st .place)) 0) → st′ .place ≤ limit

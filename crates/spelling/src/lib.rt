@@ -4,7 +4,9 @@ ghost use Rattle.items.specs.Kinds.{formatOf};
 ghost use Rattle.format.specs.Bits.{high};
 ghost use Rattle.format.specs.Items.{skipped};
 ghost use Rattle.format.specs.WritingItems.{dig};
+ghost use Rattle.sink.specs.Lain.{lainAs};
 ghost use Rattle.sink.specs.Laying.{at as «under», lay};
+ghost use Rattle.spelling.specs.Ends.{concluded, FineAfter};
 ghost use Rattle.spelling.specs.Writing.{seen, ran, finish, Fine};
 
 pub mod fields;
@@ -12,6 +14,7 @@ mod numbers;
 pub mod text;
 
 use items::Item;
+use sink::Body;
 use sink::Sink;
 
 // The sink after a number; or the number has no spelling.
@@ -66,4 +69,19 @@ pub fn skip(out: &mut [u8], s: Sink) -> Sink
     let start = sink::align(out, s);
     let place = start.bit;
     Sink { place, part: 0 }
+}
+
+// The end of a body: all n values are used up, and zero bits go up to a whole byte.
+pub fn conclude(r: Put, n: usize, out: &mut [u8]) -> Body
+    requires { ⌜ FineAfter r ⌝ }
+    ensures { λ b. ⌜ lainAs (now (out .exit)) b ≡ concluded n (seen (now (out .entry)) r) ⌝ }
+{
+    let Put::Done(s, k) = r else {
+        return Body::No;
+    };
+    if k != n {
+        return Body::No;
+    }
+    let end = sink::align(out, s);
+    Body::To(end.byte.0)
 }

@@ -1,28 +1,30 @@
--- Flag numbers as bits; and what a `match` tells of a content.
-use Prim.Native.Nat.{ℕ, zero, suc, _+_, _/_, _%_, _≤_, _<_}
-use mathlib.Core.List.{List, [], _∷_}
+-- Flag numbers as bits, gathered in one number; and what a `match` tells of a content.
+use Prim.Native.Nat.{ℕ, zero, suc, _+_, _*_, _/_, _%_, _^_, _≤_, _<_}
+use mathlib.Core.List.{List, [], _++_, append-nil}
 use mathlib.Core.Path.{_≡_, refl, sym, ap, _∙_}
 use mathlib.Core.Bool.{Bool, true, false}
 use native.Mathlib.Omega.{arith}
-use lib.ListN.{length, getD, drop}
-use lib.Dec.{eqb, leb}
+use lib.Pow.{pow-lt, pow-add}
+use lib.Arith.{digits-lt}
+use lib.Dec.{eqb}
 use borrow.Author.Tests.{eq-eqb, ne-eqb, eqb-true}
 use Rattle.format.specs.Tests.{pick}
 use Rattle.format.specs.Bits.{high}
-use Rattle.format.specs.Formats.{Format, nothing, item}
+use Rattle.format.specs.Formats.{Format, nothing}
 use Rattle.format.specs.Bodies as bodies
-use Rattle.format.specs.Bodies.{flagsOf, value, contentOf}
-use Rattle.format.specs.WritingItems.{dig, Bits, spelt, none, put, single, writeItem, spellFlag}
-use Rattle.format.specs.WritingFormats.{unrun}
+use Rattle.format.specs.Bodies.{value, contentOf}
+use Rattle.format.specs.WritingItems.{dig, Bits, spelt, none, before, spellFlag}
 use Rattle.attributes.specs.Rows.{kindOf}
-use Rattle.attributes.specs.declared.DataType.{DataType}
 use Rattle.attributes.specs.declared.Kind.{Kind}
 use Rattle.bodies.specs.Leaf.{animatable}
-use Rattle.sink.specs.Laying.{State, lay}
-use Rattle.sink.proofs.LayingLaws.{lay-none}
-use Rattle.spelling.specs.Writing.{Sunk, sunk, unsunk, laid, Seen, here, gone, ends, after, ran, limit}
-use Rattle.spelling.proofs.RunLaws.{one-some, ran-nothing}
-use Rattle.write_blocks.specs.Flags.{flagSpelling}
+use Rattle.sink.specs.Laying.{State}
+use Rattle.sink.proofs.LayingLaws.{dig-append}
+use Rattle.spelling.specs.Writing.{Seen, here, ran, limit}
+use Rattle.spelling.proofs.RunLaws.{ran-nothing}
+use Rattle.write_blocks.specs.Flags.{flagSpelling, bitsOf, Held, noted, Grown}
+use Rattle.write_blocks.specs.declared.Flags.{Flags}
+use Rattle.write_blocks.specs.declared.Flagged.{Flagged}
+use Rattle.write_blocks.specs.declared.Flagged.the-variants.{With, No}
 
 -- ---- one flag bit
 pub flag-in : (v : ℕ) → v ≤ 1 → spellFlag high v 1 ≡ spelt (dig high 1 v)
@@ -72,57 +74,40 @@ two-no v a b c = go (eqb (v % 2) 1) refl
     go false e = rw (ne-eqb v 0 a, e)
     go true e = rw (ne-eqb v 0 a, e, m (omega (arith, eqb-true (v % 2) 1 e)))
 
--- ---- no bit
-pub fixed-in : (st : State) (v : ℕ) → v ≡ 1 → sunk st ≡ laid st (flagSpelling bodies.Fixed v)
-fixed-in st v e = rw (eq-eqb v 1 e) (ap sunk (sym (lay-none st)))
+-- ---- bits after those that were gathered
+abbrev pub Adds : Flags → Bits → Flagged → Type 0
+Adds f b r = (noted r ≡ before (bitsOf f) b) × Grown (f .width) r
 
-pub fixed-no : (st : State) (v : ℕ) → (v ≡ 1 → ⊥) → unsunk ≡ laid st (flagSpelling bodies.Fixed v)
-fixed-no st v e = rw (ne-eqb v 1 e)
+pub held-lt : (f : Flags) → Held f → f .width ≤ 16 → f .bits < 131072
+held-lt f h l =
+    let k : f .width < 17 = omega arith in
+    let t : 2 ^ f .width < 2 ^ 17 = pow-lt k in
+    omega arith
 
-pub told : (st : State) (v : ℕ) {kind : Kind} {x : Sunk} (arm : Kind) → kind ≡ arm → x ≡ laid st (flagSpelling (kindOf arm) v) → x ≡ laid st (flagSpelling (kindOf kind) v)
-told st v arm e d = d ∙ ap (λ (z : Kind). laid st (flagSpelling (kindOf z) v)) (sym e)
+module _ (f : Flags) {b : Bits} where
+  -- n bits more, as the field x
+  pub add-in : (n x m : ℕ) {g : Flags} → Held f → n ≤ 2 → x < 2 ^ n → m ≡ 2 ^ n → g .bits ≡ f .bits * m + x → g .width ≡ f .width + n → b ≡ spelt (dig high n x) → Adds f b (With g)
+  add-in n x m {g} h l s em eb ew e =
+      let eb′ : g .bits ≡ f .bits * 2 ^ n + x = rw (← em) eb in
+      let d : dig high (g .width) (g .bits) ≡ bitsOf f ++ dig high n x = rw (ew, eb′) (dig-append (f .width) n (f .bits) x h s) in
+      let i : g .bits < 2 ^ g .width = rw (ew, eb′, pow-add 2 (f .width) n) (digits-lt h s) in
+      (rw e (ap spelt d), (i, omega arith))
 
--- ---- an item of one number
-unfoldable pub flagBits : bodies.Kind → ℕ → ℕ → Bits
-flagBits k p v = flagSpelling k v
+  pub add-none : {g : Flags} → Held f → g ≡ f → b ≡ spelt [] → Adds f b (With g)
+  add-none h d e = rw (d, e) (ap spelt (sym (append-nil (bitsOf f))), (h, omega arith))
 
-pub flag-is : (k : bodies.Kind) (ns : List ℕ) (p : ℕ) → unrun high (item (flagsOf k)) ns p ≡ single (flagBits k p) ns
-unfolding unrun writeItem flagBits
-flag-is bodies.Value ns p = refl
-flag-is bodies.Fixed ns p = refl
-flag-is bodies.BitFlag ns p = refl
-flag-is bodies.Simple ns p = refl
-flag-is bodies.Discrete ns p = refl
+  pub add-no : b ≡ none → Adds f b No
+  add-no e = rw e (refl, tt)
 
--- the same number in another list: only the index differs
-module _ (f : Format) (g : ℕ → ℕ → Bits) (is : (ns : List ℕ) (p : ℕ) → unrun high f ns p ≡ single (g p) ns) (t φs : List ℕ) (st : State) (k i : ℕ)
-    (inside : k < length t) (stands : i < length φs) (same : getD t k 0 ≡ getD φs i 0) where
-  moved : ran φs st i f ≡ after st i (put (getD t k 0 ∷ []) (g (st .place) (getD t k 0)) (drop (suc i) φs))
-  moved = one-some f g is φs st i stands ∙ ap (λ (v : ℕ). after st i (put (v ∷ []) (g (st .place) v) (drop (suc i) φs))) (sym same)
+-- no bit
+pub fixed-in : (v : ℕ) → v ≡ 1 → flagSpelling bodies.Fixed v ≡ spelt []
+fixed-in v e = rw (eq-eqb v 1 e)
 
-  pub moved-done : (st′ : State) (j : ℕ) → ran t st k f ≡ here st′ j → ran φs st i f ≡ here st′ (i + 1)
-  unfolding after ends
-  moved-done st′ j e = moved ∙ go (g (st .place) (getD t k 0)) (sym (one-some f g is t st k inside) ∙ e)
-    where
-      lim : (c : Bool) (x : State) → pick c (here x (k + 1)) gone ≡ here st′ j → pick c (here x (i + 1)) gone ≡ here st′ (i + 1)
-      lim true x q = let z : x ≡ st′ = cc in ap (λ (y : State). here y (i + 1)) z
-      lim false x q = absurd (let z : _≡_ {A = ℕ} 0 1 = cc in omega arith)
+pub fixed-no : (v : ℕ) → (v ≡ 1 → ⊥) → flagSpelling bodies.Fixed v ≡ none
+fixed-no v e = rw (ne-eqb v 1 e)
 
-      go : (b : Bits) → after st k (put (getD t k 0 ∷ []) b (drop (suc k) t)) ≡ here st′ j → after st i (put (getD t k 0 ∷ []) b (drop (suc i) φs)) ≡ here st′ (i + 1)
-      go (spelt bs) q = lim (leb (lay st bs .place) limit) (lay st bs) q
-      go none q = absurd (let z : _≡_ {A = ℕ} 0 1 = cc in omega arith)
-
-  pub moved-gone : ran t st k f ≡ gone → ran φs st i f ≡ gone
-  unfolding after ends
-  moved-gone e = moved ∙ go (g (st .place) (getD t k 0)) (sym (one-some f g is t st k inside) ∙ e)
-    where
-      lim : (c : Bool) (x : State) → pick c (here x (k + 1)) gone ≡ gone → pick c (here x (i + 1)) gone ≡ gone
-      lim true x q = absurd (let z : _≡_ {A = ℕ} 0 1 = cc in omega arith)
-      lim false x q = refl
-
-      go : (b : Bits) → after st k (put (getD t k 0 ∷ []) b (drop (suc k) t)) ≡ gone → after st i (put (getD t k 0 ∷ []) b (drop (suc i) φs)) ≡ gone
-      go (spelt bs) q = lim (leb (lay st bs .place) limit) (lay st bs) q
-      go none q = refl
+pub told : (f : Flags) (v : ℕ) {kind : Kind} (r : Flagged) (arm : Kind) → kind ≡ arm → Adds f (flagSpelling (kindOf arm) v) r → Adds f (flagSpelling (kindOf kind) v) r
+told f v r arm e d = rw e d
 
 -- ---- contents
 module _ (t : List ℕ) (st : State) (k : ℕ) where

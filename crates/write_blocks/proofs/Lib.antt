@@ -1,3 +1,5 @@
 pub mod PlaceLaws
+pub mod WholeLaws
 pub mod FlagLaws
-pub mod BlockLaws
+pub mod BodyLaws
+pub mod FillLaws

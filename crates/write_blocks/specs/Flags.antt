@@ -1,18 +1,18 @@
--- Attribute blocks over an output and a sink; and what the flags leave.
-use Prim.Native.Nat.{ℕ}
-use mathlib.Core.Path.{_≡_}
-use mathlib.Core.List.{List, []}
+-- Flag numbers as bits: of one attribute, of all, and as the code gathers them.
+use Prim.Native.Nat.{ℕ, _+_, _/_, _^_, _≤_, _<_}
+use mathlib.Core.List.{List, [], _∷_, _++_}
+use mathlib.Core.Bool.{Bool, true, false}
 use lib.Dec.{eqb}
 use lib.ListN.{length}
 use Rattle.format.specs.Tests.{pick}
 use Rattle.format.specs.Bits.{high}
-use Rattle.format.specs.Bodies.{Kind, Value, Fixed, BitFlag, Simple, Discrete, Attribute, rows}
-use Rattle.format.specs.WritingItems.{Bits, spelt, none, spellFlag}
-use Rattle.format.specs.WritingBodies.{flagsIn, writeBlock}
-use Rattle.sink.specs.Laying.{State, at}
-use Rattle.spelling.specs.Writing.{Seen, gone, after, ran, Fine}
-use Rattle.spelling.specs.declared.Put.{Put}
-use Rattle.spelling.specs.declared.Put.the-variants.{Done, Impossible}
+use Rattle.format.specs.Items.{skipped}
+use Rattle.format.specs.Bodies.{Kind, Value, Fixed, BitFlag, Simple, Discrete, Attribute}
+use Rattle.format.specs.WritingItems.{dig, Bits, spelt, none, before, spellFlag}
+use Rattle.format.specs.WritingBodies.{pack}
+use Rattle.write_blocks.specs.declared.Flags.{Flags}
+use Rattle.write_blocks.specs.declared.Flagged.{Flagged}
+use Rattle.write_blocks.specs.declared.Flagged.the-variants.{With, No}
 
 -- the bits of an attribute's flag number
 abbrev pub flagSpelling : Kind → ℕ → Bits
@@ -22,11 +22,45 @@ flagSpelling BitFlag v = spellFlag high v 1
 flagSpelling Simple v = spellFlag high v 2
 flagSpelling Discrete v = spellFlag high v 2
 
--- the block of the attributes, of the values t from the first on
-abbrev pub block : List Attribute → List ℕ → State → Seen
-block attrs t st = after st 0 (writeBlock high attrs t (st .place))
+abbrev pub joined : Bits → Bits → Bits
+joined (spelt bs) b = before bs b
+joined none b = none
 
--- the flags are written, every attribute has one, and the contents are left; or there is no such block
-abbrev pub Flagged : List Attribute → List ℕ → State → List ℕ → Put → Type 0
-Flagged attrs t st u (Done s i) = Fine s × (length (flagsIn high attrs t) ≡ length attrs) × (block attrs t st ≡ ran t (at u s) 0 (rows attrs (flagsIn high attrs t)))
-Flagged attrs t st u Impossible = block attrs t st ≡ gone
+-- the bits of all flag numbers, one for each attribute
+unfoldable pub flagBits : List Attribute → List ℕ → Bits
+flagBits [] [] = spelt []
+flagBits [] (φ ∷ φs) = none
+flagBits (a ∷ ks) [] = none
+flagBits (a ∷ ks) (φ ∷ φs) = joined (flagSpelling (a .kind) φ) (flagBits ks φs)
+
+-- the bytes that flags take, with zero bits up to a whole one
+abbrev pub flagBytes : List Bool → List ℕ
+flagBytes bs = pack high ((length bs + 7) / 8) (bs ++ dig high (skipped (length bs)) 0)
+
+-- some attribute has a flag bit: not all are Fixed
+abbrev pub hasFlag : Kind → Bool
+hasFlag Value = true
+hasFlag Fixed = false
+hasFlag BitFlag = true
+hasFlag Simple = true
+hasFlag Discrete = true
+
+unfoldable pub anyFlag : List Attribute → Bool
+anyFlag [] = false
+anyFlag (a ∷ ks) = pick (hasFlag (a .kind)) true (anyFlag ks)
+
+-- ---- as the code gathers them
+abbrev pub bitsOf : Flags → List Bool
+bitsOf f = dig high (f .width) (f .bits)
+
+abbrev pub Held : Flags → Type 0
+Held f = f .bits < 2 ^ f .width
+
+abbrev pub noted : Flagged → Bits
+noted (With f) = spelt (bitsOf f)
+noted No = none
+
+-- one number has at most two bits
+abbrev pub Grown : ℕ → Flagged → Type 0
+Grown w (With f) = Held f × (f .width ≤ w + 2)
+Grown w No = Unit {0}

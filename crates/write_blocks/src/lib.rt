@@ -1,78 +1,99 @@
-// Attribute blocks, written: the flags of all attributes, then their contents. In the values each attribute's flag number stands before its content.
+// Attribute blocks, written: the contents first, one byte after the block's place, and then the flags of all attributes before them. In the values
+// each attribute's flag number stands before its content: so one walk over them finds both, and no content is measured before it is written.
 ghost use mathlib.Core.Path.{_≡_};
-ghost use mathlib.Core.List.{[]};
-ghost use lib.ListN.{length};
+ghost use mathlib.Core.Bool.{true};
+ghost use Prim.Native.Nat.{_+_, _-_, _≤_, _<_};
 ghost use Rattle.format.specs.Bits.{high};
-ghost use Rattle.format.specs.Formats.{item};
-ghost use Rattle.format.specs.WritingItems.{spellFlag};
-ghost use Rattle.format.specs.Bodies.{flagsOf, content as «contentOf», rows as «rowsOf»};
-ghost use Rattle.format.specs.WritingBodies.{flagsIn};
+ghost use Rattle.format.specs.WritingItems.{before, spellFlag};
+ghost use Rattle.format.specs.Bodies.{content as «contentOf», attributes as «attributesBody»};
+ghost use Rattle.format.specs.WritingBodies.{writeBody};
 ghost use Rattle.attributes.specs.Rows.{kindOf, typeOf, attributeOf, rowsFrom, AreRows};
 ghost use Rattle.bodies.specs.Leaf.{animatable};
-ghost use Rattle.sink.specs.Laying.{mk, at as «under»};
-ghost use Rattle.spelling.specs.Writing.{laid, got, seen, ran, Fine};
-ghost use Rattle.write_blocks.specs.Flags.{flagSpelling, block, Flagged};
+ghost use Rattle.sink.specs.Lain.{lies, lainAs, longest};
+ghost use Rattle.sink.specs.Laying.{at as «under»};
+ghost use Rattle.spelling.specs.Writing.{seen, ran, Fine};
+ghost use Rattle.write_blocks.specs.Flags.{bitsOf, noted, Held, Grown, flagSpelling, flagBytes, anyFlag};
+ghost use Rattle.write_blocks.specs.Filling.{filled, fills, Ready, underFlags};
 use attributes::Attribute;
 use attributes::DataType;
 use attributes::Kind;
 use attributes::Rows;
 use bits::BitPlace;
+use sink::Body;
 use sink::Sink;
-use sink::put_bits;
 use spelling::Put;
-use spelling::Spelt;
+
+// Flag bits as one number, the first of them highest; and how many they are.
+pub struct Flags {
+    pub bits: u64,
+    pub width: usize,
+}
+
+// The flags with those of one number more; or that number has none.
+pub enum Flagged {
+    With(Flags),
+    No,
+}
+
+// The flags of all rows, the sink after their contents, and the index of the next value; or no file has them.
+pub enum Filled {
+    With(Flags, Sink, usize),
+    No,
+}
 
 // One flag bit.
-fn spell_flag(out: &mut [u8], s: Sink, v: u64) -> Spelt
-    requires { ⌜ Fine s ⌝ }
-    ensures { λ r. ⌜ got (now (out .exit)) r ≡ laid («under» (now (out .entry)) s) (spellFlag high v 1) ⌝ }
+fn add_flag(f: Flags, v: u64) -> Flagged
+    requires { ⌜ Held f × (f .width ≤ 16) ⌝ }
+    ensures { λ r. ⌜ (noted r ≡ before (bitsOf f) (spellFlag high v 1)) × Grown (f .width) r ⌝ }
 {
     if 1 < v {
-        return Spelt::No;
+        return Flagged::No;
     }
-    Spelt::In(put_bits(out, s, v, 1))
+    Flagged::With(Flags {
+        bits: f.bits * 2 + v,
+        width: f.width + 1,
+    })
 }
 
 // An exist bit; if set, an animatable bit.
-fn spell_two_flags(out: &mut [u8], s: Sink, v: u64) -> Spelt
-    requires { ⌜ Fine s ⌝ }
-    ensures { λ r. ⌜ got (now (out .exit)) r ≡ laid («under» (now (out .entry)) s) (spellFlag high v 2) ⌝ }
+fn add_two_flags(f: Flags, v: u64) -> Flagged
+    requires { ⌜ Held f × (f .width ≤ 16) ⌝ }
+    ensures { λ r. ⌜ (noted r ≡ before (bitsOf f) (spellFlag high v 2)) × Grown (f .width) r ⌝ }
 {
+    let bits = f.bits;
+    let width = f.width;
     match v {
-        0 => Spelt::In(put_bits(out, s, 0, 1)),
-        1 => Spelt::In(put_bits(out, s, 2, 2)),
-        3 => Spelt::In(put_bits(out, s, 3, 2)),
-        _ => Spelt::No,
+        0 => Flagged::With(Flags {
+            bits: bits * 2,
+            width: width + 1,
+        }),
+        1 => Flagged::With(Flags {
+            bits: bits * 4 + 2,
+            width: width + 2,
+        }),
+        3 => Flagged::With(Flags {
+            bits: bits * 4 + 3,
+            width: width + 2,
+        }),
+        _ => Flagged::No,
     }
 }
 
 // The flags of one attribute; a Fixed one has no bit, and its flag number is 1.
-fn spell_flags(kind: Kind, out: &mut [u8], s: Sink, v: u64) -> Spelt
-    requires { ⌜ Fine s ⌝ }
-    ensures { λ r. ⌜ got (now (out .exit)) r ≡ laid («under» (now (out .entry)) s) (flagSpelling (kindOf kind) v) ⌝ }
+fn add_flags(kind: Kind, f: Flags, v: u64) -> Flagged
+    requires { ⌜ Held f × (f .width ≤ 16) ⌝ }
+    ensures { λ r. ⌜ (noted r ≡ before (bitsOf f) (flagSpelling (kindOf kind) v)) × Grown (f .width) r ⌝ }
 {
     match kind {
-        Kind::Value => spell_flag(out, s, v),
-        Kind::Fixed => if v == 1 { Spelt::In(s) } else { Spelt::No },
-        Kind::BitFlag => spell_flag(out, s, v),
-        Kind::Simple => spell_two_flags(out, s, v),
-        Kind::Discrete => spell_two_flags(out, s, v),
-    }
-}
-
-// The flag number at an index, as bits.
-fn write_flag(kind: Kind, out: &mut [u8], s: Sink, t: &[u64], k: usize) -> Put
-    requires { ⌜ Fine s ⌝ }
-    ensures { λ r. ⌜ seen (now (out .exit)) r ≡ ran (now (t .entry)) («under» (now (out .entry)) s) k (item (flagsOf (kindOf kind))) ⌝ }
-{
-    if t.len() <= k {
-        return Put::Impossible;
-    }
-    let v = t[k];
-    let r = spell_flags(kind, out, s, v);
-    match r {
-        Spelt::In(next) => spelling::ended(next, k + 1),
-        Spelt::No => Put::Impossible,
+        Kind::Value => add_flag(f, v),
+        Kind::Fixed => if v == 1 {
+            Flagged::With(f)
+        } else {
+            Flagged::No
+        },
+        Kind::BitFlag => add_flag(f, v),
+        Kind::Simple => add_two_flags(f, v),
+        Kind::Discrete => add_two_flags(f, v),
     }
 }
 
@@ -125,77 +146,81 @@ fn write_content(
     }
 }
 
-// Where the content that starts at an index ends: a run on an empty output.
-fn measure_content(attribute: Attribute, flag: u64, t: &[u64], k: usize) -> Put
-    ensures { λ r. ⌜ seen [] r ≡ ran (now (t .entry)) (mk [] 0 0) k («contentOf» (attributeOf attribute) flag) ⌝ }
-{
-    let mut none = [0u8; 1];
-    let s = Sink {
-        place: BitPlace(0),
-        part: 0,
-    };
-    write_content(attribute, flag, &mut none[..0], s, t, k)
-}
-
-// The flags of all rows: each stands in the values before its content, so the contents are passed over.
-fn write_flags(rows: Rows, out: &mut [u8], s: Sink, t: &[u64]) -> Put
+// The contents of all rows; their flags are gathered on the way.
+fn write_contents(rows: Rows, t: &[u64], out: &mut [u8], s: Sink) -> Filled
     requires { ⌜ AreRows (rows .start) (rows .end) × Fine s ⌝ }
-    ensures { λ r. ⌜ Flagged (rowsFrom (rows .start) (rows .end)) (now (t .entry)) («under» (now (out .entry)) s) (now (out .exit)) r ⌝ }
+    ensures { λ r. ⌜ (filled (now (out .exit)) r ≡ fills (rowsFrom (rows .start) (rows .end)) (now (t .entry)) («under» (now (out .entry)) s)) × Ready r ⌝ }
 {
     let attributes = attributes::ATTRIBUTES;
     let end = rows.end;
+    let mut flags = Flags { bits: 0, width: 0 };
     let mut cur = s;
     let mut k = 0;
     let mut row = rows.start;
     while row < end {
+        if t.len() <= k {
+            return Filled::No;
+        }
+        let v = t[k];
         let attribute = attributes[row];
         let kind = attribute.kind;
-        let r = write_flag(kind, out, cur, t, k);
-        let Put::Done(next, from) = r else {
-            return Put::Impossible;
+        let f = add_flags(kind, flags, v);
+        let Flagged::With(more) = f else {
+            return Filled::No;
         };
-        let m = measure_content(attribute, t[k], t, from);
-        let Put::Done(_, j) = m else {
-            return Put::Impossible;
-        };
-        cur = next;
-        k = j;
-        row += 1;
-    }
-    Put::Done(cur, k)
-}
-
-// The contents of all rows.
-fn write_contents(rows: Rows, out: &mut [u8], s: Sink, t: &[u64]) -> Put
-    requires { ⌜ AreRows (rows .start) (rows .end) × Fine s × (length (flagsIn high (rowsFrom (rows .start) (rows .end)) (now t)) ≡ length (rowsFrom (rows .start) (rows .end))) ⌝ }
-    ensures { λ r. ⌜ seen (now (out .exit)) r ≡ ran (now (t .entry)) («under» (now (out .entry)) s) 0 («rowsOf» (rowsFrom (rows .start) (rows .end)) (flagsIn high (rowsFrom (rows .start) (rows .end)) (now (t .entry)))) ⌝ }
-{
-    let attributes = attributes::ATTRIBUTES;
-    let end = rows.end;
-    let mut cur = s;
-    let mut k = 0;
-    let mut row = rows.start;
-    while row < end {
-        let attribute = attributes[row];
-        let r = write_content(attribute, t[k], out, cur, t, k + 1);
+        let r = write_content(attribute, v, out, cur, t, k + 1);
         let Put::Done(next, j) = r else {
-            return r;
+            return Filled::No;
         };
+        flags = more;
         cur = next;
         k = j;
         row += 1;
     }
-    Put::Done(cur, k)
+    Filled::With(flags, cur, k)
 }
 
-// An attribute block.
-pub fn write_block(rows: Rows, out: &mut [u8], s: Sink, t: &[u64]) -> Put
-    requires { ⌜ AreRows (rows .start) (rows .end) × Fine s ⌝ }
-    ensures { λ r. ⌜ seen (now (out .exit)) r ≡ block (rowsFrom (rows .start) (rows .end)) (now (t .entry)) («under» (now (out .entry)) s) ⌝ }
+// Puts flags before contents that stand one byte after a place, up to stop; where the flags take more than that byte, the contents move up.
+fn put_flags(flags: Flags, out: &mut [u8], at: usize, stop: usize) -> Body
+    requires { ⌜ Held flags × (0 < flags .width) × (flags .width ≤ 18) × (at + 1 ≤ stop) × (stop ≤ longest) ⌝ }
+    ensures { λ r. ⌜ lainAs (now (out .exit)) r ≡ underFlags (now (out .entry)) at (flagBytes (bitsOf flags)) (stop - (at + 1)) ⌝ }
 {
-    let f = write_flags(rows, out, s, t);
-    match f {
-        Put::Done(next, _) => write_contents(rows, out, next, t),
-        Put::Impossible => Put::Impossible,
+    let width = flags.width;
+    let from = at + 1;
+    let more = (width + 7) / 8 - 1;
+    let end = stop + more;
+    if 16777216 < end {
+        return Body::No;
+    }
+    write_heads::move_up(out, from, stop - from, more);
+    let s = Sink {
+        place: BitPlace(8 * at),
+        part: 0,
+    };
+    let next = sink::put_bits(out, s, flags.bits, width);
+    sink::align(out, next);
+    Body::To(end)
+}
+
+// An attribute block, from a byte place on; one that has flags. No file is longer than 16,777,216 bytes.
+pub fn write_block(rows: Rows, values: &[u64], out: &mut [u8], at: usize) -> Body
+    requires { ⌜ AreRows (rows .start) (rows .end) × (anyFlag (rowsFrom (rows .start) (rows .end)) ≡ true) ⌝ }
+    ensures { λ r. ⌜ lainAs (now (out .exit)) r ≡ lies (now (out .entry)) at (writeBody high («attributesBody» (rowsFrom (rows .start) (rows .end))) (now (values .entry))) ⌝ }
+{
+    if 16777216 <= at {
+        return Body::No;
+    }
+    let s = Sink {
+        place: BitPlace(8 * (at + 1)),
+        part: 0,
+    };
+    let r = write_contents(rows, values, out, s);
+    let Filled::With(flags, next, k) = r else {
+        return Body::No;
+    };
+    let c = spelling::conclude(Put::Done(next, k), values.len(), out);
+    match c {
+        Body::To(stop) => put_flags(flags, out, at, stop),
+        Body::No => Body::No,
     }
 }

@@ -4,61 +4,15 @@ ghost use Prim.Native.Nat.{_≤_};
 ghost use Rattle.format.specs.Bits.{high};
 ghost use Rattle.format.specs.FileAndTags.{front};
 ghost use Rattle.format.specs.WritingFormats.{unrun};
-ghost use Rattle.format.specs.WritingBodies.{writePart, packed, writeBody};
+ghost use Rattle.format.specs.WritingBodies.{packed, writeBody};
 ghost use Rattle.fixed.specs.Fixed.{fixedOf};
 ghost use Rattle.bodies.specs.Leaf.{leafBody};
-ghost use Rattle.sink.specs.Laying.{at as «under»};
 ghost use Rattle.sink.specs.Lain.{lies, lainAs};
-ghost use Rattle.spelling.specs.Writing.{seen, after, Fine};
-ghost use Rattle.write_bodies.specs.Ends.{concluded, FineAfter};
 use bits::BitPlace;
 use sink::Body;
 use sink::Sink;
-use spelling::Put;
 
-// The items of a body.
-fn write_part(code: u32, values: &[u64], out: &mut [u8], s: Sink) -> Put
-    requires { ⌜ Fine s ⌝ }
-    ensures { λ r. ⌜ seen (now (out .exit)) r ≡ after («under» (now (out .entry)) s) 0 (writePart high (leafBody code) (now (values .entry)) (s .place .0)) ⌝ }
-{
-    if bodies::is_block(code) {
-        return write_blocks::write_block(attributes::rows_of(code), out, s, values);
-    }
-    write_fixed::write_fixed(code, out, s, values, 0)
-}
-
-// The end of a body: all n values are used up, and zero bits go up to a whole byte.
-fn conclude(r: Put, n: usize, out: &mut [u8]) -> Body
-    requires { ⌜ FineAfter r ⌝ }
-    ensures { λ b. ⌜ lainAs (now (out .exit)) b ≡ concluded n (seen (now (out .entry)) r) ⌝ }
-{
-    let Put::Done(s, k) = r else {
-        return Body::No;
-    };
-    if k != n {
-        return Body::No;
-    }
-    let end = sink::align(out, s);
-    Body::To(end.byte.0)
-}
-
-// The body of a leaf tag, from a byte place on. No file is longer than 16,777,216 bytes.
-pub fn write_body(code: u32, values: &[u64], out: &mut [u8], at: usize) -> Body
-    requires { ⌜ at ≤ 16777218 ⌝ }
-    ensures { λ r. ⌜ lainAs (now (out .exit)) r ≡ lies (now (out .entry)) at (writeBody high (leafBody code) (now (values .entry))) ⌝ }
-{
-    if 16777216 < at {
-        return Body::No;
-    }
-    let s = Sink {
-        place: BitPlace(8 * at),
-        part: 0,
-    };
-    let r = write_part(code, values, out, s);
-    conclude(r, values.len(), out)
-}
-
-// What stands before a container's list, from a byte place on.
+// What stands before a container's list, from a byte place on. No file is longer than 16,777,216 bytes.
 pub fn write_front(code: u32, values: &[u64], out: &mut [u8], at: usize) -> Body
     requires { ⌜ at ≤ 16777218 ⌝ }
     ensures { λ r. ⌜ lainAs (now (out .exit)) r ≡ lies (now (out .entry)) at (packed high (unrun high (front (fixedOf code)) (now (values .entry)) 0)) ⌝ }
@@ -71,5 +25,16 @@ pub fn write_front(code: u32, values: &[u64], out: &mut [u8], at: usize) -> Body
         part: 0,
     };
     let r = write_fixed::write_fixed(code, out, s, values, 0);
-    conclude(r, values.len(), out)
+    spelling::conclude(r, values.len(), out)
+}
+
+// The body of a leaf tag, from a byte place on. One that is no attribute block ends as what stands before a list does.
+pub fn write_body(code: u32, values: &[u64], out: &mut [u8], at: usize) -> Body
+    requires { ⌜ at ≤ 16777218 ⌝ }
+    ensures { λ r. ⌜ lainAs (now (out .exit)) r ≡ lies (now (out .entry)) at (writeBody high (leafBody code) (now (values .entry))) ⌝ }
+{
+    if bodies::is_block(code) {
+        return write_blocks::write_block(attributes::rows_of(code), values, out, at);
+    }
+    write_front(code, values, out, at)
 }

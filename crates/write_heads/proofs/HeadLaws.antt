@@ -27,35 +27,38 @@ four-stored l a x y z v e d f g =
     let r : a + 3 ≡ suc (suc (suc a)) = omega arith in
     g ∙ rw (f, d, e, p, q, r)
 
--- ---- n bytes at a, moved up by four from the last one on: those from the i-th on have been moved
-abbrev pub movedFrom : List ℕ → ℕ → ℕ → ℕ → List ℕ
-movedFrom l a n i = sets l (a + 4 + i) (drop i (take n (drop a l)))
+-- ---- n bytes at a, moved up by d from the last one on: those from the i-th on have been moved
+abbrev pub movedFrom : List ℕ → ℕ → ℕ → ℕ → ℕ → List ℕ
+movedFrom l a n d i = sets l (a + d + i) (drop i (take n (drop a l)))
 
-module _ (l : List ℕ) (a n : ℕ) where
-  pub move-none : (i : ℕ) → i ≡ min n (length l - (a + 4)) → l ≡ movedFrom l a n i
+module _ (l : List ℕ) (a n d : ℕ) where
+  pub move-none : (i : ℕ) → i ≡ min n (length l - (a + d)) → l ≡ movedFrom l a n d i
   move-none i e = go (ltb i n) refl
     where
-      go : (c : Bool) → ltb i n ≡ c → l ≡ movedFrom l a n i
-      go true q = sym (sets-out l (a + 4 + i) (drop i (take n (drop a l))) (omega (arith, ltb-true i n q)))
+      go : (c : Bool) → ltb i n ≡ c → l ≡ movedFrom l a n d i
+      go true q = sym (sets-out l (a + d + i) (drop i (take n (drop a l))) (omega (arith, ltb-true i n q)))
       go false q = rw (none-left (take n (drop a l)) i (rw length-take (omega (arith, ltb-false i n q))))
 
-  pub move-next : (i : ℕ) (u : List ℕ) → 0 < i → i ≤ min n (length l - (a + 4)) → u ≡ movedFrom l a n i
-      → set u (a + (i - 1) + 4) (getD u (a + (i - 1)) 0) ≡ movedFrom l a n (i - 1)
+  pub move-next : (i : ℕ) (u : List ℕ) → 0 < i → i ≤ min n (length l - (a + d)) → u ≡ movedFrom l a n d i
+      → set u (a + (i - 1) + d) (getD u (a + (i - 1)) 0) ≡ movedFrom l a n d (i - 1)
   move-next i u h g e =
       let v : getD u (a + (i - 1)) 0 ≡ getD (take n (drop a l)) (i - 1) 0 =
-      ap (λ (s : List ℕ). getD s (a + (i - 1)) 0) e ∙ at-low l (a + 4 + i) (drop i (take n (drop a l))) (a + (i - 1)) (omega arith)
+      ap (λ (s : List ℕ). getD s (a + (i - 1)) 0) e ∙ at-low l (a + d + i) (drop i (take n (drop a l))) (a + (i - 1)) (omega arith)
       ∙ sym (getD-take n (drop a l) (i - 1) 0 (omega arith) ∙ getD-drop a l (i - 1) 0) in
-      let p : a + (i - 1) + 4 ≡ a + 4 + (i - 1) = omega arith in
-      let q : a + 4 + i ≡ suc (a + 4 + (i - 1)) = omega arith in
+      let p : a + (i - 1) + d ≡ a + d + (i - 1) = omega arith in
+      let q : a + d + i ≡ suc (a + d + (i - 1)) = omega arith in
       let r : i ≡ suc (i - 1) = omega arith in
       let long : i - 1 < length (take n (drop a l)) = rw (length-take, length-drop) (omega arith) in
-      let e′ : u ≡ sets l (suc (a + 4 + (i - 1))) (drop (suc (i - 1)) (take n (drop a l))) = e ∙ ap₂ (λ (x y : ℕ). sets l x (drop y (take n (drop a l)))) q r in
-      ap₂ (λ (x y : ℕ). set u x y) p v ∙ ap (λ (s : List ℕ). set s (a + 4 + (i - 1)) (getD (take n (drop a l)) (i - 1) 0)) e′
-      ∙ set-sets l (a + 4 + (i - 1)) (suc (a + 4 + (i - 1))) (getD (take n (drop a l)) (i - 1) 0) (drop (suc (i - 1)) (take n (drop a l))) (omega arith)
-      ∙ ap (sets l (a + 4 + (i - 1))) (sym (drop-cons (take n (drop a l)) (i - 1) 0 long))
+      let e′ : u ≡ sets l (suc (a + d + (i - 1))) (drop (suc (i - 1)) (take n (drop a l))) = e ∙ ap₂ (λ (x y : ℕ). sets l x (drop y (take n (drop a l)))) q r in
+      ap₂ (λ (x y : ℕ). set u x y) p v ∙ ap (λ (s : List ℕ). set s (a + d + (i - 1)) (getD (take n (drop a l)) (i - 1) 0)) e′
+      ∙ set-sets l (a + d + (i - 1)) (suc (a + d + (i - 1))) (getD (take n (drop a l)) (i - 1) 0) (drop (suc (i - 1)) (take n (drop a l))) (omega arith)
+      ∙ ap (sets l (a + d + (i - 1))) (sym (drop-cons (take n (drop a l)) (i - 1) 0 long))
 
-  pub move-all : (i : ℕ) (u : List ℕ) → i ≡ 0 → u ≡ movedFrom l a n i → u ≡ sets l (a + 4) (take n (drop a l))
-  move-all i u z e = e ∙ rw z (ap (λ (k : ℕ). sets l k (take n (drop a l))) (add-zero (a + 4)))
+  pub move-nowhere : d ≡ 0 → l ≡ sets l (a + d) (take n (drop a l))
+  move-nowhere z = let e : a + d ≡ a = omega arith in rw e (sym (sets-same n l a))
+
+  pub move-all : (i : ℕ) (u : List ℕ) → i ≡ 0 → u ≡ movedFrom l a n d i → u ≡ sets l (a + d) (take n (drop a l))
+  move-all i u z e = e ∙ rw z (ap (λ (k : ℕ). sets l k (take n (drop a l))) (add-zero (a + d)))
 
 -- ---- the header before a body of n bytes
 module _ (l : List ℕ) (a code n : ℕ) where

@@ -27,16 +27,19 @@ pub fn put32(out: &mut [u8], at: usize, n: u64)
     sink::put_byte(out, at + 3, n / 16777216);
 }
 
-// Moves n bytes up by four, the last one first; those for which there is room.
-fn move_up(out: &mut [u8], at: usize, n: usize)
-    requires { ⌜ (at < 2 ^ 60) × (n < 2 ^ 60) ⌝ }
-    ensures { λ r. ⌜ now (out .exit) ≡ sets (now (out .entry)) (at + 4) (take n (drop at (now (out .entry)))) ⌝ }
+// Moves n bytes up, the last one first; those for which there is room.
+pub fn move_up(out: &mut [u8], at: usize, n: usize, by: usize)
+    requires { ⌜ (at < 2 ^ 60) × (n < 2 ^ 60) × (by < 2 ^ 60) ⌝ }
+    ensures { λ r. ⌜ now (out .exit) ≡ sets (now (out .entry)) (at + by) (take n (drop at (now (out .entry)))) ⌝ }
 {
-    let mut i = table::room_for(out.len(), at + 4, n);
+    if by == 0 {
+        return;
+    }
+    let mut i = table::room_for(out.len(), at + by, n);
     while 0 < i {
         i -= 1;
         let from = at + i;
-        let to = from + 4;
+        let to = from + by;
         out[to] = out[from];
     }
 }
@@ -52,7 +55,7 @@ pub fn close(out: &mut [u8], place: usize, code: u32, stop: usize) -> usize
         put16(out, place, number + n as u64);
         return stop;
     }
-    move_up(out, place + 2, n);
+    move_up(out, place + 2, n, 4);
     put16(out, place, number + 63);
     put32(out, place + 2, n as u64);
     stop + 4

@@ -2,7 +2,7 @@
 use Prim.Native.Nat.{_*_}
 use denote.Ref.{now}
 use Rattle.fixed.specs.Fixed.{fixedOf}
-use Rattle.write_bodies.proofs.BodyLaws.{lies-over, start-fine, front-fine, front-done}
+use Rattle.spelling.proofs.EndLaws.{lies-over, start-fine, front-fine, front-done}
 use borrow.Author.Needs.{needs}
 use Rattle.write_bodies.proofs.write_front.Statement.{statement}
 use Rattle.write_bodies.proofs.write_front.Tie as tie

@@ -1,10 +1,10 @@
--- `write_bodies::conclude` meets its contract.
+-- `spelling::conclude` meets its contract.
 use denote.Ref.{now}
 use native.Mathlib.Omega.{arith}
-use Rattle.write_bodies.proofs.BodyLaws.{end-fine, end-left, end-done}
+use Rattle.spelling.proofs.EndLaws.{end-fine, end-left, end-done}
 use borrow.Author.Needs.{needs}
-use Rattle.write_bodies.proofs.conclude.Statement.{statement}
-use Rattle.write_bodies.proofs.conclude.Tie as tie
+use Rattle.spelling.proofs.conclude.Statement.{statement}
+use Rattle.spelling.proofs.conclude.Tie as tie
 
 enum-known-r : tie.Need-enum-known-r
 enum-known-r c = search needs

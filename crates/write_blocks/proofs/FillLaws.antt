@@ -1,0 +1,163 @@
+-- A block's contents, an attribute at a time, and the flags that are gathered on the way.
+use Prim.Native.Nat.{ℕ, suc, _+_, _*_, _≤_, _<_}
+use mathlib.Core.List.{List, [], _∷_, append-nil, append-assoc}
+use mathlib.Core.Path.{_≡_, refl, sym, ap, ap₂, _∙_, subst}
+use mathlib.Core.Bool.{Bool}
+use native.Mathlib.Numerals.{add-one}
+use native.Mathlib.Omega.{arith}
+use lib.ListN.{length, getD, drop, length-drop}
+use lib.Seq.{drop-cons, slice-empty}
+use borrow.Author.Tests.{eq-eqb}
+use Rattle.format.specs.Bits.{high}
+use Rattle.format.specs.Formats.{Item, item, _▸_}
+use Rattle.format.specs.Bodies.{Attribute, content, rows}
+use Rattle.format.specs.WritingItems.{dig, Bits, spelt, none, before, writeItem}
+use Rattle.format.specs.WritingFormats.{unrun}
+use Rattle.format.specs.WritingBodies.{leftOf, flagsIn}
+use Rattle.attributes.specs.Rows.{allAttributes, rowsFrom}
+use Rattle.sink.specs.Laying.{State, at}
+use Rattle.sink.specs.declared.Sink.{Sink}
+use Rattle.sink.proofs.LayingLaws.{lay-none}
+use Rattle.spelling.specs.Writing.{Seen, here, gone, seen, after, ran, limit, Fine}
+use Rattle.spelling.specs.declared.Put.{Put}
+use Rattle.spelling.specs.declared.Put.the-variants.{Done, Impossible}
+use Rattle.spelling.proofs.RunLaws.{ends-in, ran-then, resume, ran-nothing, ran-fine}
+use Rattle.write_blocks.specs.Flags.{flagSpelling, joined, flagBits, bitsOf, Held, noted, Grown}
+use Rattle.write_blocks.specs.Filling.{Both, both, neither, bothOf, fills}
+use Rattle.write_blocks.specs.declared.Flags.{Flags}
+use Rattle.write_blocks.specs.declared.Flagged.{Flagged}
+use Rattle.write_blocks.specs.declared.Flagged.the-variants.{With, No}
+use Rattle.write_blocks.proofs.FlagLaws.{Adds}
+use Rattle.write_blocks.proofs.PlaceLaws.{left-is}
+
+-- no rows are left
+pub no-rows : (row end : ℕ) → row ≡ end → rowsFrom row end ≡ []
+no-rows row end e = rw (e, slice-empty end allAttributes)
+
+-- ---- bits in front
+before-none : (b : Bits) → before [] b ≡ b
+before-none (spelt bs) = refl
+before-none none = refl
+
+before-joined : (xs : List Bool) (b c : Bits) → before xs (joined b c) ≡ joined (before xs b) c
+before-joined xs (spelt bs) (spelt cs) = ap spelt (sym (append-assoc xs bs cs))
+before-joined xs (spelt bs) none = refl
+before-joined xs none c = refl
+
+both-gone : (b : Bits) → bothOf b gone ≡ neither
+both-gone (spelt bs) = refl
+both-gone none = refl
+
+empty : {A : Type 0} (l : List A) → length l ≡ 0 → l ≡ []
+empty [] e = refl
+empty (x ∷ l) e = absurd (omega arith)
+
+module _ (t : List ℕ) where
+  -- the flag numbers of the attributes rs, the first of which stands at index k
+  abbrev φs : List Attribute → ℕ → List ℕ
+  φs rs k = flagsIn high rs (drop k t)
+
+  -- of a block the attributes rs are to come, with the flag number of the first at index k
+  abbrev toCome : Flags → State → ℕ → List Attribute → Both
+  toCome f st k rs = bothOf (before (bitsOf f) (flagBits rs (φs rs k))) (ran t st k (rows rs (φs rs k)))
+
+  module _ (a : Attribute) (rs : List Attribute) (f : Flags) (st : State) (k : ℕ) where
+    -- no number is left
+    none-left : length t ≤ k → toCome f st k (a ∷ rs) ≡ neither
+    unfolding flagsIn flagBits
+    none-left h = rw (empty (drop k t) (rw length-drop (omega arith)))
+
+    module _ (lk : k < length t) where
+      -- the flag numbers after it
+      unfoldable later : List ℕ
+      later = flagsIn high rs (leftOf (unrun high (content a (getD t k 0)) (drop (suc k) t) 0))
+
+      flags-cons : φs (a ∷ rs) k ≡ getD t k 0 ∷ later
+      unfolding flagsIn later
+      flags-cons = rw (drop-cons t k 0 lk)
+
+      echoed : st .place ≤ limit → ran t st k (item (Item.echo (getD t k 0))) ≡ here st (k + 1)
+      unfolding ran unrun writeItem after
+      echoed l = rw (drop-cons t k 0 lk, eq-eqb (getD t k 0) (getD t k 0) refl, lay-none) (ends-in st (k + 1) l)
+
+      -- its flag number, its content, and the contents of the others
+      rows-next : st .place ≤ limit → ran t st k (rows (a ∷ rs) (getD t k 0 ∷ later)) ≡ resume t (k + 1) (λ xs. rows rs later) (ran t st (k + 1) (content a (getD t k 0)))
+      unfolding rows
+      rows-next l =
+          ran-then t st k (item (Item.echo (getD t k 0))) (λ xs. content a (getD t k 0) ▸ rows rs later)
+          ∙ ap (resume t k (λ xs. content a (getD t k 0) ▸ rows rs later)) (echoed l)
+          ∙ ran-then t st (k + 1) (content a (getD t k 0)) (λ xs. rows rs later)
+
+      -- G is what its flags gave, x what its content did
+      module _ (G : Flagged) (flags : Adds f (flagSpelling (a .kind) (getD t k 0)) G) (l : st .place ≤ limit) where
+        turn : {x : Seen} → ran t st (k + 1) (content a (getD t k 0)) ≡ x → toCome f st k (a ∷ rs) ≡ bothOf (joined (noted G) (flagBits rs later)) (resume t (k + 1) (λ xs. rows rs later) x)
+        unfolding flagBits
+        turn e =
+            ap (λ (ψs : List ℕ). bothOf (before (bitsOf f) (flagBits (a ∷ rs) ψs)) (ran t st k (rows (a ∷ rs) ψs))) flags-cons
+            ∙ ap₂ bothOf
+            (before-joined (bitsOf f) (flagSpelling (a .kind) (getD t k 0)) (flagBits rs later) ∙ ap (λ (b : Bits). joined b (flagBits rs later)) (sym (flags .0)))
+            (rows-next l ∙ ap (resume t (k + 1) (λ xs. rows rs later)) e)
+
+        turn-flag : G ≡ No → toCome f st k (a ∷ rs) ≡ neither
+        turn-flag e = turn refl ∙ rw e
+
+        turn-gone : ran t st (k + 1) (content a (getD t k 0)) ≡ gone → toCome f st k (a ∷ rs) ≡ neither
+        turn-gone e = turn e ∙ both-gone (joined (noted G) (flagBits rs later))
+
+        turn-on : (g : Flags) (st′ : State) (j : ℕ) → G ≡ With g → ran t st (k + 1) (content a (getD t k 0)) ≡ here st′ j → toCome f st k (a ∷ rs) ≡ toCome g st′ j rs
+        unfolding later
+        turn-on g st′ j d e =
+            let i : leftOf (unrun high (content a (getD t k 0)) (drop (suc k) t) 0) ≡ drop j t =
+            ap (λ (n : ℕ). leftOf (unrun high (content a (getD t k 0)) (drop n t) 0)) (sym (add-one k)) ∙ left-is t (content a (getD t k 0)) (k + 1) st st′ j e in
+            turn e ∙ rw (d, i)
+
+-- ---- the loop: i attributes are done, rs are to come
+pub record Filling (ks : List Attribute) (t o : List ℕ) (s : Sink) (u : List ℕ) (f : Flags) (cur : Sink) (i k : ℕ) (rs : List Attribute) : Type 0 where
+  pub size : length u ≡ length o
+  pub fine : Fine cur
+  pub held : Held f
+  pub few : f .width ≤ 2 * i
+  pub rest : fills ks t (at o s) ≡ toCome t f (at u cur) k rs
+
+pub fill-start : (ks : List Attribute) (t o : List ℕ) (s : Sink) (i : ℕ) → Fine s → Filling ks t o s o (record { bits = 0; width = 0 }) s i 0 ks
+unfolding dig
+fill-start ks t o s i fine = record {
+  size = refl;
+  fine = fine;
+  held = omega arith;
+  few = omega arith;
+  rest = ap (λ (b : Bits). bothOf b (ran t (at o s) 0 (rows ks (flagsIn high ks t)))) (sym (before-none (flagBits ks (flagsIn high ks t))));
+}
+
+module _ {ks : List Attribute} {t o : List ℕ} {s : Sink} {u : List ℕ} {f : Flags} {cur : Sink} {i k : ℕ} {now : List Attribute} (g : Filling ks t o s u f cur i k now) where
+  pub fill-done : now ≡ [] → both (bitsOf f) (at u cur) k ≡ fills ks t (at o s)
+  unfolding flagsIn flagBits rows
+  fill-done e =
+      sym (g .rest ∙ ap (toCome t f (at u cur) k) e
+      ∙ ap₂ bothOf (ap spelt (append-nil (bitsOf f))) (ran-nothing t (at u cur) k (g .fine .1)))
+
+  module _ (a : Attribute) (rs : List Attribute) (is : now ≡ a ∷ rs) where
+    from-now : fills ks t (at o s) ≡ toCome t f (at u cur) k (a ∷ rs)
+    from-now = g .rest ∙ ap (toCome t f (at u cur) k) is
+
+    pub fill-short : length t ≤ k → neither ≡ fills ks t (at o s)
+    fill-short h = sym (from-now ∙ none-left t a rs f (at u cur) k h)
+
+    module _ (lk : k < length t) (G : Flagged) (flags : Adds f (flagSpelling (a .kind) (getD t k 0)) G) where
+      pub fill-flag : G ≡ No → neither ≡ fills ks t (at o s)
+      fill-flag e = sym (from-now ∙ turn-flag t a rs f (at u cur) k lk G flags (g .fine .1) e)
+
+      module _ (u′ : List ℕ) (R : Put) (e : seen u′ R ≡ ran t (at u cur) (k + 1) (content a (getD t k 0))) where
+        pub fill-gone : R ≡ Impossible → neither ≡ fills ks t (at o s)
+        fill-gone d = sym (from-now ∙ turn-gone t a rs f (at u cur) k lk G flags (g .fine .1) (sym e ∙ ap (seen u′) d))
+
+        pub fill-next : (f′ : Flags) (r : Sink) (j i′ : ℕ) → G ≡ With f′ → R ≡ Done r j → length u′ ≡ length u → i′ ≡ i + 1 → Filling ks t o s u′ f′ r i′ j rs
+        fill-next f′ r j i′ z d size ei =
+            let grown : Grown (f .width) (With f′) = subst (Grown (f .width)) z (flags .1) in
+            record {
+              size = size ∙ g .size;
+              fine = ran-fine t u cur (k + 1) (content a (getD t k 0)) u′ R (g .fine) e r j d;
+              held = grown .0;
+              few = omega (arith, grown .1, g .few);
+              rest = from-now ∙ turn-on t a rs f (at u cur) k lk G flags (g .fine .1) f′ (at u′ r) j z (sym e ∙ ap (seen u′) d);
+            }

@@ -1,0 +1,73 @@
+-- `write_blocks::add_flags` meets its contract.
+use mathlib.Core.Path.{refl}
+use Rattle.attributes.specs.declared.Kind.the-variants.{Value, Fixed, BitFlag, Simple, Discrete}
+use Rattle.write_blocks.specs.declared.Flagged.the-variants.{With, No}
+use Rattle.write_blocks.proofs.FlagLaws.{told, fixed-in, fixed-no, add-none, add-no}
+use borrow.Author.Needs.{needs}
+use Rattle.write_blocks.proofs.add_flags.Statement.{statement}
+use Rattle.write_blocks.proofs.add_flags.Tie as tie
+
+enum-told : tie.Need-enum-told
+enum-told c = search needs
+
+add-flag-requires : tie.Need-add-flag-requires
+add-flag-requires c κs = search needs
+
+enum-told-2 : tie.Need-enum-told-2
+enum-told-2 c = search needs
+
+enum-told-3 : tie.Need-enum-told-3
+enum-told-3 c = search needs
+
+add-flag-requires-2 : tie.Need-add-flag-requires-2
+add-flag-requires-2 c κs = search needs
+
+enum-told-4 : tie.Need-enum-told-4
+enum-told-4 c = search needs
+
+add-two-flags-requires : tie.Need-add-two-flags-requires
+add-two-flags-requires c κs = search needs
+
+enum-told-5 : tie.Need-enum-told-5
+enum-told-5 c = search needs
+
+add-two-flags-requires-2 : tie.Need-add-two-flags-requires-2
+add-two-flags-requires-2 c κs = search needs
+
+returns : tie.Need-returns
+returns c = told (c .before .before .before .args .f) (c .before .before .before .args .v) (c .add-flag .result) Value (c .before .enum-told .given .1) (c .add-flag .ensures)
+
+returns-2 : tie.Need-returns-2
+returns-2 c = told (c .before .before .before .args .f) (c .before .before .before .args .v) (With (c .before .before .before .args .f)) Fixed (c .before .enum-told2 .given .1) (add-none (c .before .before .before .args .f) (c .before .before .before .pre .0) refl (fixed-in (c .before .before .before .args .v) (c .if1 .taken)))
+
+returns-3 : tie.Need-returns-3
+returns-3 c = told (c .before .before .before .args .f) (c .before .before .before .args .v) No Fixed (c .before .enum-told2 .given .1) (add-no (c .before .before .before .args .f) (fixed-no (c .before .before .before .args .v) (c .if1 .left)))
+
+returns-4 : tie.Need-returns-4
+returns-4 c = told (c .before .before .before .args .f) (c .before .before .before .args .v) (c .add-flag2 .result) BitFlag (c .before .enum-told3 .given .1) (c .add-flag2 .ensures)
+
+returns-5 : tie.Need-returns-5
+returns-5 c = told (c .before .before .before .args .f) (c .before .before .before .args .v) (c .add-two-flags .result) Simple (c .before .enum-told4 .given .1) (c .add-two-flags .ensures)
+
+returns-6 : tie.Need-returns-6
+returns-6 c = told (c .before .before .before .args .f) (c .before .before .before .args .v) (c .add-two-flags2 .result) Discrete (c .before .enum-told5 .given .1) (c .add-two-flags2 .ensures)
+
+pub add-flags-spec : {M : Type 1} → statement M
+add-flags-spec =
+    tie.close
+    (tie.spec
+    enum-told
+    add-flag-requires
+    enum-told-2
+    enum-told-3
+    add-flag-requires-2
+    enum-told-4
+    add-two-flags-requires
+    enum-told-5
+    add-two-flags-requires-2
+    returns
+    returns-2
+    returns-3
+    returns-4
+    returns-5
+    returns-6)
