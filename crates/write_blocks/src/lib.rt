@@ -173,7 +173,11 @@ fn write_contents(rows: Rows, t: &[u64], out: &mut [u8], s: Sink) -> Filled
             return Filled::No;
         };
         flags = more;
-        cur = next;
+        // By its numbers: taken whole out of the answer it is loaded in other pieces than it was stored in, and the processor waits for that.
+        cur = Sink {
+            place: BitPlace(next.place.0),
+            part: next.part,
+        };
         k = j;
         row += 1;
     }
