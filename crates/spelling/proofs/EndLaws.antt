@@ -129,9 +129,6 @@ front-fine vs o s f u Impossible fine e = tt
 front-fine vs o s f u (Done r k) fine e = ran-fine vs o s 0 f u (Done r k) fine e r k refl
 
 -- ---- the end of a body
-pub end-gone : (n : ℕ) (o : List ℕ) (R : Put) → R ≡ Impossible → unlain ≡ concluded n (seen o R)
-end-gone n o R e = rw e
-
 module _ (n : ℕ) (o : List ℕ) (R : Put) (s : Sink) (k : ℕ) (e : R ≡ Done s k) where
   pub end-fine : FineAfter R → Fine s
   end-fine h = subst FineAfter e h

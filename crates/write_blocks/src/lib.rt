@@ -49,9 +49,11 @@ fn add_flag(f: Flags, v: u64) -> Flagged
     if 1 < v {
         return Flagged::No;
     }
+    let bits = f.bits;
+    let width = f.width;
     Flagged::With(Flags {
-        bits: f.bits * 2 + v,
-        width: f.width + 1,
+        bits: bits * 2 + v,
+        width: width + 1,
     })
 }
 

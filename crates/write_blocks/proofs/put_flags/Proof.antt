@@ -1,5 +1,5 @@
 -- `write_blocks::put_flags` meets its contract.
-use Prim.Native.Nat.{_+_, _-_, _*_, _/_, _%_}
+use Prim.Native.Nat.{_+_, _-_, _/_}
 use denote.Ref.{now}
 use native.Mathlib.Omega.{arith}
 use mathlib.Core.Path.{refl}
@@ -34,7 +34,7 @@ mul-t12 : tie.Need-mul-t12
 mul-t12 c = search needs
 
 put-bits-requires : tie.Need-put-bits-requires
-put-bits-requires c κs = (pow-pos (8 * c .before .before .before .before .before .before .before .args .at % 8), omega (arith, c .before .before .before .before .before .before .before .pre .3, c .before .before .before .before .before .before .before .pre .4), omega (arith, c .before .before .before .before .before .before .before .pre .2), c .before .before .before .before .before .before .before .pre .0)
+put-bits-requires c κs = (pow-pos _, omega (arith, c .before .before .before .before .before .before .before .pre .3, c .before .before .before .before .before .before .before .pre .4), omega (arith, c .before .before .before .before .before .before .before .pre .2), c .before .before .before .before .before .before .before .pre .0)
 
 align-requires : tie.Need-align-requires
 align-requires c κs = let a = c .before .before .before .before .before .before .before .before .before .before .before .args in put-fine (now (a .out)) (a .at) (a .flags) (c .before .before .before .before .before .before .before .before .before .before .before .pre .1) (c .before .before .before .before .before .before .before .move-up .last .0) (c .before .before .before .put-bits .last .0) (c .before .before .before .put-bits .result) (omega (arith, c .before .before .before .before .before .before .before .before .before .before .before .pre .3, c .before .before .before .before .before .before .before .before .before .before .before .pre .4)) (c .before .before .before .before .before .before .before .before .before .before .before .pre .2) (c .before .before .before .put-bits .ensures)
