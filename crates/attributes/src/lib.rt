@@ -8,6 +8,7 @@ ghost use Rattle.bits.specs.Places.{Inside, seen};
 ghost use Rattle.table.specs.State.{after};
 ghost use Rattle.table.specs.Run.{left};
 ghost use Rattle.attributes.specs.Rows.{kindOf, rowsAt, rowsFrom, AreRows};
+ghost use Rattle.attributes.specs.Contents.{animatableBy, contentBy};
 use bits::BitPlace;
 use bits::Got;
 use table::Run;
@@ -206,4 +207,41 @@ pub fn read_flags(rows: Rows, s: &[u8], at: BitPlace, flags: &mut [u64]) -> Run
         j += 1;
     }
     Run::Done(place, j)
+}
+
+// What a block has of an attribute besides its flags: nothing, one value, or keyframes.
+pub enum Content {
+    Nothing,
+    One,
+    Frames,
+}
+
+// Of a Simple or Discrete one: by its two flags.
+fn animatable(flag: u64) -> Content
+    ensures { λ r. ⌜ r ≡ animatableBy flag ⌝ }
+{
+    if flag == 0 {
+        return Content::Nothing;
+    }
+    if flag == 1 {
+        return Content::One;
+    }
+    Content::Frames
+}
+
+// By its flag number: a Value has one if its bit is set, a Fixed always, a BitFlag never.
+pub fn content_of(kind: Kind, flag: u64) -> Content
+    ensures { λ r. ⌜ r ≡ contentBy (kindOf kind) flag ⌝ }
+{
+    match kind {
+        Kind::Value => if flag == 0 {
+            Content::Nothing
+        } else {
+            Content::One
+        },
+        Kind::Fixed => Content::One,
+        Kind::BitFlag => Content::Nothing,
+        Kind::Simple => animatable(flag),
+        Kind::Discrete => animatable(flag),
+    }
 }

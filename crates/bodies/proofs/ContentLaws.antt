@@ -5,13 +5,12 @@ use mathlib.Core.Path.{_≡_, refl, ap, ap₂, sym, _∙_}
 use native.Mathlib.Omega.{arith}
 use lib.ListN.{length, getD, take}
 use lib.Seq.{slice, slice-cons, slice-empty}
-use borrow.Author.Tests.{eq-eqb, ne-eqb}
 use Rattle.format.specs.Bits.{high}
 use Rattle.format.specs.Reading.{At, Fault, Reading, shows}
 use Rattle.format.specs.Formats.{Item, Format, nothing, item, _▸_}
 use Rattle.format.specs.Items.{run, readItem}
 use Rattle.format.specs.Bodies as bodies
-use Rattle.format.specs.Bodies.{value, keyframed, contentOf, content, rows, allFlags, readBlock}
+use Rattle.format.specs.Bodies.{content, rows, allFlags, readBlock}
 use Rattle.format.proofs.SizeLaws.{Fair, FairEnd, fair-echo, fair-then, fair-content}
 use Rattle.format.proofs.WalkLaws.{run-le}
 use Rattle.bits.specs.declared.BitPlace.{BitPlace}
@@ -22,45 +21,17 @@ use Rattle.table.specs.declared.Run.{Run}
 use Rattle.table.specs.declared.Run.the-variants.{Done, Stop}
 use Rattle.table.proofs.EngineLaws.{state, after-none, after-stop, alike-assoc}
 use Rattle.table.proofs.RunLaws.{run-done, run-stop}
-use Rattle.attributes.specs.Rows.{kindOf, attributeOf, allAttributes, rowsFrom, AreRows}
-use Rattle.attributes.specs.declared.Kind.{Kind}
-use Rattle.attributes.specs.declared.Kind.the-variants.{Value}
+use Rattle.attributes.specs.Rows.{attributeOf, allAttributes, rowsFrom, AreRows}
 use Rattle.attributes.proofs.FlagLaws.{rowAt, rows-next}
-use Rattle.bodies.specs.Leaf.{animatable}
 
--- ---- contents, by the flag number
+-- ---- a content: none, so nothing was read and nothing stored; or what stands of it was read
 module _ (b t : List ℕ) (k p : ℕ) where
-  -- nothing was read, and nothing stored
-  pub content-none : state t k (At p) ≡ after t k (run high b nothing p)
+  pub content-none : (f : Format) → f ≡ nothing → state t k (At p) ≡ after t k (run high b f p)
   unfolding run
-  content-none = sym (after-none t k p)
+  content-none f e = rw e (sym (after-none t k p))
 
-  module _ (kind : bodies.Kind) (d : bodies.DataType) (φ : ℕ) where
-    pub animatable-none : φ ≡ 0 → state t k (At p) ≡ after t k (run high b (animatable kind d φ) p)
-    animatable-none e = rw (eq-eqb φ 0 e) content-none
-
-    pub animatable-value : {x : State} → (φ ≡ 0 → ⊥) → φ ≡ 1 → x ≡ after t k (run high b (value d) p) → x ≡ after t k (run high b (animatable kind d φ) p)
-    animatable-value n e h = rw (ne-eqb φ 0 n, eq-eqb φ 1 e) h
-
-    pub animatable-frames : {x : State} → (φ ≡ 0 → ⊥) → (φ ≡ 1 → ⊥) → x ≡ after t k (run high b (keyframed kind d) p) → x ≡ after t k (run high b (animatable kind d φ) p)
-    animatable-frames n m h = rw (ne-eqb φ 0 n, ne-eqb φ 1 m) h
-
-  module _ (d : bodies.DataType) (φ : ℕ) where
-    pub value-none : φ ≡ 0 → state t k (At p) ≡ after t k (run high b (contentOf (kindOf Value) d φ) p)
-    value-none e = rw (eq-eqb φ 0 e) content-none
-
-    pub value-some : {x : State} → (φ ≡ 0 → ⊥) → x ≡ after t k (run high b (value d) p) → x ≡ after t k (run high b (contentOf (kindOf Value) d φ) p)
-    value-some n h = rw (ne-eqb φ 0 n) h
-
-    -- the kind that a `match` tells
-    pub content-of : {kind : Kind} {x : State} (told : Kind) → kind ≡ told → x ≡ after t k (run high b (contentOf (kindOf told) d φ) p)
-        → x ≡ after t k (run high b (contentOf (kindOf kind) d φ) p)
-    content-of told e f = f ∙ ap (λ (z : Kind). after t k (run high b (contentOf (kindOf z) d φ) p)) (sym e)
-
-    pub animatable-of : {kind : Kind} {x : State} (told : Kind) → animatable (kindOf told) d φ ≡ contentOf (kindOf told) d φ → kind ≡ told
-        → x ≡ after t k (run high b (animatable (kindOf kind) d φ) p) → x ≡ after t k (run high b (contentOf (kindOf kind) d φ) p)
-    animatable-of told same e f =
-        content-of told e (f ∙ ap (λ (z : Kind). after t k (run high b (animatable (kindOf z) d φ) p)) e ∙ ap (λ (g : Format). after t k (run high b g p)) same)
+  pub content-is : {x : State} (f g : Format) → g ≡ f → x ≡ after t k (run high b f p) → x ≡ after t k (run high b g p)
+  content-is f g e h = h ∙ ap (λ (z : Format). after t k (run high b z p)) (sym e)
 
 -- the flag number is shown, and takes no bits
 pub echo-one : (b : List ℕ) (p φ : ℕ) → run high b (item (Item.echo φ)) p ≡ shows (φ ∷ []) p

@@ -3,8 +3,7 @@ use Prim.Native.Nat.{ℕ}
 use mathlib.Core.Bool.{Bool}
 use lib.Dec.{eqb}
 use Rattle.format.specs.Tests.{pick, _or_}
-use Rattle.format.specs.Formats.{Format, nothing}
-use Rattle.format.specs.Bodies.{Kind, DataType, value, keyframed, Body, fixed, attributes}
+use Rattle.format.specs.Bodies.{Body, fixed, attributes}
 use Rattle.attributes.specs.Rows.{attributesOf}
 use Rattle.fixed.specs.Fixed.{fixedOf}
 
@@ -15,7 +14,3 @@ isBlock code = eqb code 6 or eqb code 9 or eqb code 14
 -- a code that has no body of its own has no items
 unfoldable pub leafBody : ℕ → Body
 leafBody code = pick (isBlock code) (attributes (attributesOf code)) (fixed (fixedOf code))
-
--- the content of a Simple or Discrete attribute, by its flag number
-abbrev pub animatable : Kind → DataType → ℕ → Format
-animatable k d φ = pick (eqb φ 0) nothing (pick (eqb φ 1) (value d) (keyframed k d))

@@ -9,36 +9,14 @@ ghost use Rattle.format.specs.Bodies.{contentOf, content, rows as «rowsOf», r
 ghost use Rattle.table.specs.State.{after};
 ghost use Rattle.table.specs.Run.{left};
 ghost use Rattle.table.specs.Fields.{Fits};
-ghost use Rattle.bodies.specs.Leaf.{animatable};
 ghost use Rattle.attributes.specs.Rows.{kindOf, typeOf, attributeOf, rowsFrom, AreRows};
 use attributes::Attribute;
+use attributes::Content;
 use attributes::DataType;
 use attributes::Kind;
 use attributes::Rows;
 use bits::BitPlace;
 use table::Run;
-
-// The content of a Simple or Discrete attribute: none, a value, or keyframes.
-fn read_animatable(
-    kind: Kind,
-    what: DataType,
-    flag: u64,
-    s: &[u8],
-    at: BitPlace,
-    t: &mut [u64],
-    k: usize,
-) -> Run
-    requires { ⌜ Fits (now s) (at .0) k ⌝ }
-    ensures { λ r. ⌜ left (now (t .exit)) r ≡ after (now (t .entry)) k (run high (now (s .entry)) (animatable (kindOf kind) (typeOf what) flag) (at .0)) ⌝ }
-{
-    if flag == 0 {
-        return Run::Done(at, k);
-    }
-    if flag == 1 {
-        return values::read_value(what, s, at, t, k);
-    }
-    values::keyframes::read_keyframed(kind, what, s, at, t, k)
-}
 
 // An attribute's content, by its flag number.
 fn read_content(
@@ -53,16 +31,10 @@ fn read_content(
     requires { ⌜ Fits (now s) (at .0) k ⌝ }
     ensures { λ r. ⌜ left (now (t .exit)) r ≡ after (now (t .entry)) k (run high (now (s .entry)) (contentOf (kindOf kind) (typeOf what) flag) (at .0)) ⌝ }
 {
-    match kind {
-        Kind::Value => if flag == 0 {
-            Run::Done(at, k)
-        } else {
-            values::read_value(what, s, at, t, k)
-        },
-        Kind::Fixed => values::read_value(what, s, at, t, k),
-        Kind::BitFlag => Run::Done(at, k),
-        Kind::Simple => read_animatable(kind, what, flag, s, at, t, k),
-        Kind::Discrete => read_animatable(kind, what, flag, s, at, t, k),
+    match attributes::content_of(kind, flag) {
+        Content::Nothing => Run::Done(at, k),
+        Content::One => values::read_value(what, s, at, t, k),
+        Content::Frames => values::keyframes::read_keyframed(kind, what, s, at, t, k),
     }
 }
 

@@ -12,11 +12,9 @@ use Rattle.format.specs.Tests.{pick}
 use Rattle.format.specs.Bits.{high}
 use Rattle.format.specs.Formats.{Format, nothing}
 use Rattle.format.specs.Bodies as bodies
-use Rattle.format.specs.Bodies.{value, contentOf}
 use Rattle.format.specs.WritingItems.{dig, Bits, spelt, none, before, spellFlag}
 use Rattle.attributes.specs.Rows.{kindOf}
 use Rattle.attributes.specs.declared.Kind.{Kind}
-use Rattle.bodies.specs.Leaf.{animatable}
 use Rattle.sink.specs.Laying.{State}
 use Rattle.sink.proofs.LayingLaws.{dig-append}
 use Rattle.spelling.specs.Writing.{Seen, here, ran, limit}
@@ -117,25 +115,3 @@ module _ (t : List ℕ) (st : State) (k : ℕ) where
 
   pub content-is : {x : Seen} (f g : Format) → g ≡ f → x ≡ ran t st k f → x ≡ ran t st k g
   content-is f g e d = d ∙ ap (ran t st k) (sym e)
-
-  pub kind-told : (d : bodies.DataType) (φ : ℕ) {kind : Kind} {x : Seen} (arm : Kind) → kind ≡ arm → x ≡ ran t st k (contentOf (kindOf arm) d φ) → x ≡ ran t st k (contentOf (kindOf kind) d φ)
-  kind-told d φ arm e h = h ∙ ap (λ (z : Kind). ran t st k (contentOf (kindOf z) d φ)) (sym e)
-
-  pub animatable-told : (d : bodies.DataType) (φ : ℕ) {kind : Kind} {x : Seen} (arm : Kind) → kind ≡ arm → x ≡ ran t st k (animatable (kindOf kind) d φ) → x ≡ ran t st k (animatable (kindOf arm) d φ)
-  animatable-told d φ arm e h = h ∙ ap (λ (z : Kind). ran t st k (animatable (kindOf z) d φ)) e
-
--- by the flag number
-pub value-none : (d : bodies.DataType) (φ : ℕ) → φ ≡ 0 → contentOf bodies.Value d φ ≡ nothing
-value-none d φ e = rw (eq-eqb φ 0 e)
-
-pub value-some : (d : bodies.DataType) (φ : ℕ) → (φ ≡ 0 → ⊥) → contentOf bodies.Value d φ ≡ value d
-value-some d φ e = rw (ne-eqb φ 0 e)
-
-pub animatable-none : (kind : bodies.Kind) (d : bodies.DataType) (φ : ℕ) → φ ≡ 0 → animatable kind d φ ≡ nothing
-animatable-none kind d φ e = rw (eq-eqb φ 0 e)
-
-pub animatable-value : (kind : bodies.Kind) (d : bodies.DataType) (φ : ℕ) → (φ ≡ 0 → ⊥) → φ ≡ 1 → animatable kind d φ ≡ value d
-animatable-value kind d φ n e = rw (ne-eqb φ 0 n, eq-eqb φ 1 e)
-
-pub animatable-frames : (kind : bodies.Kind) (d : bodies.DataType) (φ : ℕ) → (φ ≡ 0 → ⊥) → (φ ≡ 1 → ⊥) → animatable kind d φ ≡ bodies.keyframed kind d
-animatable-frames kind d φ n e = rw (ne-eqb φ 0 n, ne-eqb φ 1 e)

@@ -7,15 +7,14 @@ ghost use Rattle.format.specs.Bits.{high};
 ghost use Rattle.format.specs.WritingItems.{before, spellFlag};
 ghost use Rattle.format.specs.Bodies.{content as «contentOf», attributes as «attributesBody»};
 ghost use Rattle.format.specs.WritingBodies.{writeBody};
-ghost use Rattle.attributes.specs.Rows.{kindOf, typeOf, attributeOf, rowsFrom, AreRows};
-ghost use Rattle.bodies.specs.Leaf.{animatable};
+ghost use Rattle.attributes.specs.Rows.{kindOf, attributeOf, rowsFrom, AreRows};
 ghost use Rattle.sink.specs.Lain.{lies, lainAs, longest};
 ghost use Rattle.sink.specs.Laying.{at as «under»};
 ghost use Rattle.spelling.specs.Writing.{seen, ran, Fine};
 ghost use Rattle.write_blocks.specs.Flags.{bitsOf, noted, Held, Grown, flagSpelling, flagBytes, anyFlag};
 ghost use Rattle.write_blocks.specs.Filling.{filled, fills, Ready, underFlags};
 use attributes::Attribute;
-use attributes::DataType;
+use attributes::Content;
 use attributes::Kind;
 use attributes::Rows;
 use bits::BitPlace;
@@ -99,28 +98,6 @@ fn add_flags(kind: Kind, f: Flags, v: u64) -> Flagged
     }
 }
 
-// The content of a Simple or Discrete attribute: none, a value, or keyframes.
-fn write_animatable(
-    kind: Kind,
-    what: DataType,
-    flag: u64,
-    out: &mut [u8],
-    s: Sink,
-    t: &[u64],
-    k: usize,
-) -> Put
-    requires { ⌜ Fine s ⌝ }
-    ensures { λ r. ⌜ seen (now (out .exit)) r ≡ ran (now (t .entry)) («under» (now (out .entry)) s) k (animatable (kindOf kind) (typeOf what) flag) ⌝ }
-{
-    if flag == 0 {
-        return Put::Done(s, k);
-    }
-    if flag == 1 {
-        return write_values::write_value(what, out, s, t, k);
-    }
-    write_values::keyframes::write_keyframed(kind, what, out, s, t, k)
-}
-
 // An attribute's content, by its flag number.
 fn write_content(
     attribute: Attribute,
@@ -135,16 +112,10 @@ fn write_content(
 {
     let kind = attribute.kind;
     let what = attribute.data_type;
-    match kind {
-        Kind::Value => if flag == 0 {
-            Put::Done(s, k)
-        } else {
-            write_values::write_value(what, out, s, t, k)
-        },
-        Kind::Fixed => write_values::write_value(what, out, s, t, k),
-        Kind::BitFlag => Put::Done(s, k),
-        Kind::Simple => write_animatable(kind, what, flag, out, s, t, k),
-        Kind::Discrete => write_animatable(kind, what, flag, out, s, t, k),
+    match attributes::content_of(kind, flag) {
+        Content::Nothing => Put::Done(s, k),
+        Content::One => write_values::write_value(what, out, s, t, k),
+        Content::Frames => write_values::keyframes::write_keyframed(kind, what, out, s, t, k),
     }
 }
 

@@ -36,5 +36,10 @@ pub fn write_body(code: u32, values: &[u64], out: &mut [u8], at: usize) -> Body
     if bodies::is_block(code) {
         return write_blocks::write_block(attributes::rows_of(code), values, out, at);
     }
-    write_front(code, values, out, at)
+    // The answer is made again, not handed on whole: see `write_blocks::write_contents`.
+    let r = write_front(code, values, out, at);
+    match r {
+        Body::To(end) => Body::To(end),
+        Body::No => Body::No,
+    }
 }

@@ -7,6 +7,7 @@ ghost use Rattle.format.specs.Bodies.{fontTables};
 ghost use Rattle.fixed.specs.Fixed.{inOrder, itemsFrom, fixedOf};
 ghost use Rattle.sink.specs.Laying.{at as «under»};
 ghost use Rattle.spelling.specs.Writing.{seen, ran, Fine};
+use bits::BitPlace;
 use items::Item;
 use sink::Sink;
 use spelling::Put;
@@ -24,9 +25,13 @@ fn write_items(start: usize, end: usize, out: &mut [u8], s: Sink, t: &[u64], k: 
         let kind = rows[row];
         let r = spelling::write_one(kind, out, cur, t, j);
         let Put::Done(next, i) = r else {
-            return r;
+            return Put::Impossible;
         };
-        cur = next;
+        // By its numbers, not whole: see `write_blocks::write_contents`.
+        cur = Sink {
+            place: BitPlace(next.place.0),
+            part: next.part,
+        };
         j = i;
         row += 1;
     }

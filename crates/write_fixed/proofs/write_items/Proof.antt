@@ -1,6 +1,6 @@
 -- `write_fixed::write_items` meets its contract. The loop's invariant: the items of all rows are those of the rows from here on.
 use Prim.Native.Nat.{_+_, _-_, _≤_}
-use mathlib.Core.Path.{refl, _∙_}
+use mathlib.Core.Path.{refl, sym, ap, _∙_}
 use native.Mathlib.Omega.{arith}
 use borrow.Author.Needs.{needs}
 use denote.Ref.{now}
@@ -9,6 +9,7 @@ use Rattle.items.specs.Kinds.{formatOf}
 use Rattle.items.specs.declared.Item.the-variants.{U32}
 use Rattle.fixed.specs.Fixed.{inOrder, allItems, itemsFrom}
 use Rattle.fixed.proofs.FixedLaws.{items-more, items-none}
+use Rattle.spelling.specs.Writing.{seen}
 use Rattle.spelling.proofs.RunLaws.{Going, going-none, going-stop, going-next, going-over}
 use Rattle.write_fixed.proofs.write_items.Statement.{statement}
 use Rattle.write_fixed.proofs.write_items.Tie as tie
@@ -41,7 +42,7 @@ same-length : tie.Need-same-length Inv-loop μ-loop
 same-length c = c .before .before .before .before .write-one .kept .1 .0 ∙ c .before .before .before .before .before .before .before .before .loop .inv .1 .size
 
 returns : tie.Need-returns Inv-loop μ-loop
-returns c = going-stop (c .before .before .before .before .before .before .before .before .loop .inv .1) (formatOf (getD allItems (c .before .before .before .before .before .before .before .before .loop .row) U32)) (inOrder (itemsFrom (c .before .before .before .before .before .before .before .before .loop .row + 1) (c .before .before .before .before .before .before .before .before .before .before .before .args .end))) (items-more (c .before .before .before .before .before .before .before .before .loop .row) (c .before .before .before .before .before .before .before .before .before .before .before .args .end) refl (c .before .before .before .before .before .before .before .loop-test .taken) (c .before .before .before .before .before .before .before .before .before .before .before .pre .1)) (c .before .before .before .before .write-one .last .1 .0) (c .before .before .before .before .write-one .result) (c .before .before .before .before .write-one .ensures) (c .enum-told .given .1)
+returns c = ap (seen (c .before .before .before .before .write-one .last .1 .0)) (sym (c .enum-told .given .1)) ∙ going-stop (c .before .before .before .before .before .before .before .before .loop .inv .1) (formatOf (getD allItems (c .before .before .before .before .before .before .before .before .loop .row) U32)) (inOrder (itemsFrom (c .before .before .before .before .before .before .before .before .loop .row + 1) (c .before .before .before .before .before .before .before .before .before .before .before .args .end))) (items-more (c .before .before .before .before .before .before .before .before .loop .row) (c .before .before .before .before .before .before .before .before .before .before .before .args .end) refl (c .before .before .before .before .before .before .before .loop-test .taken) (c .before .before .before .before .before .before .before .before .before .before .before .pre .1)) (c .before .before .before .before .write-one .last .1 .0) (c .before .before .before .before .write-one .result) (c .before .before .before .before .write-one .ensures) (c .enum-told .given .1)
 
 add-row : tie.Need-add-row Inv-loop μ-loop
 add-row c = omega (arith, c .before .before .before .before .before .before .before .before .before .before .before .before .pre .1)

@@ -1,112 +1,75 @@
+-- `bodies::blocks::read_content` meets its contract: what the flag number tells of a content is what its format is.
 use denote.Ref.{now}
-use mathlib.Core.Path.{refl}
-use Rattle.attributes.specs.Rows.{typeOf}
-use Rattle.attributes.specs.declared.Kind.the-variants.{Simple, Discrete}
-use Rattle.bodies.proofs.ContentLaws.{content-none, value-none, value-some, content-of, animatable-of}
+use Rattle.format.specs.Bodies.{value, keyframed, contentOf}
+use Rattle.attributes.specs.Rows.{kindOf, typeOf}
+use Rattle.attributes.specs.declared.Content.the-variants.{Nothing, One, Frames}
+use Rattle.attributes.proofs.ContentLaws.{content-told}
+use Rattle.bodies.proofs.ContentLaws.{content-none, content-is}
 use borrow.Author.Needs.{needs}
 use Rattle.bodies.proofs.blocks.read_content.Statement.{statement}
 use Rattle.bodies.proofs.blocks.read_content.Tie as tie
 use Rattle.bodies.proofs.blocks.read_content.Reads as reads
 use Rattle.bodies.proofs.blocks.read_content.Lts as lts
-use Rattle.bodies.proofs.blocks.read_animatable.Reads as read-animatable-reads
+use Rattle.attributes.proofs.content_of.Reads as content-of-reads
+use Rattle.values.proofs.keyframes.read_keyframed.Reads as read-keyframed-reads
 use Rattle.values.proofs.read_value.Reads as read-value-reads
 
--- src/blocks.rt:57:27
+-- src/blocks.rt:34:11
+content-of-requires : tie.Need-content-of-requires
+content-of-requires c κs = search needs
+
+-- src/blocks.rt:35:29
 enum-told : tie.Need-enum-told
 enum-told c = search needs
 
--- src/blocks.rt:60:13
-read-value-requires : tie.Need-read-value-requires
-read-value-requires c κs = search needs
-
--- src/blocks.rt:62:56
+-- src/blocks.rt:36:57
 enum-told-2 : tie.Need-enum-told-2
 enum-told-2 c = search needs
 
--- src/blocks.rt:62:24
-read-value-requires-2 : tie.Need-read-value-requires-2
-read-value-requires-2 c κs = search needs
+-- src/blocks.rt:36:25
+read-value-requires : tie.Need-read-value-requires
+read-value-requires c κs = search needs
 
--- src/blocks.rt:63:26
+-- src/blocks.rt:37:81
 enum-told-3 : tie.Need-enum-told-3
 enum-told-3 c = search needs
 
--- src/blocks.rt:64:66
-enum-told-4 : tie.Need-enum-told-4
-enum-told-4 c = search needs
+-- src/blocks.rt:37:28
+read-keyframed-requires : tie.Need-read-keyframed-requires
+read-keyframed-requires c κs = search needs
 
--- src/blocks.rt:64:25
-read-animatable-requires : tie.Need-read-animatable-requires
-read-animatable-requires c κs = search needs
-
--- src/blocks.rt:65:68
-enum-told-5 : tie.Need-enum-told-5
-enum-told-5 c = search needs
-
--- src/blocks.rt:65:27
-read-animatable-requires-2 : tie.Need-read-animatable-requires-2
-read-animatable-requires-2 c κs = search needs
-
--- src/blocks.rt:44:1
+-- src/blocks.rt:22:1
 returns : tie.Need-returns
-returns c = let a = c .before .before .before .before .before .args in content-of (now (a .s)) (now (a .t)) (a .k) (a .at .0) (typeOf (a .what)) (a .flag) _ (c .before .enum-told .given .1) (value-none (now (a .s)) (now (a .t)) (a .k) (a .at .0) (typeOf (a .what)) (a .flag) (c .if1 .taken))
+returns c = let a = c .before .before .before .before .before .args in content-none (now (a .s)) (now (a .t)) (a .k) (a .at .0) (contentOf (kindOf (a .kind)) (typeOf (a .what)) (a .flag)) (content-told (kindOf (a .kind)) (typeOf (a .what)) (a .flag) Nothing (c .before .before .content-of .ensures) (c .enum-told .given .1))
 
--- src/blocks.rt:44:1
+-- src/blocks.rt:22:1
 same-length : tie.Need-same-length
 same-length c = search needs
 
--- src/blocks.rt:44:1
+-- src/blocks.rt:22:1
 returns-2 : tie.Need-returns-2
-returns-2 c = let a = c .before .before .before .before .before .before .before .before .before .args in content-of (now (a .s)) (now (a .t)) (a .k) (a .at .0) (typeOf (a .what)) (a .flag) _ (c .before .before .before .before .before .enum-told .given .1) (value-some (now (a .s)) (now (a .t)) (a .k) (a .at .0) (typeOf (a .what)) (a .flag) (c .before .before .before .before .if1 .left) (c .before .before .read-value .ensures))
+returns-2 c = let a = c .before .before .before .before .before .before .before .before .before .args in content-is (now (a .s)) (now (a .t)) (a .k) (a .at .0) (value (typeOf (a .what))) (contentOf (kindOf (a .kind)) (typeOf (a .what)) (a .flag)) (content-told (kindOf (a .kind)) (typeOf (a .what)) (a .flag) One (c .before .before .before .before .before .before .content-of .ensures) (c .before .before .before .before .enum-told2 .given .1)) (c .before .before .read-value .ensures)
 
--- src/blocks.rt:44:1
+-- src/blocks.rt:22:1
 same-length-2 : tie.Need-same-length-2
 same-length-2 c = search needs
 
--- src/blocks.rt:44:1
+-- src/blocks.rt:22:1
 returns-3 : tie.Need-returns-3
-returns-3 c = let a = c .before .before .before .before .before .before .before .before .args in content-of (now (a .s)) (now (a .t)) (a .k) (a .at .0) (typeOf (a .what)) (a .flag) _ (c .before .before .before .before .enum-told2 .given .1) (c .before .before .read-value2 .ensures)
-
--- src/blocks.rt:44:1
-returns-4 : tie.Need-returns-4
-returns-4 c = let a = c .before .before .before .before .args in content-of (now (a .s)) (now (a .t)) (a .k) (a .at .0) (typeOf (a .what)) (a .flag) _ (c .enum-told3 .given .1) (content-none (now (a .s)) (now (a .t)) (a .k) (a .at .0))
-
--- src/blocks.rt:44:1
-same-length-3 : tie.Need-same-length-3
-same-length-3 c = search needs
-
--- src/blocks.rt:44:1
-returns-5 : tie.Need-returns-5
-returns-5 c = let a = c .before .before .before .before .before .before .before .before .args in animatable-of (now (a .s)) (now (a .t)) (a .k) (a .at .0) (typeOf (a .what)) (a .flag) Simple refl (c .before .before .before .before .enum-told4 .given .1) (c .before .before .read-animatable .ensures)
-
--- src/blocks.rt:44:1
-same-length-4 : tie.Need-same-length-4
-same-length-4 c = search needs
-
--- src/blocks.rt:44:1
-returns-6 : tie.Need-returns-6
-returns-6 c = let a = c .before .before .before .before .before .before .before .before .args in animatable-of (now (a .s)) (now (a .t)) (a .k) (a .at .0) (typeOf (a .what)) (a .flag) Discrete refl (c .before .before .before .before .enum-told5 .given .1) (c .before .before .read-animatable2 .ensures)
+returns-3 c = let a = c .before .before .before .before .before .before .before .before .before .args in content-is (now (a .s)) (now (a .t)) (a .k) (a .at .0) (keyframed (kindOf (a .kind)) (typeOf (a .what))) (contentOf (kindOf (a .kind)) (typeOf (a .what)) (a .flag)) (content-told (kindOf (a .kind)) (typeOf (a .what)) (a .flag) Frames (c .before .before .before .before .before .before .content-of .ensures) (c .before .before .before .before .enum-told3 .given .1)) (c .before .before .read-keyframed .ensures)
 
 pub read-content-spec : {M : Type 1} → statement M
 read-content-spec =
     tie.close
     (tie.spec
+    content-of-requires
     enum-told
-    read-value-requires
     enum-told-2
-    read-value-requires-2
+    read-value-requires
     enum-told-3
-    enum-told-4
-    read-animatable-requires
-    enum-told-5
-    read-animatable-requires-2
+    read-keyframed-requires
     returns
     same-length
     returns-2
     same-length-2
-    returns-3
-    returns-4
-    same-length-3
-    returns-5
-    same-length-4
-    returns-6)
+    returns-3)

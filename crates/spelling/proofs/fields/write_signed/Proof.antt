@@ -1,9 +1,8 @@
 -- `spelling::fields::write_signed` meets its contract. The loop's invariant: the run of fields is what is left of it from here on.
-use Prim.Native.Nat.{_+_, _-_, _/_, _%_, _^_, _<_}
+use Prim.Native.Nat.{_+_, _-_, _/_, _%_}
 use denote.Ref.{now}
 use mathlib.Core.Path.{refl}
 use native.Mathlib.Omega.{arith}
-use borrow.Author.Needs.{needs}
 use lib.ListN.{getD}
 use Rattle.table.specs.declared.fields.Field.the-variants.{Coordinate}
 use Rattle.sink.proofs.LayingLaws.{rest-small}

@@ -1,5 +1,5 @@
 -- `spelling::fields::write_unsigned` meets its contract. The loop's invariant: the run of fields is what is left of it from here on, and the count is that of the fields before.
-use Prim.Native.Nat.{_+_, _-_, _<_, _≤_}
+use Prim.Native.Nat.{_+_, _-_}
 use denote.Ref.{now}
 use mathlib.Core.Path.{refl}
 use native.Mathlib.Omega.{arith}
