@@ -1,9 +1,9 @@
 -- Strings: the bytes are stored first, and their count before them last.
-use Prim.Native.Nat.{ℕ, zero, suc, _+_, _-_, _*_, _≤_, _<_}
+use Prim.Native.Nat.{ℕ, zero, suc, _+_, _-_, _*_, _≤_, _<_, min}
 use mathlib.Core.List.{List, [], _∷_}
-use mathlib.Core.Path.{_≡_, refl, ap, sym, _∙_}
+use mathlib.Core.Path.{_≡_, refl, ap, ap₂, sym, _∙_}
 use lib.ListN.{length, length-set, set, getD}
-use lib.Seq.{sets, set-comm}
+use lib.Seq.{sets, set-comm, set-out}
 use lib.Dec.{eqb}
 use borrow.Author.Tests.{le-leb, lt-leb, eq-eqb, ne-eqb}
 use native.Mathlib.Nat.{add-zero, mod-eq-of-lt}
@@ -87,35 +87,43 @@ unfolding readText
 text-cut s p zero h = refl
 text-cut s p (suc m) h = rw (lt-leb (p + 8) (8 * length s) h)
 
--- ---- the loop: the whole from the start is what is left from here
-pub record Going (s t₀ : List ℕ) (k i₀ p₀ : ℕ) (t : List ℕ) (i p n : ℕ) : Type 0 where
+-- ---- the loop: the whole from the start is what is left after n bytes
+pub record Going (s t₀ : List ℕ) (k i p : ℕ) (t : List ℕ) (n : ℕ) : Type 0 where
   pub size : length t ≡ length t₀
-  pub rest : after t₀ k (showText (readText high s p₀ (length s))) ≡ closes t k n (readText high s p (length s - n))
+  pub rest : after t₀ k (showText (readText high s p (length s))) ≡ closes t k n (readText high s (p + 8 * n) (length s - n))
   pub whole : p ≡ 8 * i
-  pub passed : i ≡ i₀ + n
-  pub inside : i ≤ length s
+  pub inside : i + n ≤ length s
 
-module _ {s t₀ : List ℕ} {k i₀ p₀ : ℕ} {t : List ℕ} {i p n : ℕ} (g : Going s t₀ k i₀ p₀ t i p n) where
-  module _ {b : ℕ} (there : i < length s) (read : (b ≡ getD s i 0) × (b < 256)) where
-    pub going-more : {u : List ℕ} → (b ≡ 0 → ⊥) → u ≡ set t (k + 1 + n) b → Going s t₀ k i₀ p₀ u (i + 1) (p + 8) (n + 1)
-    going-more z d =
+module _ {s t₀ : List ℕ} {k i p : ℕ} {t : List ℕ} {n : ℕ} (g : Going s t₀ k i p t n) where
+  module _ {b : ℕ} (there : i + n < length s) (read : (b ≡ getD s (i + n) 0) × (b < 256)) where
+    on-byte : p + 8 * n ≡ 8 * (i + n)
+    on-byte = omega (arith, g .whole)
+
+    -- a byte more is stored
+    pub going-stored : {u : List ℕ} → (b ≡ 0 → ⊥) → u ≡ set t (k + 1 + n) b → Going s t₀ k i p u (n + 1)
+    going-stored z d =
         let m : length s - n - 1 ≡ length s - (n + 1) = omega arith in
+        let q : p + 8 * n + 8 ≡ p + 8 * (n + 1) = omega arith in
         record {
           size = ap length d ∙ length-set t (k + 1 + n) b ∙ g .size;
-          rest = g .rest ∙ ap (closes t k n) (text-more s i (g .whole) read there (length s - n) (omega (arith, g .passed)) z)
-              ∙ closes-more t k n b (readText high s (p + 8) (length s - n - 1)) ∙ rw (m, d);
-          whole = omega (arith, g .whole);
-          passed = omega (arith, g .passed);
+          rest = g .rest ∙ ap (closes t k n) (text-more s (i + n) on-byte read there (length s - n) (omega arith) z)
+              ∙ closes-more t k n b (readText high s (p + 8 * n + 8) (length s - n - 1)) ∙ rw (m, q, d);
+          whole = g .whole;
           inside = omega arith;
         }
 
-    pub going-ends : {u : List ℕ} → b ≡ 0 → u ≡ set t k n → state u (k + 1 + n) (At (p + 8)) ≡ after t₀ k (showText (readText high s p₀ (length s)))
-    going-ends z d = rw d (sym (g .rest ∙ ap (closes t k n) (text-ends s i (g .whole) read there (length s - n) (omega (arith, g .passed)) z) ∙ closes-text t k n (p + 8)))
+    -- or there is no room for it
+    pub going-dropped : {u : List ℕ} {m : ℕ} → (b ≡ 0 → ⊥) → u ≡ t → m ≡ min (length s - i) (length t₀ - (k + 1)) → m ≤ n → Going s t₀ k i p u (n + 1)
+    going-dropped z d h l = going-stored z (d ∙ sym (set-out t (k + 1 + n) b (omega (arith, g .size, h, l))))
 
-  pub going-cut : {u : List ℕ} → length s ≤ i → u ≡ set t k n → state u (k + 1 + n) (Fault 13) ≡ after t₀ k (showText (readText high s p₀ (length s)))
-  going-cut l d = rw d (sym (g .rest ∙ ap (closes t k n) (text-cut s p (length s - n) (omega (arith, g .whole))) ∙ closes-cut t k n))
+    pub going-ends : {u : List ℕ} → b ≡ 0 → u ≡ set t k n → state u (k + 1 + n) (At (p + 8 * n + 8)) ≡ after t₀ k (showText (readText high s p (length s)))
+    going-ends z d = rw d (sym (g .rest ∙ ap (closes t k n) (text-ends s (i + n) on-byte read there (length s - n) (omega arith) z) ∙ closes-text t k n (p + 8 * n + 8)))
 
-pub going-start : (s t : List ℕ) (k i p : ℕ) → p ≡ 8 * i → i ≤ length s → Going s t k i p t i p 0
+  pub going-cut : {u : List ℕ} → length s ≤ i + n → u ≡ set t k n → state u (k + 1 + n) (Fault 13) ≡ after t₀ k (showText (readText high s p (length s)))
+  going-cut l d = rw d (sym (g .rest ∙ ap (closes t k n) (text-cut s (p + 8 * n) (length s - n) (omega (arith, g .whole))) ∙ closes-cut t k n))
+
+pub going-start : (s t : List ℕ) (k i p : ℕ) → p ≡ 8 * i → i ≤ length s → Going s t k i p t 0
 going-start s t k i p w l =
     let m : length s ≡ length s - 0 = omega arith in
-    record { size = refl; rest = closes-none t k (readText high s p (length s)) ∙ ap (λ (n : ℕ). closes t k 0 (readText high s p n)) m; whole = w; passed = omega arith; inside = l }
+    let q : p ≡ p + 8 * 0 = omega arith in
+    record { size = refl; rest = closes-none t k (readText high s p (length s)) ∙ ap₂ (λ (r n : ℕ). closes t k 0 (readText high s r n)) q m; whole = w; inside = omega arith }

@@ -9,6 +9,7 @@ ghost use Rattle.table.specs.Run.{left};
 ghost use Rattle.table.specs.Fields.{Fits};
 use crate::Run;
 use crate::put;
+use crate::room_for;
 use bits::Aligned;
 use bits::BitPlace;
 use bits::BytePlace;
@@ -18,22 +19,25 @@ fn text(s: &[u8], byte: BytePlace, bit: BitPlace, t: &mut [u64], k: usize) -> Ru
     requires { ⌜ Fits (now s) (bit .0) k × (bit .0 ≡ 8 * byte .0) ⌝ }
     ensures { λ r. ⌜ left (now (t .exit)) r ≡ after (now (t .entry)) k (showText (readText high (now (s .entry)) (bit .0) (length (now (s .entry))))) ⌝ }
 {
-    let mut i = byte.0;
-    let mut next = bit.0;
+    let from = byte.0;
+    let len = s.len();
+    let first = k + 1;
+    let m = room_for(t.len(), first, len - from);
     let mut n = 0;
-    while i < s.len() {
-        let b = bits::byte_at(s, i);
-        i += 1;
-        next += 8;
+    while from + n < len {
+        let b = bits::byte_at(s, from + n);
         if b == 0 {
             put(t, k, n as u64);
-            return Run::Done(BitPlace(next), k + 1 + n);
+            return Run::Done(BitPlace(bit.0 + 8 * n + 8), first + n);
         }
-        put(t, k + 1 + n, b);
+        if n < m {
+            let j = first + n;
+            t[j] = b;
+        }
         n += 1;
     }
     put(t, k, n as u64);
-    Run::Stop(13, k + 1 + n)
+    Run::Stop(13, first + n)
 }
 
 // A String: its length and then its bytes.
