@@ -5,3 +5,4 @@ pub mod TextLaws
 pub mod ShiftLaws
 pub mod AlikeLaws
 pub mod EndLaws
+pub mod OneLaws

@@ -3,3 +3,4 @@ pub mod ValueLaws
 pub mod StoodLaws
 pub mod TagLaws
 pub mod ListLaws
+pub mod OneLaws
