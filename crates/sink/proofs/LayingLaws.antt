@@ -5,7 +5,7 @@ use mathlib.Core.Bool.{Bool, true, false}
 use Prim.Native.Nat.{ℕ, zero, suc, _+_, _-_, _*_, _/_, _%_, _^_, _≤_, _<_}
 use native.Mathlib.Nat.{add-zero, zero-add, suc-add, mul-assoc, mul-comm, zero-mul, pow-zero, pow-suc, mod-lt, add-mul, div-lt-iff-lt-mul}
 use native.Mathlib.Omega.{arith}
-use lib.ListN.{length, set, drop, length-drop, take-append-drop}
+use lib.ListN.{length, set, drop, length-drop, take-append-drop, drop-of-length-le}
 use lib.Seq.{sets}
 use lib.Arith.{digits-lt}
 use lib.Pow.{pow-pos, pow-lt, pow-add, high as hi, low as lo, split, shr-lt}
@@ -201,13 +201,9 @@ lay-byte o i v h e d =
     rw (e, d)
     (lay-full o 7 (8 * i) 0 v (omega arith) h ∙ mk-eq (ap₂ (set o) (omega arith) (rw (zero-mul, zero-add))) refl refl)
 
-empty : (bs : List Bool) → length bs ≡ 0 → bs ≡ []
-empty [] h = refl
-empty (b ∷ bs) h = absurd (omega arith)
-
 pub lay-pack : (o : List ℕ) (i k : ℕ) (bs : List Bool) → length bs ≡ 8 * k → lay (mk o (8 * i) 0) bs ≡ mk (sets o i (pack high k bs)) (8 * (i + k)) 0
 unfolding pack
-lay-pack o i zero bs h = rw (empty bs h, lay-none, add-zero)
+lay-pack o i zero bs h = let e : bs ≡ [] = drop-of-length-le bs {i = 0} (omega arith) in rw (e, lay-none, add-zero)
 lay-pack o i (suc k) bs h =
     let v : ℕ = val high 8 bs in
     let s : bs ≡ dig high 8 v ++ drop 8 bs = sym (take-append-drop 8 bs) ∙ ap (λ (x : List Bool). x ++ drop 8 bs) (sym (dig-val high 8 bs (omega arith))) in

@@ -6,7 +6,7 @@ use mathlib.Core.Bool.{Bool, true, false}
 use native.Mathlib.Numerals.{add-one}
 use native.Mathlib.Omega.{arith}
 use lib.ListN.{length, getD, set, take, drop, length-append, length-drop}
-use lib.Seq.{drop-cons, length-take-le}
+use lib.Seq.{drop-cons, length-take-le, drop-length}
 use lib.Dec.{leb}
 use borrow.Author.Tests.{lt-ltb, le-ltb, le-leb, lt-leb, eq-eqb, ne-eqb, leb-true}
 use Rattle.format.specs.Tests.{pick}
@@ -50,15 +50,8 @@ module _ (o : List ℕ) (start p : ℕ) (e : p ≡ 8 * start) (vs : List ℕ) (i
       → sunk (mk u (p + 8 * length vs + 8) 0) ≡ laid (mk o (p + 8 * i) 0) (spellTxt high (drop i vs))
   unfolding spellTxt
   text-over {u} n d =
-      rw (← n, none-left vs (length vs) (omega arith))
+      rw (← n, drop-length)
       (ap sunk (sym (lay-byte o (start + length vs) 0 (omega arith) (omega arith) d)))
-    where
-      none-left : (xs : List ℕ) (j : ℕ) → length xs ≤ j → drop j xs ≡ []
-      none-left xs j h = go (drop j xs) (rw length-drop (omega arith))
-        where
-          go : (x : List ℕ) → length x ≡ 0 → x ≡ []
-          go [] q = refl
-          go (y ∷ x) q = absurd (omega arith)
 
 -- ---- the whole
 length-text : (xs : List ℕ) (bs : List Bool) → spellTxt high xs ≡ spelt bs → length bs ≡ 8 * suc (length xs)

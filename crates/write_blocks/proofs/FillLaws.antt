@@ -5,7 +5,7 @@ use mathlib.Core.Path.{_≡_, refl, sym, ap, ap₂, _∙_, subst}
 use mathlib.Core.Bool.{Bool}
 use native.Mathlib.Numerals.{add-one}
 use native.Mathlib.Omega.{arith}
-use lib.ListN.{length, getD, drop, length-drop}
+use lib.ListN.{length, getD, drop, drop-of-length-le}
 use lib.Seq.{drop-cons, slice-empty}
 use borrow.Author.Tests.{eq-eqb}
 use Rattle.format.specs.Bits.{high}
@@ -48,10 +48,6 @@ both-gone : (b : Bits) → bothOf b gone ≡ neither
 both-gone (spelt bs) = refl
 both-gone none = refl
 
-empty : {A : Type 0} (l : List A) → length l ≡ 0 → l ≡ []
-empty [] e = refl
-empty (x ∷ l) e = absurd (omega arith)
-
 module _ (t : List ℕ) where
   -- the flag numbers of the attributes rs, the first of which stands at index k
   abbrev φs : List Attribute → ℕ → List ℕ
@@ -65,7 +61,7 @@ module _ (t : List ℕ) where
     -- no number is left
     none-left : length t ≤ k → toCome f st k (a ∷ rs) ≡ neither
     unfolding flagsIn flagBits
-    none-left h = rw (empty (drop k t) (rw length-drop (omega arith)))
+    none-left h = rw (drop-of-length-le t h)
 
     module _ (lk : k < length t) where
       -- the flag numbers after it

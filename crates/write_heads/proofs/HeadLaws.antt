@@ -8,14 +8,14 @@ use native.Mathlib.Nat.{add-zero}
 use native.Mathlib.Omega.{arith}
 use lib.Dec.{ltb}
 use borrow.Author.Tests.{lt-ltb, le-ltb, ltb-true, ltb-false}
-use lib.ListN.{length, set, getD, take, drop, length-take, length-drop}
+use lib.ListN.{length, set, getD, take, drop, length-take, length-drop, drop-of-length-le}
 use lib.Seq.{sets, getD-take, getD-drop, drop-cons}
 use Rattle.format.specs.WritingFiles.{spell16, spell32, spellHead}
 use Rattle.table.proofs.EngineLaws.{sets-append}
 use Rattle.table.proofs.TextLaws.{set-sets}
 use Rattle.bits.proofs.StoreLaws.{sets-out}
 use Rattle.write_heads.specs.Heads.{Closed}
-use Rattle.write_heads.proofs.StoreLaws.{at-low, none-left, sets-same, drop-sets, sets-comm}
+use Rattle.write_heads.proofs.StoreLaws.{at-low, sets-same, drop-sets, sets-comm}
 
 pub two-stored : (l : List ℕ) (a x y : ℕ) {u w : List ℕ} → u ≡ set l a x → w ≡ set u (a + 1) y → w ≡ sets l a (x ∷ y ∷ [])
 two-stored l a x y e d = d ∙ rw (e, add-one a)
@@ -37,7 +37,7 @@ module _ (l : List ℕ) (a n d : ℕ) where
     where
       go : (c : Bool) → ltb i n ≡ c → l ≡ movedFrom l a n d i
       go true q = sym (sets-out l (a + d + i) (drop i (take n (drop a l))) (omega (arith, ltb-true i n q)))
-      go false q = rw (none-left (take n (drop a l)) i (rw length-take (omega (arith, ltb-false i n q))))
+      go false q = rw (drop-of-length-le (take n (drop a l)) {i = i} (rw length-take (omega (arith, ltb-false i n q))))
 
   pub move-next : (i : ℕ) (u : List ℕ) → 0 < i → i ≤ min n (length l - (a + d)) → u ≡ movedFrom l a n d i
       → set u (a + (i - 1) + d) (getD u (a + (i - 1)) 0) ≡ movedFrom l a n d (i - 1)

@@ -7,7 +7,7 @@ use native.Mathlib.Nat.{add-zero}
 use native.Mathlib.Omega.{arith}
 use lib.Dec.{ltb}
 use borrow.Author.Tests.{ltb-true, ltb-false}
-use lib.ListN.{length, set, getD, take, drop, length-set, length-drop}
+use lib.ListN.{length, set, getD, take, drop, length-set, drop-of-length-le}
 use lib.Seq.{sets, length-sets, getD-set-same, getD-set-other, set-getD, drop-set-lt, drop-cons, ext-getD}
 use Rattle.table.proofs.TextLaws.{set-sets}
 use Rattle.bits.proofs.StoreLaws.{sets-out}
@@ -28,14 +28,7 @@ at-in l i (x ∷ xs) j zero e h g =
     rw q (at-low (set l j x) (suc j) xs j (omega arith) ∙ getD-set-same l j x 0 g)
 at-in l i (x ∷ xs) j (suc m) e h g = at-in (set l i x) (suc i) xs j m (omega arith) (omega arith) (rw (length-set l i x) g)
 
--- ---- nothing is left past the end, and nothing changes where the same is stored
-pub none-left : (l : List ℕ) (i : ℕ) → length l ≤ i → drop i l ≡ []
-none-left l i h = go (drop i l) (rw length-drop (omega arith))
-  where
-    go : (x : List ℕ) → length x ≡ 0 → x ≡ []
-    go [] e = refl
-    go (y ∷ x) e = absurd (omega arith)
-
+-- ---- nothing changes where the same is stored
 pub sets-same : (n : ℕ) (l : List ℕ) (i : ℕ) → sets l i (take n (drop i l)) ≡ l
 sets-same zero l i = refl
 sets-same (suc n) l i = go (ltb i (length l)) refl (sets-same n l (suc i))
@@ -45,7 +38,7 @@ sets-same (suc n) l i = go (ltb i (length l)) refl (sets-same n l (suc i))
         ap (λ (x : List ℕ). sets l i (take (suc n) x)) (drop-cons l i 0 (ltb-true i (length l) e))
         ∙ ap (λ (x : List ℕ). sets x (suc i) (take n (drop (suc i) l))) (set-getD l i 0)
         ∙ more
-    go false e more = rw (none-left l i (ltb-false i (length l) e))
+    go false e more = rw (drop-of-length-le l (ltb-false i (length l) e))
 
 -- ---- two runs
 pub drop-sets : (l : List ℕ) (i : ℕ) (xs : List ℕ) (j : ℕ) → i + length xs ≤ j → drop j (sets l i xs) ≡ drop j l
@@ -94,4 +87,4 @@ sets-taken (x ∷ xs) l i u j (suc n) e d h =
         rw (drop-cons whole i 0 (rw length-sets k), at-in l i (x ∷ xs) i 0 (add-zero i) (omega arith) k) more
     go false q more =
         let k : length l ≤ i = ltb-false i (length l) q in
-        rw (none-left whole i (rw length-sets k)) (sym (sets-out u j (x ∷ xs) (omega arith)))
+        rw (drop-of-length-le whole {i = i} (rw length-sets k)) (sym (sets-out u j (x ∷ xs) (omega arith)))

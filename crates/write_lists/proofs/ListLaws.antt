@@ -6,7 +6,7 @@ use mathlib.Core.Path.{_≡_, refl, ap, sym, _∙_}
 use native.Mathlib.Omega.{arith}
 use lib.Dec.{leb, eqb}
 use borrow.Author.Tests.{leb-true, le-ltb, eq-eqb, ne-eqb}
-use lib.ListN.{length, getD, take, drop, length-drop}
+use lib.ListN.{length, getD, take, drop, drop-of-length-le}
 use lib.Seq.{drop-cons, length-take-le}
 use Rattle.format.specs.Tests.{pick}
 use Rattle.format.specs.Bits.{high}
@@ -159,11 +159,7 @@ module _ (level : ℕ) where
   -- the numbers are used up, and End did not come
   pub rest-none : (t o : List ℕ) (left a k : ℕ) → length t ≤ k → fell ≡ rest t left o a k
   unfolding over
-  rest-none t o left a k h = sym (ap (λ (ns : List ℕ). over o a k (list left ns)) (none (drop k t) (rw length-drop (omega arith))) ∙ ap (over o a k) (unlist-nil high (classOf level) left))
-    where
-      none : (ns : List ℕ) → length ns ≡ 0 → ns ≡ []
-      none [] e = refl
-      none (x ∷ ns) e = absurd (omega arith)
+  rest-none t o left a k h = sym (ap (λ (ns : List ℕ). over o a k (list left ns)) (drop-of-length-le t h) ∙ ap (over o a k) (unlist-nil high (classOf level) left))
 
   -- what stands in the tag at index k, by its code
   within : List ℕ → ℕ → ℕ → ℕ → Made

@@ -8,7 +8,7 @@ use native.Mathlib.Numerals.{add-one}
 use native.Mathlib.Omega.{arith}
 use lib.Dec.{ltb}
 use borrow.Author.Tests.{le-leb, lt-leb, lt-ltb, le-ltb, eq-eqb, ne-eqb, ltb-true, ltb-false}
-use lib.ListN.{length, getD, set, take, drop, length-take, length-drop, take-append-drop}
+use lib.ListN.{length, getD, set, take, drop, length-take, length-drop, take-append-drop, drop-of-length-le}
 use lib.Seq.{sets, sets-eq, length-sets, drop-cons, drop-drop, take-all, length-take-le}
 use Rattle.format.specs.Tests.{pick}
 use Rattle.format.specs.WritingBodies.{bytes, impossible}
@@ -18,7 +18,6 @@ use Rattle.classes.specs.declared.Class.the-variants.{End}
 use Rattle.sink.specs.Lain.{longest, Lain, lain, unlain, lies}
 use Rattle.table.proofs.EngineLaws.{sets-append}
 use Rattle.bits.proofs.StoreLaws.{sets-out}
-use Rattle.write_heads.proofs.StoreLaws.{none-left}
 use Rattle.write_lists.specs.Tags.{asBytes, LaidAs, valuesIn}
 
 -- ---- bytes, one by one: the whole from the start is what is left from here
@@ -34,12 +33,12 @@ module _ (vs : List ℕ) (i : ℕ) (l : i < length vs) where
 
 -- at the end of a loop nothing is left
 pub bytes-all : (vs : List ℕ) (i : ℕ) → length vs ≤ i → allBytes vs ≡ allBytes (drop i vs) → allBytes vs ≡ true
-bytes-all vs i z e = e ∙ ap allBytes (none-left vs i z)
+bytes-all vs i z e = e ∙ ap allBytes (drop-of-length-le vs z)
 
 pub sets-all : (o vs : List ℕ) (i : ℕ) {u : List ℕ} → length vs ≡ length o → length vs ≤ i → sets o 0 vs ≡ sets u i (drop i vs) → u ≡ vs
 sets-all o vs i {u} h z d =
-    let s : u ≡ sets o 0 vs = sym (d ∙ ap (sets u i) (none-left vs i z)) in
-    s ∙ sets-eq vs o 0 (omega arith) ∙ ap (λ (x : List ℕ). vs ++ x) (none-left o (0 + length vs) (omega arith)) ∙ append-nil vs
+    let s : u ≡ sets o 0 vs = sym (d ∙ ap (sets u i) (drop-of-length-le vs z)) in
+    s ∙ sets-eq vs o 0 (omega arith) ∙ ap (λ (x : List ℕ). vs ++ x) (drop-of-length-le o {i = 0 + length vs} (omega arith)) ∙ append-nil vs
 
 -- ---- bytes for which there is room, and the others
 bytes-split : (m : ℕ) (vs : List ℕ) → allBytes vs ≡ pick (allBytes (take m vs)) (allBytes (drop m vs)) false

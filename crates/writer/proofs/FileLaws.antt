@@ -7,7 +7,7 @@ use native.Mathlib.Nat.{zero-add}
 use native.Mathlib.Omega.{arith}
 use lib.Dec.{leb}
 use borrow.Author.Tests.{le-leb, lt-ltb, le-ltb}
-use lib.ListN.{length, set, getD, drop, length-append, length-drop}
+use lib.ListN.{length, set, getD, drop, length-append, length-drop, drop-of-length-le}
 use lib.Seq.{sets, sets-eq, drop-cons}
 use Rattle.format.specs.Tests.{pick}
 use Rattle.format.specs.Bits.{high}
@@ -32,8 +32,7 @@ start-stored l n comp e d f = f ∙ rw (d, e)
 
 -- the empty output of the run that measures
 pub nothing-lent : (l : List ℕ) → length l ≡ 0 → l ≡ []
-nothing-lent [] h = refl
-nothing-lent (x ∷ l) h = absurd (omega arith)
+nothing-lent l h = drop-of-length-le l {i = 0} (omega arith)
 
 -- the tags that follow the compression byte
 abbrev pub tags : ℕ → List ℕ → Made
