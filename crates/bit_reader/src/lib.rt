@@ -3,7 +3,7 @@ ghost use mathlib.Core.Path.{_≡_};
 ghost use mathlib.Core.Bool.{true, false};
 ghost use Prim.Native.Nat.{_<_, _≤_};
 ghost use lib.ListN.{length};
-ghost use Rattle.bits.specs.Places.{Inside, seen};
+ghost use Rattle.bits.specs.Places.{PlaceIn, numOf};
 ghost use Rattle.bit_reader.specs.Readers.{atStart, taken};
 ghost use Rattle.bit_reader.specs.Fields.{inBytes, fieldOf, stepAt};
 ghost use Rattle.bit_reader.specs.Near.{readField, nearEnd};
@@ -38,8 +38,8 @@ pub struct Taken<'a> {
 
 // UB, or SB where the field is signed, of bytes whose places can all be counted.
 fn read_field(bytes: &[u8], at: BitPlace, width: u64, signed: bool) -> Got
-    requires { ⌜ Inside (now bytes) (at .0) × (1 ≤ width) × (width ≤ 32) ⌝ }
-    ensures { λ r. ⌜ seen r ≡ readField signed (now (bytes .entry)) (at .0) width ⌝ }
+    requires { ⌜ PlaceIn (now bytes) (at .0) × (1 ≤ width) × (width ≤ 32) ⌝ }
+    ensures { λ r. ⌜ numOf r ≡ readField signed (now (bytes .entry)) (at .0) width ⌝ }
 {
     if signed {
         return read_sb(bytes, at, width);
@@ -61,7 +61,7 @@ fn near_end(i: usize, len: usize) -> usize
 // Looks only at the bytes near the place, so that bytes of any length are taken.
 fn read_near(bytes: &[u8], place: BitPlace, width: u64, signed: bool) -> Got
     requires { ⌜ (1 ≤ width) × (width ≤ 32) ⌝ }
-    ensures { λ r. ⌜ seen r ≡ inBytes signed (now (bytes .entry)) (place .0) width ⌝ }
+    ensures { λ r. ⌜ numOf r ≡ inBytes signed (now (bytes .entry)) (place .0) width ⌝ }
 {
     let p = place.0;
     let n = width as usize;
@@ -82,7 +82,7 @@ fn read_near(bytes: &[u8], place: BitPlace, width: u64, signed: bool) -> Got
 
 // A width outside 1 to 32 gives 17, then a field past the end 13.
 fn field_of(bytes: &[u8], place: BitPlace, width: u32, signed: bool) -> Got
-    ensures { λ r. ⌜ seen r ≡ fieldOf signed (now (bytes .entry)) (place .0) width ⌝ }
+    ensures { λ r. ⌜ numOf r ≡ fieldOf signed (now (bytes .entry)) (place .0) width ⌝ }
 {
     if width < 1 {
         return Got::Fault(17);

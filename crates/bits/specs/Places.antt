@@ -12,14 +12,14 @@ use Rattle.bits.specs.declared.Got.{Got}
 use Rattle.bits.specs.declared.Got.the-variants.{Value, Fault}
 
 -- the bit place p is in the bytes b or at their end, and sums of places fit
-abbrev pub Inside : List ℕ → ℕ → Type 0
-Inside b p = (p ≤ 8 * length b) × (length b < 2 ^ 60)
+abbrev pub PlaceIn : List ℕ → ℕ → Type 0
+PlaceIn b p = (p ≤ 8 * length b) × (length b < 2 ^ 60)
 
 -- the whole byte at or after the bit place p, in both counts, if the skipped bits are zero
 unfoldable pub alignedAt : List ℕ → ℕ → Aligned
 alignedAt b p = pick (eqb (ub high b p (skipped p)) 0) (Clean (record { 0 = (p + skipped p) / 8 }) (record { 0 = p + skipped p })) Unclean
 
 -- an answer of the code as the definitions have it
-abbrev pub seen : Got → Num
-seen (Value v q) = num v (q .0)
-seen (Fault e) = bad e
+abbrev pub numOf : Got → Num
+numOf (Value v q) = num v (q .0)
+numOf (Fault e) = bad e

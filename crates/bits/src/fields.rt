@@ -2,9 +2,9 @@
 ghost use mathlib.Core.Path.{_≡_};
 ghost use Prim.Native.Nat.{_+_, _*_, _/_, _%_, _^_, _<_, _≤_, min};
 ghost use lib.ListN.{length};
-ghost use Rattle.format.specs.Bits.{high, ub as «fieldAt»};
+ghost use Rattle.format.specs.Bits.{high, ub as fieldAt};
 ghost use Rattle.format.specs.Items.{readUB, readSB, readWidth, signExtend};
-ghost use Rattle.bits.specs.Places.{Inside, seen};
+ghost use Rattle.bits.specs.Places.{PlaceIn, numOf};
 use crate::BitPlace;
 use crate::Got;
 use crate::wide;
@@ -20,7 +20,7 @@ pub(crate) fn cut(x: u64, b: u64, n: u64) -> u64
 // The bytes of a slice of fewer than eight as one number.
 fn few(s: &[u8]) -> u64
     requires { ⌜ length (now s) < 8 ⌝ }
-    ensures { λ r. ⌜ r ≡ «fieldAt» high (now (s .entry)) 0 (8 * length (now (s .entry))) ⌝ }
+    ensures { λ r. ⌜ r ≡ fieldAt high (now (s .entry)) 0 (8 * length (now (s .entry))) ⌝ }
 {
     let n = s.len();
     let mut i = 0;
@@ -35,7 +35,7 @@ fn few(s: &[u8]) -> u64
 // Eight bytes as one number, by one load.
 fn eight(s: &[u8], i: usize) -> u64
     requires { ⌜ i + 8 ≤ length (now s) ⌝ }
-    ensures { λ r. ⌜ r ≡ «fieldAt» high (now (s .entry)) (8 * i) 64 ⌝ }
+    ensures { λ r. ⌜ r ≡ fieldAt high (now (s .entry)) (8 * i) 64 ⌝ }
 {
     let b0 = wide(s[i]);
     let b1 = wide(s[i + 1]);
@@ -58,7 +58,7 @@ fn lesser(a: usize, b: usize) -> usize
 // A field that stands in the bytes: it is cut out of the eight bytes from its first one on, or of the last eight, or of all if there are fewer.
 pub fn field(s: &[u8], at: BitPlace, n: u64) -> u64
     requires { ⌜ (at .0 + n ≤ 8 * length (now s)) × (length (now s) < 2 ^ 60) × (1 ≤ n) × (n ≤ 32) ⌝ }
-    ensures { λ r. ⌜ (r ≡ «fieldAt» high (now (s .entry)) (at .0) n) × (r < 2 ^ n) ⌝ }
+    ensures { λ r. ⌜ (r ≡ fieldAt high (now (s .entry)) (at .0) n) × (r < 2 ^ n) ⌝ }
 {
     let p = at.0;
     let len = s.len();
@@ -72,8 +72,8 @@ pub fn field(s: &[u8], at: BitPlace, n: u64) -> u64
 
 // UB[n].
 pub fn read_ub(s: &[u8], at: BitPlace, n: u64) -> Got
-    requires { ⌜ Inside (now s) (at .0) × (1 ≤ n) × (n ≤ 32) ⌝ }
-    ensures { λ r. ⌜ seen r ≡ readUB high (now (s .entry)) (at .0) n ⌝ }
+    requires { ⌜ PlaceIn (now s) (at .0) × (1 ≤ n) × (n ≤ 32) ⌝ }
+    ensures { λ r. ⌜ numOf r ≡ readUB high (now (s .entry)) (at .0) n ⌝ }
 {
     let p = at.0;
     let next = p + n as usize;
@@ -95,8 +95,8 @@ pub fn extend(v: u64, n: u64) -> u64
 
 // SB[n].
 pub fn read_sb(s: &[u8], at: BitPlace, n: u64) -> Got
-    requires { ⌜ Inside (now s) (at .0) × (1 ≤ n) × (n ≤ 32) ⌝ }
-    ensures { λ r. ⌜ seen r ≡ readSB high (now (s .entry)) (at .0) n ⌝ }
+    requires { ⌜ PlaceIn (now s) (at .0) × (1 ≤ n) × (n ≤ 32) ⌝ }
+    ensures { λ r. ⌜ numOf r ≡ readSB high (now (s .entry)) (at .0) n ⌝ }
 {
     let r = read_ub(s, at, n);
     match r {
@@ -107,8 +107,8 @@ pub fn read_sb(s: &[u8], at: BitPlace, n: u64) -> Got
 
 // A width: UB[5] plus 1.
 pub fn read_width(s: &[u8], at: BitPlace) -> Got
-    requires { ⌜ Inside (now s) (at .0) ⌝ }
-    ensures { λ r. ⌜ seen r ≡ readWidth high (now (s .entry)) (at .0) ⌝ }
+    requires { ⌜ PlaceIn (now s) (at .0) ⌝ }
+    ensures { λ r. ⌜ numOf r ≡ readWidth high (now (s .entry)) (at .0) ⌝ }
 {
     let r = read_ub(s, at, 5);
     match r {

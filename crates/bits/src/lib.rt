@@ -2,7 +2,7 @@
 ghost use mathlib.Core.Path.{_≡_};
 ghost use Prim.Native.Nat.{_<_};
 ghost use lib.ListN.{getD};
-ghost use Rattle.bits.specs.Places.{Inside, alignedAt};
+ghost use Rattle.bits.specs.Places.{PlaceIn, alignedAt};
 
 pub mod fields;
 
@@ -39,7 +39,7 @@ pub fn byte_at(s: &[u8], i: usize) -> u64
 
 // The next whole byte: skipped bits are zero.
 pub fn align(s: &[u8], at: BitPlace) -> Aligned
-    requires { ⌜ Inside (now s) (at .0) ⌝ }
+    requires { ⌜ PlaceIn (now s) (at .0) ⌝ }
     ensures { λ r. ⌜ r ≡ alignedAt (now (s .entry)) (at .0) ⌝ }
 {
     let p = at.0;

@@ -5,9 +5,9 @@ ghost use lib.ListN.{length, take};
 ghost use Rattle.format.specs.Bits.{high};
 ghost use Rattle.format.specs.Formats.{Item, item, _▸_};
 ghost use Rattle.format.specs.Items.{run};
-ghost use Rattle.format.specs.Bodies.{contentOf, content, rows as «rowsOf», readBlock};
-ghost use Rattle.table.specs.State.{after};
-ghost use Rattle.table.specs.Run.{left};
+ghost use Rattle.format.specs.Bodies.{contentOf, content, rows as rowsOf, readBlock};
+ghost use Rattle.table.specs.State.{shownOver};
+ghost use Rattle.table.specs.Run.{runLeaves};
 ghost use Rattle.table.specs.Fields.{Fits};
 ghost use Rattle.attributes.specs.Rows.{kindOf, typeOf, attributeOf, rowsFrom, AreRows};
 use attributes::Attribute;
@@ -29,7 +29,7 @@ fn read_content(
     k: usize,
 ) -> Run
     requires { ⌜ Fits (now s) (at .0) k ⌝ }
-    ensures { λ r. ⌜ left (now (t .exit)) r ≡ after (now (t .entry)) k (run high (now (s .entry)) (contentOf (kindOf kind) (typeOf what) flag) (at .0)) ⌝ }
+    ensures { λ r. ⌜ runLeaves (now (t .exit)) r ≡ shownOver (now (t .entry)) k (run high (now (s .entry)) (contentOf (kindOf kind) (typeOf what) flag) (at .0)) ⌝ }
 {
     match attributes::content_of(kind, flag) {
         Content::Nothing => Run::Done(at, k),
@@ -48,7 +48,7 @@ fn read_attribute(
     k: usize,
 ) -> Run
     requires { ⌜ Fits (now s) (at .0) (k + 1) ⌝ }
-    ensures { λ r. ⌜ left (now (t .exit)) r ≡ after (now (t .entry)) k (run high (now (s .entry)) (item (Item.echo flag) ▸ content (attributeOf attribute) flag) (at .0)) ⌝ }
+    ensures { λ r. ⌜ runLeaves (now (t .exit)) r ≡ shownOver (now (t .entry)) k (run high (now (s .entry)) (item (Item.echo flag) ▸ content (attributeOf attribute) flag) (at .0)) ⌝ }
 {
     let kind = attribute.kind;
     let what = attribute.data_type;
@@ -59,7 +59,7 @@ fn read_attribute(
 // The rows' attributes in order, with the flag numbers that were read for them.
 fn read_contents(rows: Rows, flags: &[u64], s: &[u8], at: BitPlace, t: &mut [u64], k: usize) -> Run
     requires { ⌜ AreRows (rows .start) (rows .end) × (9 ≤ length (now flags)) × Fits (now s) (at .0) (k + 9) ⌝ }
-    ensures { λ r. ⌜ left (now (t .exit)) r ≡ after (now (t .entry)) k (run high (now (s .entry)) («rowsOf» (rowsFrom (rows .start) (rows .end)) (take (rows .end - rows .start) (now (flags .entry)))) (at .0)) ⌝ }
+    ensures { λ r. ⌜ runLeaves (now (t .exit)) r ≡ shownOver (now (t .entry)) k (run high (now (s .entry)) (rowsOf (rowsFrom (rows .start) (rows .end)) (take (rows .end - rows .start) (now (flags .entry)))) (at .0)) ⌝ }
 {
     let attributes = attributes::ATTRIBUTES;
     let start = rows.start;
@@ -84,7 +84,7 @@ fn read_contents(rows: Rows, flags: &[u64], s: &[u8], at: BitPlace, t: &mut [u64
 // An attribute block.
 pub(crate) fn read_block(rows: Rows, s: &[u8], at: BitPlace, t: &mut [u64], k: usize) -> Run
     requires { ⌜ AreRows (rows .start) (rows .end) × Fits (now s) (at .0) (k + 9) ⌝ }
-    ensures { λ r. ⌜ left (now (t .exit)) r ≡ after (now (t .entry)) k (readBlock high (now (s .entry)) (rowsFrom (rows .start) (rows .end)) (at .0)) ⌝ }
+    ensures { λ r. ⌜ runLeaves (now (t .exit)) r ≡ shownOver (now (t .entry)) k (readBlock high (now (s .entry)) (rowsFrom (rows .start) (rows .end)) (at .0)) ⌝ }
 {
     let mut flags = [0u64; 9];
     let r = attributes::read_flags(rows, s, at, &mut flags);

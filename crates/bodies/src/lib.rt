@@ -4,8 +4,8 @@ ghost use Prim.Native.Nat.{_<_, _^_};
 ghost use lib.ListN.{length};
 ghost use Rattle.format.specs.Bits.{high};
 ghost use Rattle.format.specs.Bodies.{readPart, readBody};
-ghost use Rattle.table.specs.State.{after};
-ghost use Rattle.table.specs.Run.{left};
+ghost use Rattle.table.specs.State.{shownOver};
+ghost use Rattle.table.specs.Run.{runLeaves};
 ghost use Rattle.bodies.specs.Leaf.{isBlock, leafBody};
 
 mod blocks;
@@ -30,7 +30,7 @@ pub fn is_block(code: u32) -> bool
 // The items of a body, up to where they end.
 fn read_part(code: u32, s: &[u8], t: &mut [u64], k: usize) -> Run
     requires { ⌜ (length (now s) < 2 ^ 60) × (k < 2 ^ 61) ⌝ }
-    ensures { λ r. ⌜ left (now (t .exit)) r ≡ after (now (t .entry)) k (readPart high (now (s .entry)) (leafBody code) 0) ⌝ }
+    ensures { λ r. ⌜ runLeaves (now (t .exit)) r ≡ shownOver (now (t .entry)) k (readPart high (now (s .entry)) (leafBody code) 0) ⌝ }
 {
     if is_block(code) {
         return blocks::read_block(attributes::rows_of(code), s, BitPlace(0), t, k);
@@ -41,7 +41,7 @@ fn read_part(code: u32, s: &[u8], t: &mut [u64], k: usize) -> Run
 // The body of a leaf tag: its items, zero bits up to a whole byte (15), and nothing more (18).
 pub fn read_body(code: u32, s: &[u8], t: &mut [u64], k: usize) -> Run
     requires { ⌜ (length (now s) < 2 ^ 60) × (k < 2 ^ 61) ⌝ }
-    ensures { λ r. ⌜ left (now (t .exit)) r ≡ after (now (t .entry)) k (readBody high (leafBody code) (now (s .entry))) ⌝ }
+    ensures { λ r. ⌜ runLeaves (now (t .exit)) r ≡ shownOver (now (t .entry)) k (readBody high (leafBody code) (now (s .entry))) ⌝ }
 {
     let r = read_part(code, s, t, k);
     let Run::Done(next, j) = r else {

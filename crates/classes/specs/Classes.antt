@@ -9,8 +9,8 @@ use Rattle.format.specs.FileAndTags.{codes, classOf}
 use Rattle.classes.specs.Tables.{grid}
 use Rattle.classes.specs.declared.Class.{Class}
 use Rattle.classes.specs.declared.Class.the-variants.{Opaque, End, Container, Fixed, Attributes}
-use Rattle.classes.specs.declared.Reads.{Reads}
-use Rattle.classes.specs.declared.Reads.the-variants.{All, Lists}
+use Rattle.classes.specs.declared.Scope.{Scope}
+use Rattle.classes.specs.declared.Scope.the-variants.{All, Lists}
 
 -- opaque, End, container, fixed, attributes
 abbrev pub named : paper.Class → Class
@@ -45,7 +45,7 @@ contains Attributes = false
 -- ---- How much a walk reads: all of a list; or the lists alone, with every other body opaque.
 
 -- the class that a tag is taken for, by name
-abbrev pub takenAs : Reads → Class → Class
+abbrev pub takenAs : Scope → Class → Class
 takenAs All class = class
 takenAs Lists Opaque = Opaque
 takenAs Lists End = End
@@ -54,7 +54,7 @@ takenAs Lists Fixed = Opaque
 takenAs Lists Attributes = Opaque
 
 -- and of the definitions' classes
-abbrev pub skimmed : Reads → paper.Class → paper.Class
+abbrev pub skimmed : Scope → paper.Class → paper.Class
 skimmed All c = c
 skimmed Lists paper.opaque = paper.opaque
 skimmed Lists paper.end = paper.end
@@ -62,5 +62,5 @@ skimmed Lists (paper.container f) = paper.container f
 skimmed Lists (paper.known y) = paper.opaque
 
 -- the classes that a walk at a level goes by; where it reads all, they are the level's
-abbrev pub classBy : Reads → ℕ → ℕ → paper.Class
-classBy reads level code = skimmed reads (classOf level code)
+abbrev pub classBy : Scope → ℕ → ℕ → paper.Class
+classBy scope level code = skimmed scope (classOf level code)

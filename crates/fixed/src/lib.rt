@@ -6,8 +6,8 @@ ghost use Rattle.format.specs.Bits.{high};
 ghost use Rattle.format.specs.Formats.{times};
 ghost use Rattle.format.specs.Items.{run, string};
 ghost use Rattle.format.specs.Bodies.{fontTables};
-ghost use Rattle.table.specs.State.{after};
-ghost use Rattle.table.specs.Run.{left};
+ghost use Rattle.table.specs.State.{shownOver};
+ghost use Rattle.table.specs.Run.{runLeaves};
 ghost use Rattle.table.specs.Fields.{Fits};
 ghost use Rattle.fixed.specs.Fixed.{inOrder, allItems, itemsFrom, fixedOf, RowsOf};
 use bits::BitPlace;
@@ -51,7 +51,7 @@ pub struct Rows {
 // The items from row start on, up to row end.
 fn read_items(start: usize, end: usize, s: &[u8], at: BitPlace, t: &mut [u64], k: usize) -> Run
     requires { ⌜ (start ≤ end) × (end ≤ 18) × Fits (now s) (at .0) k ⌝ }
-    ensures { λ r. ⌜ left (now (t .exit)) r ≡ after (now (t .entry)) k (run high (now (s .entry)) (inOrder (itemsFrom start end)) (at .0)) ⌝ }
+    ensures { λ r. ⌜ runLeaves (now (t .exit)) r ≡ shownOver (now (t .entry)) k (run high (now (s .entry)) (inOrder (itemsFrom start end)) (at .0)) ⌝ }
 {
     let rows = ITEMS;
     let mut place = at;
@@ -73,7 +73,7 @@ fn read_items(start: usize, end: usize, s: &[u8], at: BitPlace, t: &mut [u64], k
 // n Strings.
 fn read_strings(n: usize, s: &[u8], at: BitPlace, t: &mut [u64], k: usize) -> Run
     requires { ⌜ Fits (now s) (at .0) k ⌝ }
-    ensures { λ r. ⌜ left (now (t .exit)) r ≡ after (now (t .entry)) k (run high (now (s .entry)) (times n string) (at .0)) ⌝ }
+    ensures { λ r. ⌜ runLeaves (now (t .exit)) r ≡ shownOver (now (t .entry)) k (run high (now (s .entry)) (times n string) (at .0)) ⌝ }
 {
     let mut place = at;
     let mut j = k;
@@ -93,7 +93,7 @@ fn read_strings(n: usize, s: &[u8], at: BitPlace, t: &mut [u64], k: usize) -> Ru
 // 1: a count, then two Strings each.
 fn read_fonts(s: &[u8], at: BitPlace, t: &mut [u64], k: usize) -> Run
     requires { ⌜ Fits (now s) (at .0) k ⌝ }
-    ensures { λ r. ⌜ left (now (t .exit)) r ≡ after (now (t .entry)) k (run high (now (s .entry)) fontTables (at .0)) ⌝ }
+    ensures { λ r. ⌜ runLeaves (now (t .exit)) r ≡ shownOver (now (t .entry)) k (run high (now (s .entry)) fontTables (at .0)) ⌝ }
 {
     let c = items::read_item(Item::Count(0), s, at);
     match c {
@@ -124,7 +124,7 @@ pub fn rows_of(code: u32) -> Rows
 // The items of a tag that is no attribute block; of a container those before its list.
 pub fn read_fixed(code: u32, s: &[u8], at: BitPlace, t: &mut [u64], k: usize) -> Run
     requires { ⌜ Fits (now s) (at .0) k ⌝ }
-    ensures { λ r. ⌜ left (now (t .exit)) r ≡ after (now (t .entry)) k (run high (now (s .entry)) (fixedOf code) (at .0)) ⌝ }
+    ensures { λ r. ⌜ runLeaves (now (t .exit)) r ≡ shownOver (now (t .entry)) k (run high (now (s .entry)) (fixedOf code) (at .0)) ⌝ }
 {
     if code == 1 {
         return read_fonts(s, at, t, k);

@@ -18,6 +18,7 @@ use Rattle.format.specs.WritingBodies.{leftOf, flagsIn, usedUp, writeBlo
 use Rattle.format.proofs.BitLaws.{Has}
 use Rattle.format.proofs.ItemLaws.{round-trip}
 use Rattle.format.proofs.Trip.{Trip, There, Back, ThereIf, BackIf, has-le, has-append, has-split}
+use Rattle.format.proofs.Absurd.{clash}
 
 -- ---- the place changes only the bits
 abbrev Same : Written → Written → Type 0
@@ -144,7 +145,7 @@ module _ (o : Order) (R : List ℕ → ℕ → Reading) (W : List ℕ → ℕ �
 
 -- ---- attribute blocks
 never : (A : Type 0) (e q : ℕ) → Fault e ≡ At q → A
-never A e q h = let z : _≡_ {A = ℕ} 0 1 = cc in absurd (omega arith)
+never A e q h = clash cc
 
 module _ (o : Order) where
   -- the flags that the table shows are those that were read

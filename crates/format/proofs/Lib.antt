@@ -11,7 +11,8 @@ pub mod EngineLaws
 pub mod ListLaws
 pub mod WalkLaws
 pub mod SizeLaws
--- What these rest on: bits, bytes, and the round trips of items, formats, blocks, bodies, headers and lists.
+-- What these rest on: the absurd step, bits, bytes, and the round trips of items, formats, blocks, bodies, headers and lists.
+pub mod Absurd
 pub mod BitLaws
 pub mod ByteLaws
 pub mod Trip

@@ -11,7 +11,7 @@ use Rattle.format.specs.Tests.{pick}
 use Rattle.format.specs.Bits.{Order}
 use Rattle.format.specs.Reading.{Ending, At, Fault}
 use Rattle.format.specs.Items.{run}
-use Rattle.format.specs.FileAndTags.{Class, opaque, end, container, known, isEnd, Walk, broken, Head, head, noHead, readHead, Owner, inside, blame, Inside, front, opened, within, afterTag, tagThen, oneTag, walk, walkList}
+use Rattle.format.specs.FileAndTags.{Class, opaque, end, container, known, isEnd, Walk, broken, Head, head, noHead, readHead, Owner, inside, blame, TagInside, front, opened, within, afterTag, tagThen, oneTag, walk, walkList}
 use Rattle.format.specs.WritingFormats.{unrun}
 use Rattle.format.specs.WritingBodies.{Bytes, bytes, impossible, packed, writeBody}
 use Rattle.format.specs.WritingFiles.{Made, made, unmade, spellHead, fitsHead, allBytes, bodyOf, joined, fronted, fill, outTag, headed, outOne, unwalk, unwalkList}
@@ -39,7 +39,7 @@ module _ (o : Order) (class : ℕ → Class) where
     one-alike : (left : ℕ) (c : Owner) (a : ℕ) (g : Head) → Fits class left r g → oneTag o class R left c a r g ≡ oneTag o class R′ left c a r g
     one-alike left c a (noHead e) h = refl
     one-alike left c a (head code len size) h =
-        ap₂ (λ (i : Inside) (w : Walk). tagThen (8 - left) code a size len i w)
+        ap₂ (λ (i : TagInside) (w : Walk). tagThen (8 - left) code a size len i w)
         (within-alike (pred left) (class code) a (a + size) (take len (drop size r))
         (omega (arith, h .0, h .1, length-take-le len (drop size r) (rw length-drop (omega (arith, h .1))))))
         (after-alike left (isEnd (class code)) c (a + size + len) (drop (size + len) r) (rw length-drop (omega (arith, h .0, h .1))))

@@ -14,7 +14,7 @@ use Rattle.format.specs.Reading.{Ending, At, Fault, shows, stop}
 use Rattle.format.specs.Formats.{Format}
 use Rattle.format.specs.Items.{skipped, readItem, run}
 use Rattle.format.specs.Bodies.{readBody}
-use Rattle.format.specs.FileAndTags.{Class, opaque, end, container, known, isEnd, isContainer, Tag, Outcome, whole, fault, Walk, chain, Head, head, noHead, rawHead, passes, readHead, Owner, inside, Inside, front, opened, within, atEnd, afterTag, tagThen, oneTag, walkList}
+use Rattle.format.specs.FileAndTags.{Class, opaque, end, container, known, isEnd, isContainer, Tag, Outcome, whole, fault, Walk, chain, Head, head, noHead, rawHead, passes, readHead, Owner, inside, TagInside, front, opened, within, atEnd, afterTag, tagThen, oneTag, walkList}
 use Rattle.format.specs.TableOfNumbers.{numbers}
 use Rattle.format.specs.WritingItems.{Written, wrote, cannot, writeItem}
 use Rattle.format.specs.WritingFormats.{unrun}
@@ -29,6 +29,7 @@ use Rattle.format.proofs.ItemLaws.{round-trip}
 use Rattle.format.proofs.ListLaws.{list-nil, list-one, unlist-nil, unlist-one}
 use Rattle.format.proofs.Trip.{There, Back, has-le}
 use Rattle.format.proofs.WalkLaws.{Fits, head-fits}
+use Rattle.format.proofs.Absurd.{clash}
 
 all-bytes : (b : List ℕ) → AllBytes b → allBytes b ≡ true
 all-bytes [] h = refl
@@ -56,7 +57,7 @@ cut-back n vs ys e =
     (rw (← e) (take-append-seam vs ys), rw (← e) (drop-append-seam vs ys), le-leb n (length (vs ++ ys)) (rw length-append (omega arith)))
 
 -- the numbers of what stands in a tag
-abbrev pub inNumbers : Inside → List ℕ
+abbrev pub inNumbers : TagInside → List ℕ
 inNumbers i = i .state ∷ length (i .values) ∷ (i .values ++ numbers (i .walk .tags))
 
 abbrev pub WholeIf : Outcome → Type 0 → Type 0
@@ -119,7 +120,7 @@ module _ (o : Order) (class : ℕ → Class) where
         again-fill o (unwalkList o class (pred left)) left opaque 0 body [] body (λ ys. rw (all-bytes body h, append-nil body))
     tag-there left end a s [] l h he hc = again-fill o (unwalkList o class (pred left)) left end 1 [] [] [] (λ ys. refl)
     tag-there left end a s (x ∷ body) l h he hc =
-        absurd (let t : ltb 0 (suc (length body)) ≡ true = lt-ltb 0 (suc (length body)) (omega arith) in let z : _≡_ {A = ℕ} 0 1 = cc in omega arith)
+        absurd (let t : ltb 0 (suc (length body)) ≡ true = lt-ltb 0 (suc (length body)) (omega arith) in clash cc)
     tag-there left (known y) a s body l h he hc = go (readBody o y body .ended) refl (body-there o y body h)
       where
         go : (z : Ending) → readBody o y body .ended ≡ z → ReadIf o y body (readBody o y body .shown) (readBody o y body .ended)
@@ -137,7 +138,7 @@ module _ (o : Order) (class : ℕ → Class) where
         W : List ℕ → Made
         W = unwalkList o class (pred left)
 
-        goal : Inside → Type 0
+        goal : TagInside → Type 0
         goal i = WholeIf (i .walk .ended) (Again (outTag o W left (container f)) (inNumbers i) body)
 
         inner : (p : ℕ) (xs cs : List ℕ) → 8 * (p / 8) ≡ p → There o body 0 p xs (λ ns p. unrun o (front f) ns p) → Again W cs (drop (p / 8) body)
@@ -180,7 +181,7 @@ module _ (o : Order) (class : ℕ → Class) where
         over : List ℕ
         over = drop (size + len) r
 
-        i : Inside
+        i : TagInside
         i = within o (R (pred left)) (class code) a (a + size) body
 
         body-length : length body ≡ len
@@ -192,7 +193,7 @@ module _ (o : Order) (class : ℕ → Class) where
         fits : (k : ℕ) → k ≡ len → fitsHead code k ≡ true
         fits k e = rw (lt-ltb code 1024 (u .0), lt-ltb k (2 ^ 32) (omega (arith, u .1)))
 
-        split : (w : Walk) → numbers (record { depth = 8 - left; code = code; place = a; size = size; length = len; state = i .state; values = i .values } ∷ (i .walk .tags ++ w .tags)) ≡ code ∷ (inNumbers i ++ numbers (w .tags))
+        split : (w : Walk) → numbers (record { depth = 8 - left; code = code; place = a; headerSize = size; bodyLength = len; state = i .state; values = i .values } ∷ (i .walk .tags ++ w .tags)) ≡ code ∷ (inNumbers i ++ numbers (w .tags))
         split w = ap (λ (l : List ℕ). code ∷ i .state ∷ length (i .values) ∷ l)
             (ap (λ (l : List ℕ). i .values ++ l) (numbers-append (i .walk .tags) (w .tags)) ∙ sym (append-assoc (i .values) (numbers (i .walk .tags)) (numbers (w .tags))))
 
@@ -223,8 +224,8 @@ module _ (o : Order) (class : ℕ → Class) where
             at whole k = more (inNumbers i) cs e k f
 
         content : (z : Outcome) → WholeIf z (Again (outTag o (U (pred left)) left (class code)) (inNumbers i) body)
-            → WholeIf (chain (record { depth = 8 - left; code = code; place = a; size = size; length = len; state = i .state; values = i .values } ∷ i .walk .tags) z (afterTag (isEnd (class code)) c (a + size + len) over (R left c)) .ended)
-            (Again (U left) (numbers (chain (record { depth = 8 - left; code = code; place = a; size = size; length = len; state = i .state; values = i .values } ∷ i .walk .tags) z (afterTag (isEnd (class code)) c (a + size + len) over (R left c)) .tags)) r)
+            → WholeIf (chain (record { depth = 8 - left; code = code; place = a; headerSize = size; bodyLength = len; state = i .state; values = i .values } ∷ i .walk .tags) z (afterTag (isEnd (class code)) c (a + size + len) over (R left c)) .ended)
+            (Again (U left) (numbers (chain (record { depth = 8 - left; code = code; place = a; headerSize = size; bodyLength = len; state = i .state; values = i .values } ∷ i .walk .tags) z (afterTag (isEnd (class code)) c (a + size + len) over (R left c)) .tags)) r)
         content (fault e y) f = tt
         content whole f = subst (λ (xs : List ℕ). WholeIf (afterTag (isEnd (class code)) c (a + size + len) over (R left c) .ended) (Again (U left) xs r))
             (sym (split (afterTag (isEnd (class code)) c (a + size + len) over (R left c)))) (after (isEnd (class code)) refl f)
@@ -355,11 +356,11 @@ module _ (o : Order) (class : ℕ → Class) where
       long false = omega arith
 
   -- the numbers of a tag, and of what follows it
-  spelt-then : (d code a size len : ℕ) (i : Inside) (w : Walk) (zs cs : List ℕ) → i .walk .ended ≡ whole → inNumbers i ≡ zs → Spelt cs w → Spelt (code ∷ (zs ++ cs)) (tagThen d code a size len i w)
+  spelt-then : (d code a size len : ℕ) (i : TagInside) (w : Walk) (zs cs : List ℕ) → i .walk .ended ≡ whole → inNumbers i ≡ zs → Spelt cs w → Spelt (code ∷ (zs ++ cs)) (tagThen d code a size len i w)
   spelt-then d code a size len i w zs cs e q u = subst (λ (z : Outcome). Spelt (code ∷ (zs ++ cs)) (chain (t ∷ i .walk .tags) z w)) (sym e) (u .0, split ∙ ap₂ (λ (x y : List ℕ). code ∷ (x ++ y)) q (u .1))
     where
       t : Tag
-      t = record { depth = d; code = code; place = a; size = size; length = len; state = i .state; values = i .values }
+      t = record { depth = d; code = code; place = a; headerSize = size; bodyLength = len; state = i .state; values = i .values }
 
       split : numbers (t ∷ (i .walk .tags ++ w .tags)) ≡ code ∷ (inNumbers i ++ numbers (w .tags))
       split = ap (λ (l : List ℕ). code ∷ i .state ∷ length (i .values) ∷ l)

@@ -15,6 +15,7 @@ use Rattle.format.specs.Reasons.{startFault, walkFile, gives, refuses, r
 use Rattle.format.specs.WritingBodies.{Bytes, bytes, impossible}
 use Rattle.format.specs.WritingFiles.{Made, made, unmade, spell32, unwalkList, wholeFile, writeFile}
 use Rattle.format.proofs.ListTrip.{WholeIf, Again, list-there, Spelt, ListIf, list-back}
+use Rattle.format.proofs.Absurd.{clash}
 
 split9 : (P : List ℕ → Type 0) → ((a b c d e f g h i : ℕ) (r : List ℕ) → P (a ∷ b ∷ c ∷ d ∷ e ∷ f ∷ g ∷ h ∷ i ∷ r)) → (l : List ℕ) → 9 ≤ length l → P l
 split9 P k [] h = absurd (omega arith)
@@ -138,7 +139,7 @@ module _ (o : Order) (level : ℕ) where
     where
       go : (z : Outcome) → FileIf f z (table f (walkFile o level f)) → result (table f (walkFile o level f)) z ≡ gives t → writeFile o level t ≡ bytes f
       go whole u e = let q : table f (walkFile o level f) ≡ t = cc in rw q at u
-      go (fault x y) u e = absurd (let z : _≡_ {A = ℕ} 0 1 = cc in omega arith)
+      go (fault x y) u e = clash cc
 
   -- ---- what is written is read again
   abbrev TableIf : List ℕ → Bytes → Type 0
@@ -188,7 +189,7 @@ module _ (o : Order) (level : ℕ) where
   pub no-file : (t : List ℕ) → writeFile o level t ≡ impossible → (f : List ℕ) → AllBytes f → readFile o level f ≡ gives t → ⊥
   no-file t h f b e =
       let g : writeFile o level t ≡ bytes f = there f t b e in
-      let z : _≡_ {A = ℕ} 0 1 = cc in omega arith
+      clash cc
 
   -- no two files have one table
   pub one-file : (t f g : List ℕ) → AllBytes f → AllBytes g → readFile o level f ≡ gives t → readFile o level g ≡ gives t → f ≡ g
@@ -204,4 +205,4 @@ module _ (o : Order) (level : ℕ) where
     where
       go : (c : Bool) → ltb 1023 level ≡ c → readFile o level f ≡ gives t → level ≤ 1023
       go false e h = omega (arith, ltb-false 1023 level e)
-      go true e h = absurd (let r : refuses 1 0 ≡ gives t = rw e at h in let z : _≡_ {A = ℕ} 0 1 = cc in omega arith)
+      go true e h = absurd (let r : refuses 1 0 ≡ gives t = rw e at h in clash cc)

@@ -14,7 +14,7 @@ use Rattle.format.specs.Reading.{Ending, At, Fault}
 use Rattle.format.specs.Formats.{Format}
 use Rattle.format.specs.Items.{run}
 use Rattle.format.specs.Bodies.{readBody}
-use Rattle.format.specs.FileAndTags.{Class, opaque, end, container, known, isEnd, isContainer, Tag, Outcome, whole, fault, Walk, broken, chain, Head, head, noHead, le16, le32, rawHead, passes, readHead, Owner, file, inside, blame, Inside, endAt, noTags, front, opened, within, afterTag, tagThen, oneTag, walk}
+use Rattle.format.specs.FileAndTags.{Class, opaque, end, container, known, isEnd, isContainer, Tag, Outcome, whole, fault, Walk, broken, chain, Head, head, noHead, le16, le32, rawHead, passes, readHead, Owner, file, inside, blame, TagInside, endAt, noTags, front, opened, within, afterTag, tagThen, oneTag, walk}
 use Rattle.format.specs.Levels.{endOf}
 use Rattle.format.specs.WritingFormats.{unrun}
 use Rattle.format.proofs.ItemLaws.{round-trip}
@@ -112,12 +112,12 @@ placed-blame file a b e h l = record { tags = tt; faults = tt }
 placed-blame (inside x) a b e h l = record { tags = tt; faults = (omega arith, omega arith) }
 
 -- a tag, with what stands in it, and what follows
-placed-then : (c : Owner) (b d code a size len : ℕ) (i : Inside) (w : Walk) → Before c a → 1 ≤ size → a + size + len ≤ b
+placed-then : (c : Owner) (b d code a size len : ℕ) (i : TagInside) (w : Walk) → Before c a → 1 ≤ size → a + size + len ≤ b
     → Placed (inside a) (a + size) (a + size + len) (i .walk) → Placed c (a + size + len) b w → Placed c a b (tagThen d code a size len i w)
 placed-then c b d code a size len i w h l m u v = go (i .walk .ended) (u .faults)
   where
     t : Tag
-    t = record { depth = d; code = code; place = a; size = size; length = len; state = i .state; values = i .values }
+    t = record { depth = d; code = code; place = a; headerSize = size; bodyLength = len; state = i .state; values = i .values }
 
     inner : Between a b (t ∷ i .walk .tags)
     inner = (omega arith, omega arith, m, between-wider (a + size) (a + size + len) a b (i .walk .tags) (omega arith) m (u .tags))

@@ -116,13 +116,13 @@ readHead class left r = passes class left r (rawHead r)
 
 -- ---- What a walk gives.
 
--- size: of the header. length: of the body. state: 1 read, 0 opaque
+-- state: 1 read, 0 opaque
 pub record Tag : Type 0 where
   pub depth : ℕ
   pub code : ℕ
   pub place : ℕ
-  pub size : ℕ
-  pub length : ℕ
+  pub headerSize : ℕ
+  pub bodyLength : ℕ
   pub state : ℕ
   pub values : List ℕ
 
@@ -173,7 +173,7 @@ afterTag false c a r next = next a r
 -- ---- Lists nest, and any tag may stand in any list.
 
 -- what stands in a tag: its state, its values, and the walk of the list inside it
-pub record Inside : Type 0 where
+pub record TagInside : Type 0 where
   pub state : ℕ
   pub values : List ℕ
   pub walk : Walk
@@ -188,21 +188,21 @@ abbrev pub front : Format → Format
 front f = f ▸ aligned
 
 -- the container at place a, whose own numbers are xs; its list, read by R, has the rest of the body, which stands at s
-abbrev pub opened : (Owner → ℕ → List ℕ → Walk) → ℕ → ℕ → List ℕ → List ℕ → Ending → Inside
+abbrev pub opened : (Owner → ℕ → List ℕ → Walk) → ℕ → ℕ → List ℕ → List ℕ → Ending → TagInside
 opened R a s body xs (At p) = record { state = 1; values = xs; walk = R (inside a) (s + p / 8) (drop (p / 8) body) }
 opened R a s body xs (Fault e) = record { state = 1; values = xs; walk = broken e a }
 
 -- by class: the tag at place a, with its body at s
-abbrev pub within : Order → (Owner → ℕ → List ℕ → Walk) → Class → ℕ → ℕ → List ℕ → Inside
+abbrev pub within : Order → (Owner → ℕ → List ℕ → Walk) → Class → ℕ → ℕ → List ℕ → TagInside
 within o R opaque a s body = record { state = 0; values = body; walk = noTags whole }
 within o R end a s body = record { state = 1; values = []; walk = noTags whole }
 within o R (known y) a s body = record { state = 1; values = readBody o y body .shown; walk = noTags (endAt a (readBody o y body .ended)) }
 within o R (container f) a s body = opened R a s body (run o body (front f) 0 .shown) (run o body (front f) 0 .ended)
 
 -- the tag with this header and what stands in it, and the walk w of what follows it
-abbrev pub tagThen : ℕ → ℕ → ℕ → ℕ → ℕ → Inside → Walk → Walk
+abbrev pub tagThen : ℕ → ℕ → ℕ → ℕ → ℕ → TagInside → Walk → Walk
 tagThen d code a size len i w =
-    chain (record { depth = d; code = code; place = a; size = size; length = len; state = i .state; values = i .values } ∷ i .walk .tags) (i .walk .ended) w
+    chain (record { depth = d; code = code; place = a; headerSize = size; bodyLength = len; state = i .state; values = i .values } ∷ i .walk .tags) (i .walk .ended) w
 
 -- one tag, by its header, and the rest of its list; lists are read by R
 abbrev pub oneTag : Order → (ℕ → Class) → (ℕ → Owner → ℕ → List ℕ → Walk) → ℕ → Owner → ℕ → List ℕ → Head → Walk

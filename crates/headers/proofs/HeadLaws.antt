@@ -18,7 +18,7 @@ use Rattle.classes.specs.declared.Class.the-variants.{End, Container}
 use Rattle.classes.proofs.ClassLaws.{ends-named, contains-named}
 use Rattle.headers.specs.declared.Head.{Head}
 use Rattle.headers.specs.declared.Head.the-variants.{Tag, Fault}
-use Rattle.headers.specs.Heads.{seenHead, passesBy, headBy}
+use Rattle.headers.specs.Heads.{headOf, passesBy, headBy}
 
 -- ---- Numbers.
 
@@ -92,11 +92,11 @@ head-stands r = go (ltb (length r) 2) refl (eqb (le16 r % 64) 63) refl (ltb (len
 
 -- ---- No second answer fits.
 
-pub seen-one : (a b : Head) → seenHead a ≡ seenHead b → a ≡ b
-seen-one (Tag c l z) (Tag c′ l′ z′) e = cc
-seen-one (Tag c l z) (Fault r) e = cc
-seen-one (Fault r) (Tag c l z) e = cc
-seen-one (Fault r) (Fault r′) e = cc
+pub head-one : (a b : Head) → headOf a ≡ headOf b → a ≡ b
+head-one (Tag c l z) (Tag c′ l′ z′) e = cc
+head-one (Tag c l z) (Fault r) e = cc
+head-one (Fault r) (Tag c l z) e = cc
+head-one (Fault r) (Fault r′) e = cc
 
 -- ---- whether a header passes, by the name of its class
 
@@ -104,15 +104,15 @@ seen-one (Fault r) (Fault r′) e = cc
 pub rest-is : (s : List ℕ) (i size : ℕ) → length (drop size (drop i s)) ≡ length s - i - size
 rest-is s i size = rw (length-drop, length-drop)
 
-pub size-fits : (s : List ℕ) (i : ℕ) {h : Head} {code len size : ℕ} → seenHead h ≡ rawHead (drop i s) → h ≡ Tag code len size → size ≤ length s - i
+pub size-fits : (s : List ℕ) (i : ℕ) {h : Head} {code len size : ℕ} → headOf h ≡ rawHead (drop i s) → h ≡ Tag code len size → size ≤ length s - i
 size-fits s i {size = size} at is =
-    let u : (2 ≤ size) × (size ≤ 6) × (size ≤ length (drop i s)) = subst (StandsIf (drop i s)) (sym at ∙ ap seenHead is) (head-stands (drop i s)) in
+    let u : (2 ≤ size) × (size ≤ 6) × (size ≤ length (drop i s)) = subst (StandsIf (drop i s)) (sym at ∙ ap headOf is) (head-stands (drop i s)) in
     omega (arith, u .2, length-drop i s)
 
 -- the header that stands at r is code, len and size; rest bytes follow it
-module _ (left : ℕ) (r : List ℕ) {h : Head} {code len size rest : ℕ} (class : Class) (at : seenHead h ≡ rawHead r) (is : h ≡ Tag code len size) (follow : length (drop size r) ≡ rest) where
+module _ (left : ℕ) (r : List ℕ) {h : Head} {code len size rest : ℕ} (class : Class) (at : headOf h ≡ rawHead r) (is : h ≡ Tag code len size) (follow : length (drop size r) ≡ rest) where
   stands : rawHead r ≡ head code len size
-  stands = sym at ∙ ap seenHead is
+  stands = sym at ∙ ap headOf is
 
   pub head-over : rest < len → noHead 9 ≡ headBy class left r
   head-over h = rw (stands, follow, lt-ltb rest len h)
@@ -134,8 +134,8 @@ module _ (left : ℕ) (r : List ℕ) {h : Head} {code len size rest : ℕ} (clas
     pub head-other : ends class ≡ false → contains class ≡ false → head code len size ≡ headBy class left r
     head-other e f = rw (stands, follow, le-ltb rest len fits, e, f)
 
-pub head-none : (left : ℕ) (r : List ℕ) {h : Head} {e : ℕ} (class : Class) → seenHead h ≡ rawHead r → h ≡ Fault e → seenHead h ≡ headBy class left r
-head-none left r class at is = ap seenHead is ∙ rw (sym at ∙ ap seenHead is)
+pub head-none : (left : ℕ) (r : List ℕ) {h : Head} {e : ℕ} (class : Class) → headOf h ≡ rawHead r → h ≡ Fault e → headOf h ≡ headBy class left r
+head-none left r class at is = ap headOf is ∙ rw (sym at ∙ ap headOf is)
 
 -- ---- The definitions' header, by the name of the class of its code, whatever the classes are.
 pub head-by : (class : ℕ → paper.Class) (left : ℕ) (r : List ℕ) → readHead class left r ≡ headBy (named (class (le16 r / 64))) left r

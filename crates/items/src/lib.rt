@@ -3,8 +3,8 @@ ghost use mathlib.Core.Path.{_≡_};
 ghost use Prim.Native.Nat.{_*_};
 ghost use Rattle.format.specs.Bits.{high};
 ghost use Rattle.format.specs.Items.{showNum, run, readLE, readUB};
-ghost use Rattle.bits.specs.Places.{Inside, seen};
-ghost use Rattle.items.specs.Kinds.{formatOf, spelt, between as «within», rangeFault};
+ghost use Rattle.bits.specs.Places.{PlaceIn, numOf};
+ghost use Rattle.items.specs.Kinds.{formatOf, spelt, between as within, rangeFault};
 
 mod var;
 
@@ -27,8 +27,8 @@ pub enum Item {
 
 // One byte.
 fn read_byte(s: &[u8], byte: BytePlace, bit: BitPlace) -> Got
-    requires { ⌜ Inside (now s) (bit .0) × (bit .0 ≡ 8 * byte .0) ⌝ }
-    ensures { λ r. ⌜ seen r ≡ readUB high (now (s .entry)) (bit .0) 8 ⌝ }
+    requires { ⌜ PlaceIn (now s) (bit .0) × (bit .0 ≡ 8 * byte .0) ⌝ }
+    ensures { λ r. ⌜ numOf r ≡ readUB high (now (s .entry)) (bit .0) 8 ⌝ }
 {
     let i = byte.0;
     if s.len() <= i {
@@ -39,8 +39,8 @@ fn read_byte(s: &[u8], byte: BytePlace, bit: BitPlace) -> Got
 
 // A Float: four bytes, lowest first, kept as their pattern.
 fn read_float(s: &[u8], byte: BytePlace, bit: BitPlace) -> Got
-    requires { ⌜ Inside (now s) (bit .0) × (bit .0 ≡ 8 * byte .0) ⌝ }
-    ensures { λ r. ⌜ seen r ≡ readLE high (now (s .entry)) (bit .0) 4 ⌝ }
+    requires { ⌜ PlaceIn (now s) (bit .0) × (bit .0 ≡ 8 * byte .0) ⌝ }
+    ensures { λ r. ⌜ numOf r ≡ readLE high (now (s .entry)) (bit .0) 4 ⌝ }
 {
     let i = byte.0;
     if s.len() - i < 4 {
@@ -58,8 +58,8 @@ fn read_float(s: &[u8], byte: BytePlace, bit: BitPlace) -> Got
 
 // An item's bytes (13) and their spelling (14), from a whole byte on.
 fn read_spelling(kind: Item, s: &[u8], byte: BytePlace, bit: BitPlace) -> Got
-    requires { ⌜ Inside (now s) (bit .0) × (bit .0 ≡ 8 * byte .0) ⌝ }
-    ensures { λ r. ⌜ seen r ≡ spelt kind (now (s .entry)) (bit .0) ⌝ }
+    requires { ⌜ PlaceIn (now s) (bit .0) × (bit .0 ≡ 8 * byte .0) ⌝ }
+    ensures { λ r. ⌜ numOf r ≡ spelt kind (now (s .entry)) (bit .0) ⌝ }
 {
     match kind {
         Item::U32 => var::read_u32(s, byte, bit),
@@ -75,7 +75,7 @@ fn read_spelling(kind: Item, s: &[u8], byte: BytePlace, bit: BitPlace) -> Got
 
 // Is v from a to z?
 fn between(a: u64, v: u64, z: u64) -> bool
-    ensures { λ r. ⌜ r ≡ «within» a v z ⌝ }
+    ensures { λ r. ⌜ r ≡ within a v z ⌝ }
 {
     if a <= v { v <= z } else { false }
 }
@@ -104,8 +104,8 @@ pub fn out_of_range(kind: Item, v: u64) -> u32
 
 // An item: skipped bits (15), its bytes (13), its spelling (14), its range (16, 17).
 pub fn read_item(kind: Item, s: &[u8], at: BitPlace) -> Got
-    requires { ⌜ Inside (now s) (at .0) ⌝ }
-    ensures { λ r. ⌜ showNum (seen r) ≡ run high (now (s .entry)) (formatOf kind) (at .0) ⌝ }
+    requires { ⌜ PlaceIn (now s) (at .0) ⌝ }
+    ensures { λ r. ⌜ showNum (numOf r) ≡ run high (now (s .entry)) (formatOf kind) (at .0) ⌝ }
 {
     let a = bits::align(s, at);
     let Aligned::Clean(byte, bit) = a else {

@@ -3,7 +3,7 @@ ghost use mathlib.Core.Path.{_≡_};
 ghost use Prim.Native.Nat.{_-_, _*_, _^_, _≤_, _<_};
 ghost use Rattle.format.specs.Bits.{high};
 ghost use Rattle.format.specs.Items.{readVar, readU32, readU64, notOne, mapNum, sign};
-ghost use Rattle.bits.specs.Places.{Inside, seen};
+ghost use Rattle.bits.specs.Places.{PlaceIn, numOf};
 ghost use Rattle.items.specs.Kinds.{canEnd, cap};
 use bits::BitPlace;
 use bits::BytePlace;
@@ -21,8 +21,8 @@ fn ends(b: u64, left: u64, top: u64) -> bool
 
 // A first byte, and at most `most` more, the last of these at most `top`.
 fn read_var(s: &[u8], byte: BytePlace, bit: BitPlace, most: u64, top: u64) -> Got
-    requires { ⌜ Inside (now s) (bit .0) × (bit .0 ≡ 8 * byte .0) × (1 ≤ most) × (1 ≤ top) × (top < 128) × (128 * cap (most - 1) top ≤ 2 ^ 64) ⌝ }
-    ensures { λ r. ⌜ seen r ≡ readVar high (now (s .entry)) top (bit .0) most ⌝ }
+    requires { ⌜ PlaceIn (now s) (bit .0) × (bit .0 ≡ 8 * byte .0) × (1 ≤ most) × (1 ≤ top) × (top < 128) × (128 * cap (most - 1) top ≤ 2 ^ 64) ⌝ }
+    ensures { λ r. ⌜ numOf r ≡ readVar high (now (s .entry)) top (bit .0) most ⌝ }
 {
     let mut i = byte.0;
     let mut next = bit.0;
@@ -62,24 +62,24 @@ fn read_var(s: &[u8], byte: BytePlace, bit: BitPlace, most: u64, top: u64) -> Go
 
 // U32: at most 5 bytes, the fifth at most 15.
 pub(crate) fn read_u32(s: &[u8], byte: BytePlace, bit: BitPlace) -> Got
-    requires { ⌜ Inside (now s) (bit .0) × (bit .0 ≡ 8 * byte .0) ⌝ }
-    ensures { λ r. ⌜ seen r ≡ readU32 high (now (s .entry)) (bit .0) ⌝ }
+    requires { ⌜ PlaceIn (now s) (bit .0) × (bit .0 ≡ 8 * byte .0) ⌝ }
+    ensures { λ r. ⌜ numOf r ≡ readU32 high (now (s .entry)) (bit .0) ⌝ }
 {
     read_var(s, byte, bit, 4, 15)
 }
 
 // U64: at most 10 bytes, the tenth at most 1.
 pub(crate) fn read_u64(s: &[u8], byte: BytePlace, bit: BitPlace) -> Got
-    requires { ⌜ Inside (now s) (bit .0) × (bit .0 ≡ 8 * byte .0) ⌝ }
-    ensures { λ r. ⌜ seen r ≡ readU64 high (now (s .entry)) (bit .0) ⌝ }
+    requires { ⌜ PlaceIn (now s) (bit .0) × (bit .0 ≡ 8 * byte .0) ⌝ }
+    ensures { λ r. ⌜ numOf r ≡ readU64 high (now (s .entry)) (bit .0) ⌝ }
 {
     read_var(s, byte, bit, 9, 1)
 }
 
 // I32: a U32 d; the magnitude is d / 2, odd d is negative, minus zero is refused.
 pub(crate) fn read_i32(s: &[u8], byte: BytePlace, bit: BitPlace) -> Got
-    requires { ⌜ Inside (now s) (bit .0) × (bit .0 ≡ 8 * byte .0) ⌝ }
-    ensures { λ r. ⌜ seen r ≡ mapNum sign (notOne (readU32 high (now (s .entry)) (bit .0))) ⌝ }
+    requires { ⌜ PlaceIn (now s) (bit .0) × (bit .0 ≡ 8 * byte .0) ⌝ }
+    ensures { λ r. ⌜ numOf r ≡ mapNum sign (notOne (readU32 high (now (s .entry)) (bit .0))) ⌝ }
 {
     let r = read_u32(s, byte, bit);
     let Got::Value(d, next) = r else {

@@ -13,13 +13,14 @@ use Rattle.format.specs.Bits.{high}
 use Rattle.format.specs.FileAndTags.{signatureRight, versionRight, lengthRight, classOf, Tag, Outcome, whole, fault, Walk, broken, file, walkList}
 use Rattle.format.specs.TableOfNumbers.{numbers, table, tagTable}
 use Rattle.format.specs.Reasons.{startFault, walkFile, Result, gives, refuses, result, readFile, readTags, accepted, refused, Left, accepts, refusesWith, into}
+use Rattle.format.proofs.Absurd.{clash}
 use Rattle.listing.specs.declared.Part.{Part}
 use Rattle.listing.specs.Listing.{listing, refusal, tooLong, answered, printed}
-use Rattle.listing.specs.Steps.{Laid, laid, State, left, tableListing}
+use Rattle.listing.specs.Steps.{Laid, laid, State, partLeaves, tableListing}
 use Rattle.listing.proofs.Listed.{listed}
 
 -- ---- no second answer fits
-pub left-one : (b c : List ℕ) (p q : Part) → left b p ≡ left c q → (b ≡ c) × (p ≡ q)
+pub left-one : (b c : List ℕ) (p q : Part) → partLeaves b p ≡ partLeaves c q → (b ≡ c) × (p ≡ q)
 left-one b c p q e = (ap (λ (s : State). s .lent) e, λ i. record { used = e i .used; to = e i .to })
 
 pub laid-one : (b c : List ℕ) (j k : ℕ) → laid b j ≡ laid c k → (b ≡ c) × (j ≡ k)
@@ -43,7 +44,7 @@ whole-version level f = go (eqb (startFault level f) 0) refl
   where
     go : (c : Bool) → eqb (startFault level f) 0 ≡ c → pick c (walkList high (classOf level) 8 file 9 (drop 9 f)) (broken (startFault level f) 0) .ended ≡ whole → getD f 3 0 ≡ 1
     go true e h = start-version level f (eqb-true (startFault level f) 0 e)
-    go false e h = absurd (let z : _≡_ {A = ℕ} 0 1 = cc in omega arith)
+    go false e h = clash cc
 
 -- ---- what an answer says of the numbers
 abbrev accept : ℕ → List ℕ → Left
@@ -56,7 +57,7 @@ same-answer : {x y : Left} → x ≡ y → x .answer ≡ y .answer
 same-answer e = ap (λ (l : Left). l .answer) e
 
 not-both : {k e n : ℕ} → accepted k ≡ refused e n → ⊥
-not-both h = let z : _≡_ {A = ℕ} 0 1 = cc in omega arith
+not-both h = clash cc
 
 -- accepted: all numbers fit, and the first k lent ones are these
 into-accepted : (m ns m′ : List ℕ) (k : ℕ) → into m (gives ns) ≡ accept k m′ → (length ns ≤ length m) × (take k m′ ≡ ns)

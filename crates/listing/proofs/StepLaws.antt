@@ -10,6 +10,7 @@ use lib.Seq.{sets}
 use lib.Dec.{ltb, leb, eqb}
 use borrow.Author.Tests.{eqb-true, ltb-true, lt-ltb, le-ltb, le-leb, lt-leb, eq-eqb, ne-eqb}
 use Rattle.format.specs.Tests.{pick, _and_}
+use Rattle.format.proofs.Absurd.{clash}
 use Rattle.table.proofs.EngineLaws.{sets-append}
 use Rattle.listing.specs.declared.Cursor.{Cursor}
 use Rattle.listing.specs.Steps.{Laid, laid, lays, field, tabbed, ender, Step, cursor, firstStep, headStep, valueStep, step, more, stay, joined, fill, partOf, State, state, after}
@@ -84,7 +85,7 @@ more-number t g c = go (ltb (c .number) (length t)) refl
   where
     go : (a : Bool) → ltb (c .number) (length t) ≡ a → (a and leb (c .row) (length g)) ≡ true → c .number < length t
     go true e h = ltb-true (c .number) (length t) e
-    go false e h = absurd (let z : _≡_ {A = ℕ} 0 1 = cc in omega arith)
+    go false e h = clash cc
 
 pub more-over : (t g : List ℕ) (c : Cursor) → length g < c .row → more t g c ≡ false
 more-over t g c h = go (ltb (c .number) (length t))
@@ -109,7 +110,7 @@ module _ (n : ℕ) (t g : List ℕ) where
   part-step room c h i = go (length t) refl
     where
       go : (k : ℕ) → length t ≡ k → fill k room n t g c ≡ joined (step n t g c) (fill k (room - length (step n t g c .text)) n t g (step n t g c .to))
-      go zero e = absurd (let z : _≡_ {A = ℕ} 0 1 = cc (more-none t g c (omega arith)) in omega arith)
+      go zero e = clash (cc (more-none t g c (omega arith)))
       go (suc k) e =
           rw (h, le-leb 128 room i)
           (ap (joined (step n t g c)) (fill-bound k (suc k) (room - length (step n t g c .text)) (step n t g c .to) (omega (arith, step-further n t g c)) (omega (arith, step-further n t g c))))

@@ -107,8 +107,8 @@ pub record State : Type 0 where
 abbrev pub state : List ℕ → ℕ → Cursor → State
 state b k c = record { lent = b; used = k; to = c }
 
-abbrev pub left : List ℕ → Part → State
-left b p = state b (p .used) (p .to)
+abbrev pub partLeaves : List ℕ → Part → State
+partLeaves b p = state b (p .used) (p .to)
 
 unfoldable pub after : List ℕ → ℕ → Step → State
 after b k s = state (sets b k (s .text)) (k + length (s .text)) (s .to)

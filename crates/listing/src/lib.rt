@@ -3,7 +3,7 @@ ghost use mathlib.Core.Path.{_≡_};
 ghost use Prim.Native.Nat.{_+_, _≤_, _<_};
 ghost use lib.ListN.{length, getD};
 ghost use Rattle.listing.specs.Listing.{refusal, tooLong};
-ghost use Rattle.listing.specs.Steps.{laid, lays, ender, firstStep, headStep, step, partOf, left, after};
+ghost use Rattle.listing.specs.Steps.{laid, lays, ender, firstStep, headStep, step, partOf, partLeaves, after};
 use fields::put_field;
 use fields::put_tabbed;
 use fields::put_word;
@@ -74,7 +74,7 @@ fn put_head(t: &[u64], i: usize, g: &[u32], m: usize, out: &mut [u8], k: usize) 
 // One step: the first line, a tag's first six fields, or one value. Six fields of 20 digits have 126 bytes with what ends each, so 128 are enough.
 fn put_step(n: u64, t: &[u64], g: &[u32], c: Cursor, out: &mut [u8], k: usize) -> Part
     requires { ⌜ (k + 128 ≤ length (now out)) × (c .number < length (now t)) × (c .row ≤ length (now g)) ⌝ }
-    ensures { λ r. ⌜ (left (now (out .exit)) r ≡ after (now (out .entry)) k (step n (now (t .entry)) (now (g .entry)) c)) × (r .used ≤ k + 128) ⌝ }
+    ensures { λ r. ⌜ (partLeaves (now (out .exit)) r ≡ after (now (out .entry)) k (step n (now (t .entry)) (now (g .entry)) c)) × (r .used ≤ k + 128) ⌝ }
 {
     let i = c.number;
     let m = c.row;
@@ -114,7 +114,7 @@ fn put_step(n: u64, t: &[u64], g: &[u32], c: Cursor, out: &mut [u8], k: usize) -
 
 // The part of the listing that starts at a cursor, of a file of n bytes: as many steps as the lent bytes have room for.
 pub fn put_part(n: u64, t: &[u64], g: &[u32], from: Cursor, out: &mut [u8]) -> Part
-    ensures { λ r. ⌜ (left (now (out .exit)) r ≡ after (now (out .entry)) 0 (partOf (length (now (out .entry))) n (now (t .entry)) (now (g .entry)) from)) × (r .used ≤ length (now (out .entry))) ⌝ }
+    ensures { λ r. ⌜ (partLeaves (now (out .exit)) r ≡ after (now (out .entry)) 0 (partOf (length (now (out .entry))) n (now (t .entry)) (now (g .entry)) from)) × (r .used ≤ length (now (out .entry))) ⌝ }
 {
     let mut c = from;
     let mut used = 0;

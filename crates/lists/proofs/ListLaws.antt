@@ -15,12 +15,13 @@ use Rattle.format.specs.Reading.{Ending, At, Fault}
 use Rattle.format.specs.Items.{run}
 use Rattle.format.specs.Bodies.{readBody}
 use Rattle.format.specs.FileAndTags as paper
-use Rattle.format.specs.FileAndTags.{le16, container, Tag, Outcome, whole, fault, Walk, noTags, broken, chain, head, noHead, readHead, blame, atEnd, afterTag, Inside, endAt, front, opened, within, tagThen, walkList}
+use Rattle.format.specs.FileAndTags.{le16, container, Tag, Outcome, whole, fault, Walk, noTags, broken, chain, head, noHead, readHead, blame, atEnd, afterTag, TagInside, endAt, front, opened, within, tagThen, walkList}
 use Rattle.format.specs.TableOfNumbers.{numbers, tagTable}
 use Rattle.format.proofs.EngineLaws.{chain-chain, numbers-append, tagTable-append}
 use Rattle.format.proofs.ListLaws.{list-nil, list-fault, list-tag}
 use Rattle.format.proofs.RoomLaws.{Room, walk-room, tag-table-length}
 use Rattle.format.proofs.WalkLaws.{run-le, Fits, head-fits}
+use Rattle.format.proofs.Absurd.{clash}
 use Rattle.table.proofs.EngineLaws.{sets-append}
 use Rattle.attributes.specs.Rows.{attributesOf}
 use Rattle.fixed.specs.Fixed.{fixedOf}
@@ -28,12 +29,12 @@ use Rattle.bodies.specs.Leaf.{leafBody}
 use Rattle.classes.specs.Classes.{named, ends, contains, classBy}
 use Rattle.classes.specs.declared.Class.{Class}
 use Rattle.classes.specs.declared.Class.the-variants.{Opaque, End, Container, Fixed, Attributes}
-use Rattle.classes.specs.declared.Reads.{Reads}
+use Rattle.classes.specs.declared.Scope.{Scope}
 use Rattle.classes.proofs.ClassLaws.{Right, spelt, ends-named, contains-named, fair-by, taken-by}
 use Rattle.headers.specs.Heads.{headBy}
 use Rattle.headers.proofs.HeadLaws.{head-by, FitsBy, fits-by}
 use Rattle.tags.specs.Shown.{stateOf, valuesOf}
-use Rattle.lists.specs.Lists.{ownerOf, tagShown, stepOf, Stepped, stepped, tagAt, lastOf, Listed, listed, walkedOf, laid, Bounds}
+use Rattle.lists.specs.Lists.{ownerOf, tagShown, stepOf, Stepped, stepped, tagAt, lastOf, Listed, listed, walkedOf, walkOver, Bounds}
 use Rattle.lists.specs.declared.Owner.{Owner}
 use Rattle.lists.specs.declared.Step.{Step}
 use Rattle.lists.specs.declared.Step.the-variants as step
@@ -76,7 +77,7 @@ walkOf R Container a s body (At p) = R (paper.inside a) (s + p / 8) (drop (p / 8
 walkOf R Fixed a s body (At p) = noTags whole
 walkOf R Attributes a s body (At p) = noTags whole
 
-abbrev insideOf : (paper.Owner → ℕ → List ℕ → Walk) → Class → ℕ → ℕ → ℕ → List ℕ → Inside
+abbrev insideOf : (paper.Owner → ℕ → List ℕ → Walk) → Class → ℕ → ℕ → ℕ → List ℕ → TagInside
 insideOf R c code a s body =
     record { state = stateOf c; values = valuesOf c code body .shown; walk = walkOf R c a s body (valuesOf c code body .ended) }
 
@@ -85,12 +86,12 @@ right : Right leafBody (λ code. container (fixedOf code))
 unfolding leafBody fixedOf attributesOf
 right = refl
 
-within-is : (R : paper.Owner → ℕ → List ℕ → Walk) (reads : Reads) (level code a s : ℕ) (body : List ℕ)
-    → within high R (classBy reads level code) a s body ≡ insideOf R (named (classBy reads level code)) code a s body
-within-is R reads level code a s body =
-    ap (λ (c : paper.Class). within high R c a s body) (taken-by leafBody fixedOf right reads level code) ∙ go (named (classBy reads level code))
+within-is : (R : paper.Owner → ℕ → List ℕ → Walk) (scope : Scope) (level code a s : ℕ) (body : List ℕ)
+    → within high R (classBy scope level code) a s body ≡ insideOf R (named (classBy scope level code)) code a s body
+within-is R scope level code a s body =
+    ap (λ (c : paper.Class). within high R c a s body) (taken-by leafBody fixedOf right scope level code) ∙ go (named (classBy scope level code))
   where
-    leaf : (xs : List ℕ) (z : Ending) → _≡_ {A = Inside} (record { state = 1; values = xs; walk = noTags (endAt a z) }) (record { state = 1; values = xs; walk = walkOf R Fixed a s body z })
+    leaf : (xs : List ℕ) (z : Ending) → _≡_ {A = TagInside} (record { state = 1; values = xs; walk = noTags (endAt a z) }) (record { state = 1; values = xs; walk = walkOf R Fixed a s body z })
     leaf xs (At p) = refl
     leaf xs (Fault e) = refl
 
@@ -98,7 +99,7 @@ within-is R reads level code a s body =
     fronted xs (At p) = refl
     fronted xs (Fault e) = refl
 
-    leaf-too : (xs : List ℕ) (z : Ending) → _≡_ {A = Inside} (record { state = 1; values = xs; walk = noTags (endAt a z) }) (record { state = 1; values = xs; walk = walkOf R Attributes a s body z })
+    leaf-too : (xs : List ℕ) (z : Ending) → _≡_ {A = TagInside} (record { state = 1; values = xs; walk = noTags (endAt a z) }) (record { state = 1; values = xs; walk = walkOf R Attributes a s body z })
     leaf-too xs (At p) = refl
     leaf-too xs (Fault e) = refl
 
@@ -144,12 +145,12 @@ listed-eq : {t t′ g g′ : List ℕ} {x x′ : Walked} → t ≡ t′ → g �
 listed-eq p q r = λ i. record { table = p i; rows = q i; answer = r i }
 
 -- the list of the owner at place a, whose room is r, over the tables t₀ from k on and g₀ from m on
-module _ (reads : Reads) (level left : ℕ) (own : paper.Owner) (a : ℕ) (r t₀ : List ℕ) (k : ℕ) (g₀ : List ℕ) (m : ℕ) where
+module _ (scope : Scope) (level left : ℕ) (own : paper.Owner) (a : ℕ) (r t₀ : List ℕ) (k : ℕ) (g₀ : List ℕ) (m : ℕ) where
   abbrev from : ℕ → Walk
-  from i = walkList high (classBy reads level) left own (a + i) (drop i r)
+  from i = walkList high (classBy scope level) left own (a + i) (drop i r)
 
   abbrev all : Walk
-  all = walkList high (classBy reads level) left own a r
+  all = walkList high (classBy scope level) left own a r
 
   -- some tags have been seen, and `rest` is the walk of what is left
   pub record Seen (t g : List ℕ) (j w : ℕ) (rest : Walk) : Type 0 where
@@ -179,25 +180,25 @@ module _ (reads : Reads) (level left : ℕ) (own : paper.Owner) (a : ℕ) (r t�
   -- the indexes stay in the list's room
   pub seen-room : {t g : List ℕ} {j w : ℕ} (rest : Walk) → Seen t g j w rest → (j ≤ k + 8 * length r) × (w ≤ m + 5 * length r)
   seen-room rest s =
-      let u : Room high (length r) all = walk-room high (classBy reads level) (fair-by high reads level) (length r) left own a r in
+      let u : Room high (length r) all = walk-room high (classBy scope level) (fair-by high scope level) (length r) left own a r in
       let ns : length (numbers (all .tags)) ≡ length (numbers (s .tags)) + length (numbers (rest .tags)) =
       ap (λ (w : Walk). length (numbers (w .tags))) (s .split) ∙ ap length (numbers-append (s .tags) (rest .tags)) ∙ length-append (numbers (s .tags)) (numbers (rest .tags)) in
       let ts : length (all .tags) ≡ length (s .tags) + length (rest .tags) = ap (λ (w : Walk). length (w .tags)) (s .split) ∙ length-append (s .tags) (rest .tags) in
       (omega (arith, s .index, u .count, ns), omega (arith, s .row, u .tags, ts, tag-table-length high (s .tags)))
 
   -- ---- the end
-  pub seen-fault : {t g : List ℕ} {j w : ℕ} (rest : Walk) {e n : ℕ} → Seen t g j w rest → rest ≡ broken e n → listed t g (walked.Fault e n) ≡ laid t₀ k g₀ m all
+  pub seen-fault : {t g : List ℕ} {j w : ℕ} (rest : Walk) {e n : ℕ} → Seen t g j w rest → rest ≡ broken e n → listed t g (walked.Fault e n) ≡ walkOver t₀ k g₀ m all
   seen-fault rest s z =
       let e : all ≡ chain (s .tags) whole (broken _ _) = s .split ∙ ap (chain (s .tags) whole) z in
       let ts : s .tags ++ [] ≡ s .tags = append-nil (s .tags) in
-      listed-eq (s .table) (s .rows) refl ∙ sym (ap (laid t₀ k g₀ m) e ∙ rw ts)
+      listed-eq (s .table) (s .rows) refl ∙ sym (ap (walkOver t₀ k g₀ m) e ∙ rw ts)
 
-  pub seen-whole : {t g : List ℕ} {j w : ℕ} (rest : Walk) → Seen t g j w rest → rest ≡ noTags whole → listed t g (walked.Next j w) ≡ laid t₀ k g₀ m all
+  pub seen-whole : {t g : List ℕ} {j w : ℕ} (rest : Walk) → Seen t g j w rest → rest ≡ noTags whole → listed t g (walked.Next j w) ≡ walkOver t₀ k g₀ m all
   seen-whole rest s z =
       let e : all ≡ chain (s .tags) whole (noTags whole) = s .split ∙ ap (chain (s .tags) whole) z in
       let ts : s .tags ++ [] ≡ s .tags = append-nil (s .tags) in
       let x : walked.Next _ _ ≡ walked.Next (k + length (numbers (s .tags))) (m + length (tagTable (s .tags))) = λ i. walked.Next (s .index i) (s .row i) in
-      listed-eq (s .table) (s .rows) x ∙ sym (ap (laid t₀ k g₀ m) e ∙ rw ts)
+      listed-eq (s .table) (s .rows) x ∙ sym (ap (walkOver t₀ k g₀ m) e ∙ rw ts)
 
   -- ---- more tags
   pub seen-more : {t g t′ g′ : List ℕ} {j w j′ w′ : ℕ} (ts : List Tag) (rest : Walk) → Seen t g j w (chain ts whole rest)
@@ -213,16 +214,16 @@ module _ (reads : Reads) (level left : ℕ) (own : paper.Owner) (a : ℕ) (r t�
 
   -- tags whose list ended by a fault
   seen-cut : {t g t′ g′ : List ℕ} {j w : ℕ} (ts : List Tag) (rest : Walk) {e n : ℕ} → Seen t g j w (chain ts (fault e n) rest)
-      → t′ ≡ sets t j (numbers ts) → g′ ≡ sets g w (tagTable ts) → listed t′ g′ (walked.Fault e n) ≡ laid t₀ k g₀ m all
+      → t′ ≡ sets t j (numbers ts) → g′ ≡ sets g w (tagTable ts) → listed t′ g′ (walked.Fault e n) ≡ walkOver t₀ k g₀ m all
   seen-cut ts rest {e} {n} s p q =
       let f : all ≡ record { tags = s .tags ++ ts; ended = fault e n } = s .split ∙ chain-chain (s .tags) ts (fault e n) rest in
       listed-eq (p ∙ rw (s .table, s .index, numbers-append (s .tags) ts, sets-append t₀ k (numbers (s .tags)) (numbers ts)))
       (q ∙ rw (s .rows, s .row, tagTable-append (s .tags) ts, sets-append g₀ m (tagTable (s .tags)) (tagTable ts))) refl
-      ∙ sym (ap (laid t₀ k g₀ m) f)
+      ∙ sym (ap (walkOver t₀ k g₀ m) f)
 
   -- the list of a container, read from here on
   pub inner-next : {t g t′ g′ : List ℕ} {j w j′ w′ : ℕ} (inner rest : Walk) → Seen t g j w (chain (inner .tags) (inner .ended) rest)
-      → listed t′ g′ (walked.Next j′ w′) ≡ laid t j g w inner → Seen t′ g′ j′ w′ rest
+      → listed t′ g′ (walked.Next j′ w′) ≡ walkOver t j g w inner → Seen t′ g′ j′ w′ rest
   inner-next {t} {g} {t′} {g′} {j} {w} {j′} {w′} inner rest s e = go (inner .ended) s (ap (λ (l : Listed). l .answer) e)
     where
       go : (z : Outcome) → Seen t g j w (chain (inner .tags) z rest) → walked.Next j′ w′ ≡ walkedOf (j + length (numbers (inner .tags))) (w + length (tagTable (inner .tags))) z → Seen t′ g′ j′ w′ rest
@@ -230,14 +231,14 @@ module _ (reads : Reads) (level left : ℕ) (own : paper.Owner) (a : ℕ) (r t�
           let x : j′ ≡ j + length (numbers (inner .tags)) = cc in
           let y : w′ ≡ w + length (tagTable (inner .tags)) = cc in
           seen-more (inner .tags) rest s (ap (λ (l : Listed). l .table) e) (ap (λ (l : Listed). l .rows) e) x y
-      go (fault x n) s f = absurd (let z : _≡_ {A = ℕ} 0 1 = cc in omega arith)
+      go (fault x n) s f = clash cc
 
   pub inner-fault : {t g t′ g′ : List ℕ} {j w x n : ℕ} (inner rest : Walk) → Seen t g j w (chain (inner .tags) (inner .ended) rest)
-      → listed t′ g′ (walked.Fault x n) ≡ laid t j g w inner → listed t′ g′ (walked.Fault x n) ≡ laid t₀ k g₀ m all
+      → listed t′ g′ (walked.Fault x n) ≡ walkOver t j g w inner → listed t′ g′ (walked.Fault x n) ≡ walkOver t₀ k g₀ m all
   inner-fault {t} {g} {t′} {g′} {j} {w} {x} {n} inner rest s e = go (inner .ended) s (ap (λ (l : Listed). l .answer) e)
     where
       go : (z : Outcome) → Seen t g j w (chain (inner .tags) z rest) → walked.Fault x n ≡ walkedOf (j + length (numbers (inner .tags))) (w + length (tagTable (inner .tags))) z
-          → listed t′ g′ (walked.Fault x n) ≡ laid t₀ k g₀ m all
+          → listed t′ g′ (walked.Fault x n) ≡ walkOver t₀ k g₀ m all
       go whole s f = cc
       go (fault y o) s f =
           ap (λ (v : Walked). listed t′ g′ v) f ∙ seen-cut (inner .tags) rest s (ap (λ (l : Listed). l .table) e) (ap (λ (l : Listed). l .rows) e)
@@ -247,11 +248,11 @@ module _ (reads : Reads) (level left : ℕ) (own : paper.Owner) (a : ℕ) (r t�
   seen-as {t} {g} {j} {w} rest rest′ e s = subst (λ (z : Walk). Seen t g j w z) e s
 
   -- a tag's own numbers, and its row
-  seen-tag : {t g t′ g′ : List ℕ} {j w j′ w′ : ℕ} (d code p size len : ℕ) (i : Inside) (rest : Walk) → Seen t g j w (tagThen d code p size len i rest)
+  seen-tag : {t g t′ g′ : List ℕ} {j w j′ w′ : ℕ} (d code p size len : ℕ) (i : TagInside) (rest : Walk) → Seen t g j w (tagThen d code p size len i rest)
       → t′ ≡ sets t j (code ∷ i .state ∷ length (i .values) ∷ i .values) → g′ ≡ sets g w (d ∷ code ∷ p ∷ size ∷ len ∷ [])
       → j′ ≡ j + (3 + length (i .values)) → w′ ≡ w + 5 → Seen t′ g′ j′ w′ (chain (i .walk .tags) (i .walk .ended) rest)
   seen-tag {t} {g} {t′} {g′} {j} {w} {j′} {w′} d code p size len i rest s x y q z =
-      let tag : Tag = record { depth = d; code = code; place = p; size = size; length = len; state = i .state; values = i .values } in
+      let tag : Tag = record { depth = d; code = code; place = p; headerSize = size; bodyLength = len; state = i .state; values = i .values } in
       let n : i .values ++ [] ≡ i .values = append-nil (i .values) in
       let x′ : t′ ≡ sets t j (numbers (tag ∷ [])) = rw n x in
       let q′ : j′ ≡ j + length (numbers (tag ∷ [])) = q ∙ rw n (omega arith) in
@@ -260,11 +261,11 @@ module _ (reads : Reads) (level left : ℕ) (own : paper.Owner) (a : ℕ) (r t�
       x′ y q′ z
 
   -- ---- the room is used up
-  pub used-up : {t g : List ℕ} {i j w : ℕ} → Going t g i j w → length r ≤ i → {n : ℕ} → n ≡ blame own (a + length r) → listed t g (walked.Fault 7 n) ≡ laid t₀ k g₀ m all
+  pub used-up : {t g : List ℕ} {i j w : ℕ} → Going t g i j w → length r ≤ i → {n : ℕ} → n ≡ blame own (a + length r) → listed t g (walked.Fault 7 n) ≡ walkOver t₀ k g₀ m all
   used-up {t} {g} {i} {j} {w} go l {n} e =
       let z : i ≡ length r = omega (arith, go .inside) in
       let d : drop i r ≡ [] = rw z (drop-length r) in
-      let f : from i ≡ broken 7 (blame own (a + i)) = rw d (list-nil high (classBy reads level) left own (a + i)) in
+      let f : from i ≡ broken 7 (blame own (a + i)) = rw d (list-nil high (classBy scope level) left own (a + i)) in
       seen-fault (from i) (go .seen) (f ∙ ap (λ (x : ℕ). broken 7 (blame own (a + x))) z ∙ ap (broken 7) (sym e))
 
   -- the tag at i is a container, whose list has the room from l up to p; n and m′ are the next indexes
@@ -274,24 +275,24 @@ module _ (reads : Reads) (level left : ℕ) (own : paper.Owner) (a : ℕ) (r t�
     pub order : l ≤ p
     pub inside : p ≤ length r
     pub seen : Seen t g n m′
-        (chain (walkList high (classBy reads level) (pred left) (paper.inside (a + i)) (a + l) (piece l p r) .tags)
-        (walkList high (classBy reads level) (pred left) (paper.inside (a + i)) (a + l) (piece l p r) .ended) (from p))
+        (chain (walkList high (classBy scope level) (pred left) (paper.inside (a + i)) (a + l) (piece l p r) .tags)
+        (walkList high (classBy scope level) (pred left) (paper.inside (a + i)) (a + l) (piece l p r) .ended) (from p))
 
   -- ---- the tag at i
   module _ {t g : List ℕ} {i j w : ℕ} (going : Going t g i j w) (some : i < length r) where
     left-over : 0 < length (drop i r)
     left-over = rw length-drop (omega arith)
 
-    head-fault : {e : ℕ} → readHead (classBy reads level) left (drop i r) ≡ noHead e → listed t g (walked.Fault e (a + i)) ≡ laid t₀ k g₀ m all
-    head-fault {e} is = seen-fault (from i) (going .seen) (list-fault high (classBy reads level) left own (a + i) (drop i r) e left-over is)
+    head-fault : {e : ℕ} → readHead (classBy scope level) left (drop i r) ≡ noHead e → listed t g (walked.Fault e (a + i)) ≡ walkOver t₀ k g₀ m all
+    head-fault {e} is = seen-fault (from i) (going .seen) (list-fault high (classBy scope level) left own (a + i) (drop i r) e left-over is)
 
     -- its header passes
-    module _ {code len size : ℕ} (stands : readHead (classBy reads level) left (drop i r) ≡ head code len size) where
-      fits : Fits (classBy reads level) left (drop i r) (head code len size)
-      fits = subst (Fits (classBy reads level) left (drop i r)) stands (head-fits (classBy reads level) left (drop i r))
+    module _ {code len size : ℕ} (stands : readHead (classBy scope level) left (drop i r) ≡ head code len size) where
+      fits : Fits (classBy scope level) left (drop i r) (head code len size)
+      fits = subst (Fits (classBy scope level) left (drop i r)) stands (head-fits (classBy scope level) left (drop i r))
 
       abbrev R : paper.Owner → ℕ → List ℕ → Walk
-      R = walkList high (classBy reads level) (pred left)
+      R = walkList high (classBy scope level) (pred left)
 
       abbrev start : ℕ
       start = i + size
@@ -303,13 +304,13 @@ module _ (reads : Reads) (level left : ℕ) (own : paper.Owner) (a : ℕ) (r t�
       body = take len (drop size (drop i r))
 
       abbrev c : Class
-      c = named (classBy reads level code)
+      c = named (classBy scope level code)
 
       abbrev inner : Walk
       inner = walkOf R c (a + i) (a + start) body (valuesOf c code body .ended)
 
       abbrev later : Bool → Walk
-      later b = afterTag b own (a + stop) (drop stop r) (walkList high (classBy reads level) left own)
+      later b = afterTag b own (a + stop) (drop stop r) (walkList high (classBy scope level) left own)
 
       abbrev t′ : List ℕ
       t′ = sets t j (tagShown c code body .shown)
@@ -332,8 +333,8 @@ module _ (reads : Reads) (level left : ℕ) (own : paper.Owner) (a : ℕ) (r t�
           let q : a + i + size + len ≡ a + stop = omega arith in
           let n : i + (size + len) ≡ stop = omega arith in
           let d : drop (size + len) (drop i r) ≡ drop stop r = drop-drop (size + len) i r ∙ ap (λ (n : ℕ). drop n r) n in
-          list-tag high (classBy reads level) left own (a + i) (drop i r) code len size left-over stands
-          ∙ rw (q, p, d, ends-named (classBy reads level code), within-is R reads level code (a + i) (a + start) body)
+          list-tag high (classBy scope level) left own (a + i) (drop i r) code len size left-over stands
+          ∙ rw (q, p, d, ends-named (classBy scope level code), within-is R scope level code (a + i) (a + start) body)
 
       tag-seen : Seen t′ g′ j′ (w + 5) (chain (inner .tags) (inner .ended) (later (ends c)))
       tag-seen = seen-tag (8 - left) code (a + i) size len (insideOf R c code (a + i) (a + start) body) (later (ends c))
@@ -345,7 +346,7 @@ module _ (reads : Reads) (level left : ℕ) (own : paper.Owner) (a : ℕ) (r t�
         tag-follows = subst (Follows R a (a + i) start stop body c inner j′) (sym next) (follows R a (a + i) start stop code j′ body c)
 
         -- a reason
-        stood-fault : {e : ℕ} → S ≡ step.Fault e → listed t′ g′ (walked.Fault e (a + i)) ≡ laid t₀ k g₀ m all
+        stood-fault : {e : ℕ} → S ≡ step.Fault e → listed t′ g′ (walked.Fault e (a + i)) ≡ walkOver t₀ k g₀ m all
         stood-fault {e} z =
             let f : inner ≡ broken e (a + i) = subst (Follows R a (a + i) start stop body c inner j′) z tag-follows in
             seen-fault (chain (inner .tags) (inner .ended) (later (ends c))) tag-seen (ap (λ (v : Walk). chain (v .tags) (v .ended) (later (ends c))) f)
@@ -355,14 +356,14 @@ module _ (reads : Reads) (level left : ℕ) (own : paper.Owner) (a : ℕ) (r t�
         nothing-inside {b} e f = ap (λ (v : Walk). chain (v .tags) (v .ended) (later (ends c))) f ∙ ap (λ (x : Bool). chain [] whole (later x)) e
 
         -- End
-        stood-last : {p n : ℕ} {x : Walked} (o : Owner) → own ≡ ownerOf o → S ≡ step.Last p n → x ≡ lastOf o a p (length r) n (w + 5) → listed t′ g′ x ≡ laid t₀ k g₀ m all
+        stood-last : {p n : ℕ} {x : Walked} (o : Owner) → own ≡ ownerOf o → S ≡ step.Last p n → x ≡ lastOf o a p (length r) n (w + 5) → listed t′ g′ x ≡ walkOver t₀ k g₀ m all
         stood-last {p} {n} {x} o is z e =
             let f : (p ≡ stop) × (n ≡ j′) × (ends c ≡ true) × (inner ≡ noTags whole) = subst (Follows R a (a + i) start stop body c inner j′) z tag-follows in
             ap (listed t′ g′) (e ∙ rw (f .0, f .1)) ∙ go (eqb stop (length r)) refl (drop stop r) refl
             (seen-as (chain (inner .tags) (inner .ended) (later (ends c))) (later true) (nothing-inside (f .2) (f .3)) tag-seen)
           where
             go : (y : Bool) → eqb stop (length r) ≡ y → (q : List ℕ) → drop stop r ≡ q → Seen t′ g′ j′ (w + 5) (atEnd own (a + stop) (drop stop r))
-                → listed t′ g′ (pick y (walked.Next j′ (w + 5)) (walked.Fault 11 (blame (ownerOf o) (a + stop)))) ≡ laid t₀ k g₀ m all
+                → listed t′ g′ (pick y (walked.Next j′ (w + 5)) (walked.Fault 11 (blame (ownerOf o) (a + stop)))) ≡ walkOver t₀ k g₀ m all
             go true u [] v s = seen-whole (atEnd own (a + stop) (drop stop r)) s (ap (atEnd own (a + stop)) v)
             go true u (y ∷ q) v s = absurd (omega (arith, eqb-true stop (length r) u, ap length v, length-drop stop r))
             go false u [] v s = absurd (eqb-false stop (length r) u (omega (arith, ap length v, length-drop stop r, stop-fits .1)))
@@ -384,7 +385,7 @@ module _ (reads : Reads) (level left : ℕ) (own : paper.Owner) (a : ℕ) (r t�
         stood-open {l} {p} {n} z =
             let f : (p ≡ stop) × (n ≡ j′) × (ends c ≡ false) × (contains c ≡ true) × (start ≤ l) × (l ≤ start + length body) × (inner ≡ R (paper.inside (a + i)) (a + l) (drop (l - start) body)) =
             subst (Follows R a (a + i) start stop body c inner j′) z tag-follows in
-            let o : pick true (eqb left 0) false ≡ false = subst (λ (b : Bool). pick b (eqb left 0) false ≡ false) (contains-named (classBy reads level code) ∙ f .3) (fits .3) in
+            let o : pick true (eqb left 0) false ≡ false = subst (λ (b : Bool). pick b (eqb left 0) false ≡ false) (contains-named (classBy scope level code) ∙ f .3) (fits .3) in
             let q : len - (l - start) ≡ stop - l = omega (arith, f .4) in
             let q′ : i + (size + (l - start)) ≡ l = omega (arith, f .4) in
             let room : drop (l - start) body ≡ piece l stop r =
@@ -401,57 +402,57 @@ module _ (reads : Reads) (level left : ℕ) (own : paper.Owner) (a : ℕ) (r t�
             }
 
     -- reading it, by the class of its code, left this
-    module _ {class : Class} {t′ g′ : List ℕ} (x : Step) (is-named : class ≡ named (classBy reads level (le16 (drop i r) / 64)))
+    module _ {class : Class} {t′ g′ : List ℕ} (x : Step) (is-named : class ≡ named (classBy scope level (le16 (drop i r) / 64)))
         (read : stepped t′ g′ x ≡ tagAt class left a r i t j g w (headBy class left (drop i r))) where
-      read-is : stepped t′ g′ x ≡ tagAt (named (classBy reads level (le16 (drop i r) / 64))) left a r i t j g w (readHead (classBy reads level) left (drop i r))
-      read-is = read ∙ rw (is-named, head-by (classBy reads level) left (drop i r))
+      read-is : stepped t′ g′ x ≡ tagAt (named (classBy scope level (le16 (drop i r) / 64))) left a r i t j g w (readHead (classBy scope level) left (drop i r))
+      read-is = read ∙ rw (is-named, head-by (classBy scope level) left (drop i r))
 
       -- by what its header gives
-      by-head : (P : Stepped → Type 0) → ((e : ℕ) → readHead (classBy reads level) left (drop i r) ≡ noHead e → P (stepped t g (step.Fault e)))
-          → ((code len size : ℕ) → readHead (classBy reads level) left (drop i r) ≡ head code len size → P (tagAt (named (classBy reads level code)) left a r i t j g w (head code len size))) → P (stepped t′ g′ x)
-      by-head P f h = subst P (sym read-is) (go (readHead (classBy reads level) left (drop i r)) refl)
+      by-head : (P : Stepped → Type 0) → ((e : ℕ) → readHead (classBy scope level) left (drop i r) ≡ noHead e → P (stepped t g (step.Fault e)))
+          → ((code len size : ℕ) → readHead (classBy scope level) left (drop i r) ≡ head code len size → P (tagAt (named (classBy scope level code)) left a r i t j g w (head code len size))) → P (stepped t′ g′ x)
+      by-head P f h = subst P (sym read-is) (go (readHead (classBy scope level) left (drop i r)) refl)
         where
-          go : (d : paper.Head) → readHead (classBy reads level) left (drop i r) ≡ d → P (tagAt (named (classBy reads level (le16 (drop i r) / 64))) left a r i t j g w d)
+          go : (d : paper.Head) → readHead (classBy scope level) left (drop i r) ≡ d → P (tagAt (named (classBy scope level (le16 (drop i r) / 64))) left a r i t j g w d)
           go (noHead e) q = f e q
           go (head code len size) q =
               let u : (2 ≤ size) × (size + len ≤ length (drop i r)) × (code ≡ le16 (drop i r) / 64) =
-              subst (FitsBy (drop i r)) (sym (head-by (classBy reads level) left (drop i r)) ∙ q) (fits-by (named (classBy reads level (le16 (drop i r) / 64))) left (drop i r)) in
-              subst (λ (n : ℕ). P (tagAt (named (classBy reads level n)) left a r i t j g w (head code len size))) (u .2) (h code len size q)
+              subst (FitsBy (drop i r)) (sym (head-by (classBy scope level) left (drop i r)) ∙ q) (fits-by (named (classBy scope level (le16 (drop i r) / 64))) left (drop i r)) in
+              subst (λ (n : ℕ). P (tagAt (named (classBy scope level n)) left a r i t j g w (head code len size))) (u .2) (h code len size q)
 
       -- the lent tables keep their lengths
       pub tag-sizes : (length t′ ≡ length t₀) × (length g′ ≡ length g₀)
       tag-sizes = by-head (λ (s : Stepped). (length (s .table) ≡ length t₀) × (length (s .rows) ≡ length g₀)) (λ e q. (seen-table (from i) (going .seen), seen-rows (from i) (going .seen)))
           (λ code len size q. (seen-table _ (tag-seen q), seen-rows _ (tag-seen q)))
 
-      pub tag-fault : {e : ℕ} → x ≡ step.Fault e → listed t′ g′ (walked.Fault e (a + i)) ≡ laid t₀ k g₀ m all
+      pub tag-fault : {e : ℕ} → x ≡ step.Fault e → listed t′ g′ (walked.Fault e (a + i)) ≡ walkOver t₀ k g₀ m all
       tag-fault {e} =
-          by-head (λ (s : Stepped). s .step ≡ step.Fault e → listed (s .table) (s .rows) (walked.Fault e (a + i)) ≡ laid t₀ k g₀ m all)
+          by-head (λ (s : Stepped). s .step ≡ step.Fault e → listed (s .table) (s .rows) (walked.Fault e (a + i)) ≡ walkOver t₀ k g₀ m all)
           (λ e′ q z. let y : e ≡ e′ = cc in ap (λ (n : ℕ). listed t g (walked.Fault n (a + i))) y ∙ head-fault q)
           (λ code len size q z. stood-fault q _ refl z)
 
       pub tag-stops : {p n : ℕ} → x ≡ step.Last p n → p ≤ length r
       tag-stops {p} {n} =
-          by-head (λ (s : Stepped). s .step ≡ step.Last p n → p ≤ length r) (λ e q z. absurd (let z : _≡_ {A = ℕ} 0 1 = cc in omega arith)) (λ code len size q z. stood-stops q _ refl z)
+          by-head (λ (s : Stepped). s .step ≡ step.Last p n → p ≤ length r) (λ e q z. clash cc) (λ code len size q z. stood-stops q _ refl z)
 
-      pub tag-last : {p n : ℕ} {y : Walked} (o : Owner) → own ≡ ownerOf o → x ≡ step.Last p n → y ≡ lastOf o a p (length r) n (w + 5) → listed t′ g′ y ≡ laid t₀ k g₀ m all
+      pub tag-last : {p n : ℕ} {y : Walked} (o : Owner) → own ≡ ownerOf o → x ≡ step.Last p n → y ≡ lastOf o a p (length r) n (w + 5) → listed t′ g′ y ≡ walkOver t₀ k g₀ m all
       tag-last {p} {n} {y} o is =
-          by-head (λ (s : Stepped). s .step ≡ step.Last p n → y ≡ lastOf o a p (length r) n (w + 5) → listed (s .table) (s .rows) y ≡ laid t₀ k g₀ m all)
-          (λ e q z v. absurd (let z : _≡_ {A = ℕ} 0 1 = cc in omega arith)) (λ code len size q z v. stood-last q _ refl o is z v)
+          by-head (λ (s : Stepped). s .step ≡ step.Last p n → y ≡ lastOf o a p (length r) n (w + 5) → listed (s .table) (s .rows) y ≡ walkOver t₀ k g₀ m all)
+          (λ e q z v. clash cc) (λ code len size q z v. stood-last q _ refl o is z v)
 
       pub tag-next : {p n : ℕ} → x ≡ step.Next p n → (i < p) × Going t′ g′ p n (w + 5)
       tag-next {p} {n} =
-          by-head (λ (s : Stepped). s .step ≡ step.Next p n → (i < p) × Going (s .table) (s .rows) p n (w + 5)) (λ e q z. absurd (let z : _≡_ {A = ℕ} 0 1 = cc in omega arith))
+          by-head (λ (s : Stepped). s .step ≡ step.Next p n → (i < p) × Going (s .table) (s .rows) p n (w + 5)) (λ e q z. clash cc)
           (λ code len size q z. stood-next q _ refl z)
 
       pub tag-open : {l p n : ℕ} → x ≡ step.Open l p n → Opens t′ g′ i l p n (w + 5)
       tag-open {l} {p} {n} =
-          by-head (λ (s : Stepped). s .step ≡ step.Open l p n → Opens (s .table) (s .rows) i l p n (w + 5)) (λ e q z. absurd (let z : _≡_ {A = ℕ} 0 1 = cc in omega arith))
+          by-head (λ (s : Stepped). s .step ≡ step.Open l p n → Opens (s .table) (s .rows) i l p n (w + 5)) (λ e q z. clash cc)
           (λ code len size q z. stood-open q _ refl z)
 
       -- and its list was read from there
       module _ {l p n : ℕ} (z : x ≡ step.Open l p n) where
         abbrev R′ : Walk
-        R′ = walkList high (classBy reads level) (pred left) (paper.inside (a + i)) (a + l) (piece l p r)
+        R′ = walkList high (classBy scope level) (pred left) (paper.inside (a + i)) (a + l) (piece l p r)
 
         pub open-bounds : Bounds left a (length r) k m → Bounds (left - 1) (a + l) (length (piece l p r)) n (w + 5)
         open-bounds b =
@@ -465,8 +466,8 @@ module _ (reads : Reads) (level left : ℕ) (own : paper.Owner) (a : ℕ) (r t�
               row = omega (arith, b .row, b .place, v .1, o .deep, b .depth);
             }
 
-        module _ {t″ g″ : List ℕ} (y : Walked) (done : listed t″ g″ y ≡ laid t′ n g′ (w + 5) (walkList high (classBy reads level) (left - 1) (paper.inside (a + i)) (a + l) (piece l p r))) where
-          read-inner : listed t″ g″ y ≡ laid t′ n g′ (w + 5) R′
+        module _ {t″ g″ : List ℕ} (y : Walked) (done : listed t″ g″ y ≡ walkOver t′ n g′ (w + 5) (walkList high (classBy scope level) (left - 1) (paper.inside (a + i)) (a + l) (piece l p r))) where
+          read-inner : listed t″ g″ y ≡ walkOver t′ n g′ (w + 5) R′
           read-inner = rw (pred-is left) done
 
           pub open-sizes : (length t″ ≡ length t₀) × (length g″ ≡ length g₀)
@@ -478,5 +479,5 @@ module _ (reads : Reads) (level left : ℕ) (own : paper.Owner) (a : ℕ) (r t�
           pub open-next : {j′ w′ : ℕ} → y ≡ walked.Next j′ w′ → (i < p) × Going t″ g″ p j′ w′
           open-next e = (tag-open z .ahead, record { inside = tag-open z .inside; seen = inner-next R′ (from p) (tag-open z .seen) (ap (listed t″ g″) (sym e) ∙ read-inner) })
 
-          pub open-fault : {e o : ℕ} → y ≡ walked.Fault e o → listed t″ g″ y ≡ laid t₀ k g₀ m all
+          pub open-fault : {e o : ℕ} → y ≡ walked.Fault e o → listed t″ g″ y ≡ walkOver t₀ k g₀ m all
           open-fault e = ap (listed t″ g″) e ∙ inner-fault R′ (from p) (tag-open z .seen) (ap (listed t″ g″) (sym e) ∙ read-inner)

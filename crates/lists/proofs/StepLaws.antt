@@ -11,12 +11,12 @@ use Rattle.bits.specs.declared.BitPlace.{BitPlace}
 use Rattle.format.specs.Reading.{At, Fault}
 use Rattle.format.specs.FileAndTags as paper
 use Rattle.format.specs.FileAndTags.{blame}
-use Rattle.table.specs.State.{State, after}
-use Rattle.table.specs.Run.{left}
+use Rattle.table.specs.State.{State, shownOver}
+use Rattle.table.specs.Run.{runLeaves}
 use Rattle.table.specs.declared.Run.{Run}
 use Rattle.table.specs.declared.Run.the-variants.{Done, Stop}
 use Rattle.classes.specs.declared.Class.{Class}
-use Rattle.headers.specs.Heads.{seenHead, headBy}
+use Rattle.headers.specs.Heads.{headOf, headBy}
 use Rattle.headers.specs.declared.Head.{Head}
 use Rattle.headers.specs.declared.Head.the-variants as heads
 use Rattle.headers.proofs.HeadLaws.{FitsBy, fits-by}
@@ -34,43 +34,43 @@ stepped-eq : {t t′ g g′ : List ℕ} {x x′ : Step} → t ≡ t′ → g ≡
 stepped-eq p q r = λ i. record { table = p i; rows = q i; step = r i }
 
 -- the tag at i of the list r at place a; H is its header, by its class
-module _ (class : Class) (depths a : ℕ) (r : List ℕ) (i : ℕ) (t : List ℕ) (k : ℕ) (g : List ℕ) (m : ℕ) (H : paper.Head) {h : Head} (at : seenHead h ≡ H) where
+module _ (class : Class) (depths a : ℕ) (r : List ℕ) (i : ℕ) (t : List ℕ) (k : ℕ) (g : List ℕ) (m : ℕ) (H : paper.Head) {h : Head} (at : headOf h ≡ H) where
   -- the header is refused
   pub tag-none : {e : ℕ} → h ≡ heads.Fault e → stepped t g (step.Fault e) ≡ tagAt class depths a r i t k g m H
-  tag-none {e} is = ap (tagAt class depths a r i t k g m) (sym (ap seenHead is) ∙ at)
+  tag-none {e} is = ap (tagAt class depths a r i t k g m) (sym (ap headOf is) ∙ at)
 
   -- it stands in the room with its body
   pub tag-stands : {code len size : ℕ} → H ≡ headBy class depths (drop i r) → h ≡ heads.Tag code len size → (i ≤ length r) → i + size + len ≤ length r
   tag-stands e is l =
-      let u : FitsBy (drop i r) (paper.head _ _ _) = subst (FitsBy (drop i r)) (sym e ∙ sym at ∙ ap seenHead is) (fits-by class depths (drop i r)) in
+      let u : FitsBy (drop i r) (paper.head _ _ _) = subst (FitsBy (drop i r)) (sym e ∙ sym at ∙ ap headOf is) (fits-by class depths (drop i r)) in
       omega (arith, u .1, length-drop i r)
 
   -- it passes, and the row and the numbers are stored
   module _ {code len size start stop : ℕ} {body g′ t′ : List ℕ} (R : Run) (is : h ≡ heads.Tag code len size) (begin : start ≡ i + size) (end : stop ≡ start + len)
-      (part : body ≡ take (stop - start) (drop start r)) (row : g′ ≡ sets g m ((8 - depths) ∷ code ∷ (a + i) ∷ size ∷ len ∷ [])) (ran : left t′ R ≡ after t k (tagShown class code body)) where
+      (part : body ≡ take (stop - start) (drop start r)) (row : g′ ≡ sets g m ((8 - depths) ∷ code ∷ (a + i) ∷ size ∷ len ∷ [])) (ran : runLeaves t′ R ≡ shownOver t k (tagShown class code body)) where
     body-is : body ≡ take len (drop size (drop i r))
     body-is =
         let n : stop - start ≡ len = omega arith in
         part ∙ rw (n, begin) (ap (take len) (sym (drop-drop size i r)))
 
     head-is : paper.head code len size ≡ H
-    head-is = sym (ap seenHead is) ∙ at
+    head-is = sym (ap headOf is) ∙ at
 
-    ran-is : left t′ R ≡ after t k (tagShown class code (take len (drop size (drop i r))))
-    ran-is = ran ∙ ap (λ (b : List ℕ). after t k (tagShown class code b)) body-is
+    ran-is : runLeaves t′ R ≡ shownOver t k (tagShown class code (take len (drop size (drop i r))))
+    ran-is = ran ∙ ap (λ (b : List ℕ). shownOver t k (tagShown class code b)) body-is
 
-    tag-done : {x : Step} → x ≡ stepOf class start stop (left t′ R .count) (left t′ R .ended) → stepped t′ g′ x ≡ tagAt class depths a r i t k g m H
-    unfolding after
+    tag-done : {x : Step} → x ≡ stepOf class start stop (runLeaves t′ R .count) (runLeaves t′ R .ended) → stepped t′ g′ x ≡ tagAt class depths a r i t k g m H
+    unfolding shownOver
     tag-done {x} e =
         let b : start + len ≡ i + size + len = omega arith in
         stepped-eq (ap (λ (s : State). s .table) ran-is) row (e ∙ ap (λ (s : State). stepOf class start stop (s .count) (s .ended)) ran-is ∙ rw (end, b, begin))
         ∙ ap (tagAt class depths a r i t k g m) head-is
 
     pub tag-stop : {e j : ℕ} → R ≡ Stop e j → stepped t′ g′ (step.Fault e) ≡ tagAt class depths a r i t k g m H
-    tag-stop e = tag-done (ap (λ (q : Run). stepOf class start stop (left t′ q .count) (left t′ q .ended)) (sym e))
+    tag-stop e = tag-done (ap (λ (q : Run). stepOf class start stop (runLeaves t′ q .count) (runLeaves t′ q .ended)) (sym e))
 
     pub tag-shown : {p : BitPlace} {j : ℕ} {x : Step} → R ≡ Done p j → x ≡ stepBy class (start + p .0 / 8) stop j → stepped t′ g′ x ≡ tagAt class depths a r i t k g m H
-    tag-shown e f = tag-done (f ∙ ap (λ (q : Run). stepOf class start stop (left t′ q .count) (left t′ q .ended)) (sym e))
+    tag-shown e f = tag-done (f ∙ ap (λ (q : Run). stepOf class start stop (runLeaves t′ q .count) (runLeaves t′ q .ended)) (sym e))
 
 -- after End
 pub last-whole : (own : Owner) (a stop room k m : ℕ) → stop ≡ room → walked.Next k m ≡ lastOf own a stop room k m

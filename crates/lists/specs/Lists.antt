@@ -14,7 +14,7 @@ use Rattle.classes.specs.declared.Class.{Class}
 use Rattle.classes.specs.declared.Class.the-variants.{Opaque, End, Container, Fixed, Attributes}
 use Rattle.tags.specs.Shown.{stateOf, valuesOf, headed}
 use Rattle.lists.specs.declared.Owner.{Owner}
-use Rattle.lists.specs.declared.Owner.the-variants.{File, Inside}
+use Rattle.lists.specs.declared.Owner.the-variants.{File, Container}
 use Rattle.lists.specs.declared.Walked.{Walked}
 use Rattle.lists.specs.declared.Walked.the-variants as walked
 use Rattle.lists.specs.declared.Step.{Step}
@@ -22,7 +22,7 @@ use Rattle.lists.specs.declared.Step.the-variants as step
 
 abbrev pub ownerOf : Owner → paper.Owner
 ownerOf File = paper.file
-ownerOf (Inside c) = paper.inside c
+ownerOf (Container c) = paper.inside c
 
 -- ---- one tag
 
@@ -77,8 +77,8 @@ walkedOf k m whole = walked.Next k m
 walkedOf k m (fault e n) = walked.Fault e n
 
 -- a walk's numbers laid over the table t from index k on, and its rows over the tag table g from index m on; what does not fit is dropped
-abbrev pub laid : List ℕ → ℕ → List ℕ → ℕ → Walk → Listed
-laid t k g m w =
+abbrev pub walkOver : List ℕ → ℕ → List ℕ → ℕ → Walk → Listed
+walkOver t k g m w =
     listed (sets t k (numbers (w .tags))) (sets g m (tagTable (w .tags)))
     (walkedOf (k + length (numbers (w .tags))) (m + length (tagTable (w .tags))) (w .ended))
 

@@ -3,19 +3,19 @@ ghost use mathlib.Core.Path.{_≡_};
 ghost use Prim.Native.Nat.{_+_, _<_, _≤_, _^_};
 ghost use lib.ListN.{length, drop};
 ghost use Rattle.format.specs.Bits.{high};
-ghost use Rattle.format.specs.FileAndTags.{blame as «blameOf», walkList};
+ghost use Rattle.format.specs.FileAndTags.{blame as blameOf, walkList};
 ghost use Rattle.classes.specs.Classes.{classBy};
 ghost use Rattle.headers.specs.Heads.{headBy};
-ghost use Rattle.lists.specs.Lists.{ownerOf, listed, laid, stepBy, stepped, tagAt, lastOf, Bounds};
+ghost use Rattle.lists.specs.Lists.{ownerOf, listed, walkOver, stepBy, stepped, tagAt, lastOf, Bounds};
 use classes::Class;
-use classes::Reads;
+use classes::Scope;
 use headers::Head;
 use table::Run;
 
 // Whose list it is: the file's own, or that of the container at this place.
 pub enum Owner {
     File,
-    Inside(usize),
+    Container(usize),
 }
 
 // After a list: the next index of the table and of the tag table; or a reason and its second number.
@@ -35,11 +35,11 @@ pub enum Step {
 
 // The second number of 7 and 11: the container's place; at depth 0 the place where it happened.
 fn blame(own: Owner, at: usize) -> usize
-    ensures { λ r. ⌜ r ≡ «blameOf» (ownerOf own) at ⌝ }
+    ensures { λ r. ⌜ r ≡ blameOf (ownerOf own) at ⌝ }
 {
     match own {
         Owner::File => at,
-        Owner::Inside(place) => place,
+        Owner::Container(place) => place,
     }
 }
 
@@ -101,7 +101,7 @@ fn read_tag(
 // The list at place a, whose room is r; `left` depths may lie below it. Its numbers go to the table t from index k on, its rows to the tag table g
 // from index m on, where there is room. Where only lists are read, a body that has no list in it is taken as it stands: nothing in it is judged.
 pub fn read_list(
-    reads: Reads,
+    scope: Scope,
     level: u32,
     left: u32,
     own: Owner,
@@ -113,7 +113,7 @@ pub fn read_list(
     m: usize,
 ) -> Walked
     requires { ⌜ Bounds left a (length (now r)) k m ⌝ }
-    ensures { λ x. ⌜ listed (now (t .exit)) (now (g .exit)) x ≡ laid (now (t .entry)) k (now (g .entry)) m (walkList high (classBy reads level) left (ownerOf own) a (now (r .entry))) ⌝ }
+    ensures { λ x. ⌜ listed (now (t .exit)) (now (g .exit)) x ≡ walkOver (now (t .entry)) k (now (g .entry)) m (walkList high (classBy scope level) left (ownerOf own) a (now (r .entry))) ⌝ }
 {
     let classes = classes::all();
     let n = r.len();
@@ -125,7 +125,7 @@ pub fn read_list(
         let row = w + 5;
         let code = headers::code_at(r, i);
         let listed = classes[(code / 32) as usize][(code % 32) as usize];
-        let class = classes::taken_as(reads, classes::at_level(level, code, listed));
+        let class = classes::taken_as(scope, classes::at_level(level, code, listed));
         match read_tag(class, left, a, r, i, t, j, g, w) {
             Step::Fault(why) => {
                 return Walked::Fault(why, place);
@@ -139,9 +139,9 @@ pub fn read_list(
                 w = row;
             }
             Step::Open(list, stop, next) => {
-                let at = Owner::Inside(place);
+                let at = Owner::Container(place);
                 let inner = &r[list..stop];
-                let x = read_list(reads, level, left - 1, at, a + list, inner, t, next, g, row);
+                let x = read_list(scope, level, left - 1, at, a + list, inner, t, next, g, row);
                 let Walked::Next(j2, w2) = x else {
                     return x;
                 };

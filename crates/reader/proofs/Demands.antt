@@ -16,6 +16,7 @@ use Rattle.format.specs.Reasons as paper
 use Rattle.format.specs.Reasons.{walkFile, Result, gives, refuses, result, readFile, readTags, Left, accepts, refusesWith, into}
 use Rattle.format.specs.Levels.{Levels, Refuses, InHidden, alike, apart, hide}
 use Rattle.format.proofs.LevelLaws.{levels}
+use Rattle.format.proofs.Absurd.{clash}
 use Rattle.answers.specs.Answers.{leaves}
 use Rattle.answers.specs.declared.Answer.{Answer}
 use Rattle.answers.specs.declared.Answer.the-variants.{Accepted, Refused}
@@ -37,7 +38,7 @@ tags-one level f m m′ m″ r s p q = leaves-one m′ m″ r s (p ∙ sym q)
 
 -- a refusal is no acceptance
 other : {e n k : ℕ} → paper.refused e n ≡ paper.accepted k → ⊥
-other a = let z : _≡_ {A = ℕ} 0 1 = cc in omega arith
+other a = clash cc
 
 -- ---- demand 1: a refusal writes nothing. Demand 2: an acceptance gives exactly the numbers that are defined, and the memory past them stays
 module _ (m m′ : List ℕ) (R : Result) where

@@ -15,12 +15,13 @@ use Rattle.format.specs.FileAndTags.{le32, signatureRight, versionRight, classO
 use Rattle.format.specs.TableOfNumbers.{numbers, table, tagTable}
 use Rattle.format.specs.Reasons.{startFault, walkFile, gives, refuses, result, readFile, readTags, into}
 use Rattle.format.proofs.LevelLaws.{long-file}
+use Rattle.format.proofs.Absurd.{clash}
 use Rattle.answers.specs.Answers.{leaves}
 use Rattle.answers.specs.declared.Answer.the-variants.{Accepted, Refused}
 use Rattle.classes.specs.Classes.{classBy}
-use Rattle.classes.specs.declared.Reads.{Reads}
-use Rattle.classes.specs.declared.Reads.the-variants.{Lists}
-use Rattle.lists.specs.Lists.{Listed, listed, walkedOf, laid, Bounds}
+use Rattle.classes.specs.declared.Scope.{Scope}
+use Rattle.classes.specs.declared.Scope.the-variants.{Lists}
+use Rattle.lists.specs.Lists.{Listed, listed, walkedOf, walkOver, Bounds}
 use Rattle.lists.specs.declared.Walked.{Walked}
 use Rattle.lists.specs.declared.Walked.the-variants.{Next, Fault}
 use Rattle.lists.proofs.ListLaws.{piece, piece-rest, length-piece}
@@ -89,10 +90,10 @@ module _ (level : ℕ) (f : List ℕ) where
   pub tags-bounds : 9 ≤ length f → length f ≤ 16777216 → Bounds 8 9 (length (piece 9 (length f) f)) 1 0
   tags-bounds l h = record { depth = omega arith; place = omega (arith, length-piece 9 (length f) f (omega arith)); index = omega arith; row = omega arith }
 
-  pub tags-read : (reads : Reads) (t g : List ℕ) {x : Listed} → x ≡ laid t 1 g 0 (walkList high (classBy reads level) 8 file 9 (piece 9 (length f) f)) → x ≡ laid t 1 g 0 (walkList high (classBy reads level) 8 file 9 (drop 9 f))
-  tags-read reads t g e = e ∙ ap (λ (r : List ℕ). laid t 1 g 0 (walkList high (classBy reads level) 8 file 9 r)) (piece-rest 9 f)
+  pub tags-read : (scope : Scope) (t g : List ℕ) {x : Listed} → x ≡ walkOver t 1 g 0 (walkList high (classBy scope level) 8 file 9 (piece 9 (length f) f)) → x ≡ walkOver t 1 g 0 (walkList high (classBy scope level) 8 file 9 (drop 9 f))
+  tags-read scope t g e = e ∙ ap (λ (r : List ℕ). walkOver t 1 g 0 (walkList high (classBy scope level) 8 file 9 r)) (piece-rest 9 f)
 
-  pub survey-walk : (t g : List ℕ) {t′ g′ : List ℕ} {x : Walked} → startFault level f ≡ 0 → listed t′ g′ x ≡ laid t 1 g 0 (walkList high (classOf level) 8 file 9 (drop 9 f)) → x ≡ surveyed (walkFile high level f)
+  pub survey-walk : (t g : List ℕ) {t′ g′ : List ℕ} {x : Walked} → startFault level f ≡ 0 → listed t′ g′ x ≡ walkOver t 1 g 0 (walkList high (classOf level) 8 file 9 (drop 9 f)) → x ≡ surveyed (walkFile high level f)
   survey-walk t g z e = ap (λ (l : Listed). l .answer) e ∙ rw (zero-add, walk-is z)
 
   -- ---- what it tells
@@ -120,11 +121,11 @@ module _ (level : ℕ) (f : List ℕ) where
     where
       go : (z : Outcome) → Next k m ≡ walkedOf (1 + length (numbers (w .tags))) (length (tagTable (w .tags))) z → (z ≡ whole) × (k ≡ length (table f w)) × (m ≡ length (tagTable (w .tags)))
       go whole q = (refl, (let z : k ≡ 1 + length (numbers (w .tags)) = cc in omega arith), cc)
-      go (fault e n) q = absurd (let z : _≡_ {A = ℕ} 0 1 = cc in omega arith)
+      go (fault e n) q = clash cc
 
       from : (c : Bool) → eqb (startFault level f) 0 ≡ c → Next k m ≡ surveyed (pick c (walkList high (classOf level) 8 file 9 (drop 9 f)) (broken (startFault level f) 0)) → startFault level f ≡ 0
       from true e q = eqb-true (startFault level f) 0 e
-      from false e q = absurd (let z : _≡_ {A = ℕ} 0 1 = cc in omega arith)
+      from false e q = clash cc
 
 -- ---- what a call leaves: the lent memory m, and the numbers ns for it
 module _ (m ns : List ℕ) where
@@ -153,13 +154,13 @@ module _ (level : ℕ) (f m : List ℕ) where
 
   -- the compression byte c was stored first
   pub read-done : {k j c : ℕ} (g : List ℕ) {t g′ : List ℕ} {x : Walked} → Next k j ≡ surveyed (walkFile high level f) → k ≤ length m → c ≡ getD f 8 0
-      → listed t g′ x ≡ laid (set m 0 c) 1 g 0 (walkList high (classOf level) 8 file 9 (drop 9 f)) → leaves t (Accepted k) ≡ into m (readFile high level f)
+      → listed t g′ x ≡ walkOver (set m 0 c) 1 g 0 (walkList high (classOf level) 8 file 9 (drop 9 f)) → leaves t (Accepted k) ≡ into m (readFile high level f)
   read-done g q h e d =
       let u : Found level f _ _ = survey-found level f q in
       laid-in m (table f (walkFile high level f)) (u .numbers-are) h (ap (λ (l : Listed). l .table) d ∙ rw (e, walk-is level f (u .start))) ∙ ap (into m) (sym (read-is u))
 
   -- the lent memory keeps its length
-  pub read-size : {c : ℕ} (g : List ℕ) {t g′ : List ℕ} {x : Walked} → c ≡ getD f 8 0 → listed t g′ x ≡ laid (set m 0 c) 1 g 0 (walkList high (classOf level) 8 file 9 (drop 9 f)) → length t ≡ length m
+  pub read-size : {c : ℕ} (g : List ℕ) {t g′ : List ℕ} {x : Walked} → c ≡ getD f 8 0 → listed t g′ x ≡ walkOver (set m 0 c) 1 g 0 (walkList high (classOf level) 8 file 9 (drop 9 f)) → length t ≡ length m
   read-size {c} g h e =
       ap (λ (l : Listed). length (l .table)) e ∙ length-sets (set m 0 c) 1 (numbers (walkList high (classOf level) 8 file 9 (drop 9 f) .tags)) ∙ length-set m 0 c
 
@@ -177,7 +178,7 @@ module _ (level : ℕ) (f m : List ℕ) where
 
   -- the run that fills read the lists alone
   pub tags-done : {k j : ℕ} (t : List ℕ) {t′ g : List ℕ} {x : Walked} → Next k j ≡ surveyed (walkFile high level f) → j ≤ length m
-      → listed t′ g x ≡ laid t 1 m 0 (walkList high (classBy Lists level) 8 file 9 (drop 9 f)) → leaves g (Accepted j) ≡ into m (readTags high level f)
+      → listed t′ g x ≡ walkOver t 1 m 0 (walkList high (classBy Lists level) 8 file 9 (drop 9 f)) → leaves g (Accepted j) ≡ into m (readTags high level f)
   tags-done t q h d =
       let u : Found level f _ _ = survey-found level f q in
       let e : walkList high (classOf level) 8 file 9 (drop 9 f) .ended ≡ whole = ap (λ (w : Walk). w .ended) (sym (walk-is level f (u .start))) ∙ u .ended in

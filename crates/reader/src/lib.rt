@@ -3,14 +3,14 @@ ghost use mathlib.Core.Path.{_≡_};
 ghost use Prim.Native.Nat.{_≤_};
 ghost use lib.ListN.{length, drop};
 ghost use Rattle.format.specs.Bits.{high};
-ghost use Rattle.format.specs.FileAndTags.{file as «ownFile», walkList};
+ghost use Rattle.format.specs.FileAndTags.{file as ownFile, walkList};
 ghost use Rattle.format.specs.Reasons.{startFault, walkFile, readFile, readTags, into};
 ghost use Rattle.answers.specs.Answers.{leaves};
 ghost use Rattle.classes.specs.Classes.{classBy};
-ghost use Rattle.lists.specs.Lists.{listed, laid};
+ghost use Rattle.lists.specs.Lists.{listed, walkOver};
 ghost use Rattle.reader.specs.Survey.{surveyed};
 use answers::Answer;
-use classes::Reads;
+use classes::Scope;
 use lists::Owner;
 use lists::Walked;
 
@@ -44,11 +44,11 @@ fn start_fault(level: u32, file: &[u8]) -> u32
 }
 
 // The tags at depth 0, which follow the header's nine bytes; eight depths may lie below them. The compression byte stands before their numbers.
-fn read_tags(reads: Reads, level: u32, file: &[u8], t: &mut [u64], g: &mut [u32]) -> Walked
+fn read_tags(scope: Scope, level: u32, file: &[u8], t: &mut [u64], g: &mut [u32]) -> Walked
     requires { ⌜ (9 ≤ length (now file)) × (length (now file) ≤ 16777216) ⌝ }
-    ensures { λ x. ⌜ listed (now (t .exit)) (now (g .exit)) x ≡ laid (now (t .entry)) 1 (now (g .entry)) 0 (walkList high (classBy reads level) 8 «ownFile» 9 (drop 9 (now (file .entry)))) ⌝ }
+    ensures { λ x. ⌜ listed (now (t .exit)) (now (g .exit)) x ≡ walkOver (now (t .entry)) 1 (now (g .entry)) 0 (walkList high (classBy scope level) 8 ownFile 9 (drop 9 (now (file .entry)))) ⌝ }
 {
-    lists::read_list(reads, level, 8, Owner::File, 9, &file[9..], t, 1, g, 0)
+    lists::read_list(scope, level, 8, Owner::File, 9, &file[9..], t, 1, g, 0)
 }
 
 // The run that counts: nothing is lent to it, so it finds the refusal, or how many numbers there are in the two tables.
@@ -61,7 +61,7 @@ fn survey(level: u32, file: &[u8]) -> Walked
     }
     let mut t = [0u64; 1];
     let mut g = [0u32; 1];
-    read_tags(Reads::All, level, file, &mut t[..0], &mut g[..0])
+    read_tags(Scope::All, level, file, &mut t[..0], &mut g[..0])
 }
 
 // Reads a file into the table of numbers.
@@ -76,7 +76,7 @@ pub fn read(level: u32, file: &[u8], table: &mut [u64]) -> Answer
             }
             table[0] = bits::byte_at(file, 8);
             let mut none = [0u32; 1];
-            read_tags(Reads::All, level, file, table, &mut none[..0]);
+            read_tags(Scope::All, level, file, table, &mut none[..0]);
             Answer::Accepted(k as u64)
         }
     }
@@ -93,7 +93,7 @@ pub fn tags(level: u32, file: &[u8], tags: &mut [u32]) -> Answer
                 return Answer::Refused(19, m as u64);
             }
             let mut none = [0u64; 1];
-            read_tags(Reads::Lists, level, file, &mut none[..0], tags);
+            read_tags(Scope::Lists, level, file, &mut none[..0], tags);
             Answer::Accepted(m as u64)
         }
     }

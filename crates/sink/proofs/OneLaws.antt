@@ -2,10 +2,10 @@
 use Prim.Native.Nat.{ℕ}
 use mathlib.Core.List.{List}
 use mathlib.Core.Path.{_≡_, refl, ap, sym, _∙_}
-use native.Mathlib.Omega.{arith}
 use Rattle.sink.specs.Lain.{Lain, lain, unlain, lainAs}
 use Rattle.sink.specs.declared.Body.{Body}
 use Rattle.sink.specs.declared.Body.the-variants.{To, No}
+use Rattle.format.proofs.Absurd.{clash}
 
 -- two answers with their outputs, of which at most the outputs differ, and these only where nothing was written
 abbrev Same : List ℕ → Body → List ℕ → Body → Type 0
@@ -17,6 +17,6 @@ lain-one u a v b e d = go a b (e ∙ sym d)
   where
     go : (a b : Body) → lainAs u a ≡ lainAs v b → Same u a v b
     go (To p) (To q) f = (cc, (let z : p ≡ q = cc in ap To z))
-    go (To p) No f = absurd (let z : _≡_ {A = ℕ} 0 1 = cc in omega arith)
-    go No (To q) f = absurd (let z : _≡_ {A = ℕ} 0 1 = cc in omega arith)
+    go (To p) No f = clash cc
+    go No (To q) f = clash cc
     go No No f = refl

@@ -5,7 +5,7 @@ ghost use lib.ListN.{set};
 ghost use Rattle.format.specs.Bits.{high};
 ghost use Rattle.format.specs.Items.{skipped};
 ghost use Rattle.format.specs.WritingItems.{dig};
-ghost use Rattle.sink.specs.Laying.{at as «under», lay, Holds, Skipped};
+ghost use Rattle.sink.specs.Laying.{at as under, lay, Holds, Skipped};
 use bits::BitPlace;
 use bits::BytePlace;
 
@@ -48,7 +48,7 @@ pub fn power(n: usize) -> u64
 // A field of w bits: those that wait and these, a byte at a time.
 pub fn put_bits(out: &mut [u8], s: Sink, v: u64, w: usize) -> Sink
     requires { ⌜ Holds (s .place .0) (s .part) × (s .place .0 ≤ 2 ^ 60) × (w ≤ 32) × (v < 2 ^ w) ⌝ }
-    ensures { λ r. ⌜ «under» (now (out .exit)) r ≡ lay («under» (now (out .entry)) s) (dig high w v) ⌝ }
+    ensures { λ r. ⌜ under (now (out .exit)) r ≡ lay (under (now (out .entry)) s) (dig high w v) ⌝ }
 {
     let p = s.place.0;
     let a = s.part;
@@ -74,7 +74,7 @@ pub fn put_bits(out: &mut [u8], s: Sink, v: u64, w: usize) -> Sink
 // The next whole byte: zero bits up to it.
 pub fn align(out: &mut [u8], s: Sink) -> Whole
     requires { ⌜ Holds (s .place .0) (s .part) × (s .place .0 ≤ 2 ^ 60) ⌝ }
-    ensures { λ r. ⌜ Skipped («under» (now (out .entry)) s) (now (out .exit)) (r .byte .0) (r .bit .0) ⌝ }
+    ensures { λ r. ⌜ Skipped (under (now (out .entry)) s) (now (out .exit)) (r .byte .0) (r .bit .0) ⌝ }
 {
     let p = s.place.0;
     let i = p / 8;

@@ -17,7 +17,7 @@ use Rattle.format.proofs.ByteLaws.{has-pack, length-pack}
 use Rattle.format.proofs.ItemLaws.{round-trip}
 use Rattle.format.proofs.Trip.{has-split, There, ThereIf, Back}
 use Rattle.sink.specs.Laying.{State}
-use Rattle.spelling.specs.Writing.{after, ran}
+use Rattle.spelling.specs.Writing.{writtenOver, ran}
 
 -- the same bits are there
 bit-one : (x y : Bool) → bit x ≡ bit y → x ≡ y
@@ -81,4 +81,4 @@ written-alike f g alike ns p = go (unrun high f ns p) refl (unrun high g ns p) r
 
 pub ran-alike : (t : List ℕ) (st : State) (k : ℕ) (f g : Format) → ((b : List ℕ) (p : ℕ) → run high b f p ≡ run high b g p) → ran t st k f ≡ ran t st k g
 unfolding ran
-ran-alike t st k f g alike = ap (after st k) (written-alike f g alike (drop k t) (st .place))
+ran-alike t st k f g alike = ap (writtenOver st k) (written-alike f g alike (drop k t) (st .place))

@@ -24,7 +24,7 @@ use Rattle.sink.specs.Laying.{State, mk, at, lay, Holds, Skipped}
 use Rattle.sink.specs.declared.Sink.{Sink}
 use Rattle.sink.proofs.LayingLaws.{lay-append, lay-pack, lay-place}
 use Rattle.spelling.specs.Ends.{skippedTo, concluded, FineAfter}
-use Rattle.spelling.specs.Writing.{Seen, here, gone, seen, ends, after, ran, limit, Fine}
+use Rattle.spelling.specs.Writing.{Seen, here, gone, seen, ends, writtenOver, ran, limit, Fine}
 use Rattle.spelling.specs.declared.Put.{Put}
 use Rattle.spelling.specs.declared.Put.the-variants.{Done, Impossible}
 use Rattle.spelling.proofs.RunLaws.{ends-in, ends-out, parts, ran-fine, skip-le}
@@ -48,8 +48,8 @@ module _ (f : Format) (vs : List ℕ) where
     close (here s k) = pick (eqb k (length vs)) (lain (s .bytes) (s .place / 8)) unlain
     close gone = unlain
 
-    any-end : lies o a (packed high (unrun high (front f) vs 0)) ≡ close (after st 0 (unrun high (front f) vs 0))
-    unfolding lies after ends st close
+    any-end : lies o a (packed high (unrun high (front f) vs 0)) ≡ close (writtenOver st 0 (unrun high (front f) vs 0))
+    unfolding lies writtenOver ends st close
     any-end = go (unrun high (front f) vs 0) refl
       where
         wrote-so : (xs : List ℕ) (bs : List Bool) (ys : List ℕ) → vs ≡ xs ++ ys → length bs % 8 ≡ 0 → (c : Bool) → leb (lay st bs .place) limit ≡ c
@@ -83,13 +83,13 @@ module _ (f : Format) (vs : List ℕ) where
             rw n
         wrote-so xs bs (z ∷ ys) e m false q = refl
 
-        go : (w : Written) → unrun high (front f) vs 0 ≡ w → lies o a (packed high w) ≡ close (after st 0 w)
+        go : (w : Written) → unrun high (front f) vs 0 ≡ w → lies o a (packed high w) ≡ close (writtenOver st 0 w)
         go cannot e = refl
         go (wrote xs bs ys) e = wrote-so xs bs ys (parts (front f) vs 0 xs ys bs e) (whole xs bs ys e) (leb (lay st bs .place) limit) refl
 
     -- as the code put it, and then the skip
-    skip-last : close (after st 0 (unrun high (front f) vs (8 * a))) ≡ concluded (length vs) (ran vs st 0 f)
-    unfolding ran unrun writeItem after ends st close
+    skip-last : close (writtenOver st 0 (unrun high (front f) vs (8 * a))) ≡ concluded (length vs) (ran vs st 0 f)
+    unfolding ran unrun writeItem writtenOver ends st close
     skip-last = go (unrun high f vs (8 * a))
       where
         lim : (xs : List ℕ) (bs : List Bool) (c : Bool) → leb (lay st bs .place) limit ≡ c
@@ -105,13 +105,13 @@ module _ (f : Format) (vs : List ℕ) where
             ap close (ends-out (lay st (bs ++ dig high (skipped (8 * a + length bs)) 0)) (0 + length (xs ++ []))
             (omega (arith, leb-false (lay st bs .place) limit q, lay-place st bs, lay-place st (bs ++ dig high (skipped (8 * a + length bs)) 0), length-append bs (dig high (skipped (8 * a + length bs)) 0))))
 
-        go : (w : Written) → close (after st 0 (onward w (8 * a) (λ xs ys q. wrote [] (dig high (skipped q) 0) ys))) ≡ concluded (length vs) (after st 0 w)
+        go : (w : Written) → close (writtenOver st 0 (onward w (8 * a) (λ xs ys q. wrote [] (dig high (skipped q) 0) ys))) ≡ concluded (length vs) (writtenOver st 0 w)
         go cannot = refl
         go (wrote xs bs ys) = lim xs bs (leb (lay st bs .place) limit) refl
 
     pub front-law : lies o a (packed high (unrun high (front f) vs 0)) ≡ concluded (length vs) (ran vs (mk o (8 * a) 0) 0 f)
     unfolding st
-    front-law = any-end ∙ ap (λ (w : Written). close (after st 0 w)) (sym (shifted a)) ∙ skip-last
+    front-law = any-end ∙ ap (λ (w : Written). close (writtenOver st 0 w)) (sym (shifted a)) ∙ skip-last
 
     -- as the code has it
     pub front-done : {x : Lain} {s : Seen} → x ≡ concluded (length vs) s → s ≡ ran vs (mk o (8 * a) 0) 0 f → x ≡ lies o a (packed high (unrun high (front f) vs 0))

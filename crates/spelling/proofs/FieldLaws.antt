@@ -21,6 +21,7 @@ use Rattle.table.specs.Fields.{allows, fieldOf, signed, announces, announced}
 use Rattle.table.specs.declared.fields.Field.{Field}
 use Rattle.table.specs.declared.fields.Field.the-variants.{Verb, Interpolation, Bit, ByteValue, Coordinate}
 use Rattle.format.proofs.BitLaws.{length-dig}
+use Rattle.format.proofs.Absurd.{clash}
 use Rattle.sink.specs.Laying.{State, at, lay, Holds}
 use Rattle.sink.specs.declared.Sink.{Sink}
 use Rattle.sink.proofs.LayingLaws.{lay-ok, lay-place}
@@ -120,7 +121,7 @@ unsigned-is Verb w v h = refl
 unsigned-is Interpolation w v h = refl
 unsigned-is Bit w v h = refl
 unsigned-is ByteValue w v h = refl
-unsigned-is Coordinate w v h = absurd (let z : _≡_ {A = ℕ} 0 1 = cc in omega arith)
+unsigned-is Coordinate w v h = clash cc
 
 -- m is 2 ^ w, and c whether the number is allowed
 module _ (f : Field) (w p v m : ℕ) (un : signed f ≡ false) (is : m ≡ 2 ^ w) where
@@ -137,7 +138,7 @@ module _ (f : Field) (w p v m : ℕ) (un : signed f ≡ false) (is : m ≡ 2 ^ w
   field-out {c} e h = go c e h
     where
       go : (c : Bool) → c ≡ allows f v → not c ≡ true → pick (allows f v) (fieldSpelling f w v) none ≡ none
-      go true e h = absurd (let z : _≡_ {A = ℕ} 0 1 = cc in omega arith)
+      go true e h = clash cc
       go false e h = rw (sym e)
 
   pub field-in : {c : Bool} → c ≡ allows f v → not c ≡ false → v < m → fieldBits f w p v ≡ spelt (dig high w v)
@@ -146,7 +147,7 @@ module _ (f : Field) (w p v m : ℕ) (un : signed f ≡ false) (is : m ≡ 2 ^ w
     where
       go : (c : Bool) → c ≡ allows f v → not c ≡ false → pick (allows f v) (fieldSpelling f w v) none ≡ spelt (dig high w v)
       go true e h = rw (sym e) (unsigned-is f w v un ∙ ub-in w v (omega arith))
-      go false e h = absurd (let z : _≡_ {A = ℕ} 0 1 = cc in omega arith)
+      go false e h = clash cc
 
 -- ---- a run of fields: i of n were put, and no place was judged
 pub record Going (f : Field) (w : ℕ) (t o : List ℕ) (s : Sink) (k n : ℕ) (u : List ℕ) (cur : Sink) (i : ℕ) : Type 0 where
@@ -231,10 +232,10 @@ signed-announces t k n Impossible = tt
 
 pub signed-run : (f : Field) (w : ℕ) (t : List ℕ) (st : State) (k n : ℕ) (u : List ℕ) (R : Put) → signed f ≡ true → seen u R ≡ ran t st k (times n (fieldOf Coordinate w))
     → (seen u R ≡ ran t st k (times n (fieldOf f w))) × Announces f t k n R 0
-signed-run Verb w t st k n u R h e = absurd (let z : _≡_ {A = ℕ} 0 1 = cc in omega arith)
-signed-run Interpolation w t st k n u R h e = absurd (let z : _≡_ {A = ℕ} 0 1 = cc in omega arith)
-signed-run Bit w t st k n u R h e = absurd (let z : _≡_ {A = ℕ} 0 1 = cc in omega arith)
-signed-run ByteValue w t st k n u R h e = absurd (let z : _≡_ {A = ℕ} 0 1 = cc in omega arith)
+signed-run Verb w t st k n u R h e = clash cc
+signed-run Interpolation w t st k n u R h e = clash cc
+signed-run Bit w t st k n u R h e = clash cc
+signed-run ByteValue w t st k n u R h e = clash cc
 signed-run Coordinate w t st k n u R h e = (e, signed-announces t k n R)
 
 -- what a run that was written announces

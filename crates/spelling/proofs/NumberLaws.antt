@@ -21,25 +21,25 @@ use Rattle.sink.specs.declared.Sink.{Sink}
 use Rattle.sink.proofs.LayingLaws.{lay-byte, lay-none}
 use Rattle.spelling.specs.declared.Put.{Put}
 use Rattle.spelling.specs.declared.Put.the-variants.{Done, Impossible}
-use Rattle.spelling.specs.Writing.{Sunk, sunk, unsunk, laid, Seen, here, seen, ran}
+use Rattle.spelling.specs.Writing.{Sunk, sunk, unsunk, bitsOver, Seen, here, seen, ran}
 use Rattle.spelling.specs.Spellings.{spellingOf}
 use Rattle.spelling.proofs.RunLaws.{then-stop, then-done, laid-before, laid-in, laid-no, one-done, OneDone, the-one}
 
 -- ---- a byte
-pub byte-in : (o : List ℕ) (i p v : ℕ) {u : List ℕ} → p ≡ 8 * i → v ≤ 255 → u ≡ set o i v → sunk (mk u (p + 8) 0) ≡ laid (mk o p 0) (spellUB high 8 v)
+pub byte-in : (o : List ℕ) (i p v : ℕ) {u : List ℕ} → p ≡ 8 * i → v ≤ 255 → u ≡ set o i v → sunk (mk u (p + 8) 0) ≡ bitsOver (mk o p 0) (spellUB high 8 v)
 byte-in o i p v e h d = laid-in (mk o p 0) (spellUB high 8 v) (rw (lt-ltb v (2 ^ 8) (omega arith))) (sym (lay-byte o i v (omega arith) e d))
 
-pub byte-no : (st : State) (v : ℕ) → 255 < v → unsunk ≡ laid st (spellUB high 8 v)
+pub byte-no : (st : State) (v : ℕ) → 255 < v → unsunk ≡ bitsOver st (spellUB high 8 v)
 byte-no st v h = laid-no st (spellUB high 8 v) (rw (le-ltb v (2 ^ 8) (omega arith)))
 
 -- one byte, and what follows it
-pub byte-then : (o : List ℕ) (i p v : ℕ) {u : List ℕ} (b : Bits) → v < 256 → p ≡ 8 * i → u ≡ set o i v → laid (mk o p 0) (before (dig high 8 v) b) ≡ laid (mk u (p + 8) 0) b
-byte-then o i p v b h e d = laid-before (mk o p 0) (dig high 8 v) b ∙ ap (λ (st : State). laid st b) (lay-byte o i v h e d)
+pub byte-then : (o : List ℕ) (i p v : ℕ) {u : List ℕ} (b : Bits) → v < 256 → p ≡ 8 * i → u ≡ set o i v → bitsOver (mk o p 0) (before (dig high 8 v) b) ≡ bitsOver (mk u (p + 8) 0) b
+byte-then o i p v b h e d = laid-before (mk o p 0) (dig high 8 v) b ∙ ap (λ (st : State). bitsOver st b) (lay-byte o i v h e d)
 
 -- ---- a Float
 pub float-in : (o : List ℕ) (i p v : ℕ) {u₀ u₁ u₂ u₃ : List ℕ} → p ≡ 8 * i → v ≤ 4294967295
     → u₀ ≡ set o i (v % 256) → u₁ ≡ set u₀ (i + 1) (v / 256 % 256) → u₂ ≡ set u₁ (i + 2) (v / 65536 % 256) → u₃ ≡ set u₂ (i + 3) (v / 16777216)
-    → sunk (mk u₃ (p + 32) 0) ≡ laid (mk o p 0) (spellLE high v 4)
+    → sunk (mk u₃ (p + 32) 0) ≡ bitsOver (mk o p 0) (spellLE high v 4)
 unfolding spellLE
 float-in o i p v {u₀} {u₁} {u₂} {u₃} e h e₀ e₁ e₂ e₃ =
     let q₂ : v / 256 / 256 ≡ v / 65536 = omega arith in
@@ -56,10 +56,10 @@ float-in o i p v {u₀} {u₁} {u₂} {u₃} e h e₀ e₁ e₂ e₃ =
     ∙ byte-then u₀ (i + 1) (p + 8) (v / 256 % 256) b₂ (omega arith) (omega arith) e₁
     ∙ byte-then u₁ (i + 2) (p + 8 + 8) (v / 65536 % 256) b₃ (omega arith) (omega arith) e₂
     ∙ byte-then u₂ (i + 3) (p + 8 + 8 + 8) (v / 16777216) (spelt []) (omega arith) (omega arith) e₃
-    ∙ ap (λ (x : ℕ). laid (mk u₃ x 0) (spelt [])) l
+    ∙ ap (λ (x : ℕ). bitsOver (mk u₃ x 0) (spelt [])) l
     ∙ ap sunk (lay-none (mk u₃ (p + 32) 0))))
 
-pub float-no : (st : State) (v : ℕ) → 4294967295 < v → unsunk ≡ laid st (spellLE high v 4)
+pub float-no : (st : State) (v : ℕ) → 4294967295 < v → unsunk ≡ bitsOver st (spellLE high v 4)
 unfolding spellLE
 float-no st v h =
     let n : eqb (v / 256 / 256 / 256 / 256) 0 ≡ false = ne-eqb (v / 256 / 256 / 256 / 256) 0 (λ e. omega arith) in
@@ -68,22 +68,22 @@ float-no st v h =
 -- ---- seven bits a byte
 module _ (o : List ℕ) (i p top v : ℕ) (e : p ≡ 8 * i) where
   pub var-more : (k : ℕ) {u : List ℕ} → (k ≡ 0 → ⊥) → 128 ≤ v → u ≡ set o i (128 + v % 128)
-      → laid (mk o p 0) (spellVar high top v k) ≡ laid (mk u (p + 8) 0) (spellVar high top (v / 128) (k - 1))
+      → bitsOver (mk o p 0) (spellVar high top v k) ≡ bitsOver (mk u (p + 8) 0) (spellVar high top (v / 128) (k - 1))
   unfolding spellVar
   var-more zero h l d = absurd (h refl)
   var-more (suc k) h l d =
       let q : suc k - 1 ≡ k = omega arith in
       rw (le-ltb v 128 l, q) (byte-then o i p (128 + v % 128) (spellVar high top (v / 128) k) (omega arith) e d)
 
-  pub var-long : (k : ℕ) → top < 128 → k ≡ 0 → 128 ≤ v → unsunk ≡ laid (mk o p 0) (spellVar high top v k)
+  pub var-long : (k : ℕ) → top < 128 → k ≡ 0 → 128 ≤ v → unsunk ≡ bitsOver (mk o p 0) (spellVar high top v k)
   unfolding spellVar
   var-long k t h l = rw (h, lt-leb v top (omega arith))
 
-  pub var-over : (k : ℕ) → k ≡ 0 → top < v → unsunk ≡ laid (mk o p 0) (spellVar high top v k)
+  pub var-over : (k : ℕ) → k ≡ 0 → top < v → unsunk ≡ bitsOver (mk o p 0) (spellVar high top v k)
   unfolding spellVar
   var-over k h l = rw (h, lt-leb v top l)
 
-  pub var-end : (k : ℕ) {u : List ℕ} → v < 128 → (k ≡ 0 → v ≤ top) → u ≡ set o i v → sunk (mk u (p + 8) 0) ≡ laid (mk o p 0) (spellVar high top v k)
+  pub var-end : (k : ℕ) {u : List ℕ} → v < 128 → (k ≡ 0 → v ≤ top) → u ≡ set o i v → sunk (mk u (p + 8) 0) ≡ bitsOver (mk o p 0) (spellVar high top v k)
   unfolding spellVar
   var-end zero l h d = rw (le-leb v top (h refl)) (ap sunk (sym (lay-byte o i v (omega arith) e d)))
   var-end (suc k) l h d = rw (lt-ltb v 128 l) (ap sunk (sym (lay-byte o i v (omega arith) e d)))
@@ -175,10 +175,10 @@ unfolding bitsOf
 item-out kind p v e h = rw (ne-eqb (rangeFault kind v) 0 (λ z. h (e ∙ z)))
 
 pub item-in : (kind : Item) (st : State) (v : ℕ) {r byte bit : ℕ} {u : List ℕ} {x : Sunk} → r ≡ rangeFault kind v → (r ≡ 0) → Skipped st u byte bit
-    → x ≡ laid (mk u bit 0) (spellingOf kind v) → x ≡ laid st (bitsOf kind (st .place) v)
+    → x ≡ bitsOver (mk u bit 0) (spellingOf kind v) → x ≡ bitsOver st (bitsOf kind (st .place) v)
 unfolding bitsOf
 item-in kind st v e h skip d =
-    d ∙ ap (λ (s : State). laid s (spellingOf kind v)) (skip .laid) ∙ sym (laid-before st (dig high (skipped (st .place)) 0) (spellingOf kind v))
+    d ∙ ap (λ (s : State). bitsOver s (spellingOf kind v)) (skip .laid) ∙ sym (laid-before st (dig high (skipped (st .place)) 0) (spellingOf kind v))
     ∙ (let z : eqb (rangeFault kind v) 0 ≡ true = eq-eqb (rangeFault kind v) 0 (sym e ∙ h) in rw z)
 
 -- ---- a count that was written is in its range

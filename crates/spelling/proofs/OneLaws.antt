@@ -2,12 +2,12 @@
 use Prim.Native.Nat.{ℕ}
 use mathlib.Core.List.{List}
 use mathlib.Core.Path.{_≡_, refl, ap, ap₂, sym, _∙_}
-use native.Mathlib.Omega.{arith}
 use Rattle.sink.specs.Laying.{State, at}
 use Rattle.sink.specs.declared.Sink.{Sink}
 use Rattle.spelling.specs.Writing.{Seen, seen}
 use Rattle.spelling.specs.declared.Put.{Put}
 use Rattle.spelling.specs.declared.Put.the-variants.{Done, Impossible}
+use Rattle.format.proofs.Absurd.{clash}
 
 -- two answers with their outputs, of which at most the outputs differ, and these only where nothing was written
 abbrev Same : List ℕ → Put → List ℕ → Put → Type 0
@@ -28,6 +28,6 @@ seen-one u a v b e d = go a b (e ∙ sym d)
         let z : at u s ≡ at v r = cc in
         let i : k ≡ j = cc in
         (ap (λ (y : State). y .bytes) z, ap₂ Done (sink-one u v s r z) i)
-    go (Done s k) Impossible f = absurd (let z : _≡_ {A = ℕ} 0 1 = cc in omega arith)
-    go Impossible (Done r j) f = absurd (let z : _≡_ {A = ℕ} 0 1 = cc in omega arith)
+    go (Done s k) Impossible f = clash cc
+    go Impossible (Done r j) f = clash cc
     go Impossible Impossible f = refl

@@ -11,6 +11,7 @@ use Rattle.format.specs.Items.{skipped}
 use Rattle.format.specs.WritingItems.{dig, Written, wrote, cannot, writeItem}
 use Rattle.format.specs.WritingFormats.{passing, adjoin, onward, unrun}
 use Rattle.format.proofs.BitLaws.{length-dig}
+use Rattle.format.proofs.Absurd.{clash}
 
 skipped-shift : (p m : ℕ) → skipped (p + 8 * m) ≡ skipped p
 skipped-shift p m = let e : (p + 8 * m) % 8 ≡ p % 8 = omega arith in rw e
@@ -48,7 +49,7 @@ shift (f ▹ g) ns p m =
 -- what ends with the skip to a whole byte is whole bytes
 pub whole-bytes : (w : Written) (xs : List ℕ) (bs : List Bool) (ys : List ℕ) → onward w 0 (λ xs ys q. writeItem high Item.align ys q) ≡ wrote xs bs ys → length bs % 8 ≡ 0
 unfolding writeItem
-whole-bytes cannot xs bs ys h = absurd (let z : _≡_ {A = ℕ} 0 1 = cc in omega arith)
+whole-bytes cannot xs bs ys h = clash cc
 whole-bytes (wrote xs′ bs′ ys′) xs bs ys h =
     let z : bs ≡ bs′ ++ dig high (skipped (0 + length bs′)) 0 = cc in
     omega (arith, ap length z, length-append bs′ (dig high (skipped (0 + length bs′)) 0), length-dig high (skipped (0 + length bs′)) 0)

@@ -22,9 +22,9 @@ pub data Sunk : Type 0 where
   sunk : State → Sunk
   unsunk : Sunk
 
-abbrev pub laid : State → Bits → Sunk
-laid st (spelt bs) = sunk (lay st bs)
-laid st none = unsunk
+abbrev pub bitsOver : State → Bits → Sunk
+bitsOver st (spelt bs) = sunk (lay st bs)
+bitsOver st none = unsunk
 
 abbrev pub got : List ℕ → Spelt → Sunk
 got o (In s) = sunk (at o s)
@@ -46,13 +46,13 @@ limit = 134217728
 unfoldable pub ends : State → ℕ → Seen
 ends st k = pick (leb (st .place) limit) (here st k) gone
 
-unfoldable pub after : State → ℕ → Written → Seen
-after st k (wrote xs bs ys) = ends (lay st bs) (k + length xs)
-after st k cannot = gone
+unfoldable pub writtenOver : State → ℕ → Written → Seen
+writtenOver st k (wrote xs bs ys) = ends (lay st bs) (k + length xs)
+writtenOver st k cannot = gone
 
 -- a format written from index k of the values t
 unfoldable pub ran : List ℕ → State → ℕ → Format → Seen
-ran t st k f = after st k (unrun high f (drop k t) (st .place))
+ran t st k f = writtenOver st k (unrun high f (drop k t) (st .place))
 
 -- a sink that code may go on with
 abbrev pub Fine : Sink → Type 0

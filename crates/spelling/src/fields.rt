@@ -5,7 +5,7 @@ ghost use Prim.Native.Nat.{_-_, _≤_, _<_, _^_};
 ghost use Rattle.format.specs.Formats.{item, Item, times, the, _▹_};
 ghost use Rattle.table.specs.Fields.{fieldOf, signed};
 ghost use Rattle.table.specs.declared.fields.Field.the-variants.{Coordinate};
-ghost use Rattle.sink.specs.Laying.{at as «under»};
+ghost use Rattle.sink.specs.Laying.{at as under};
 ghost use Rattle.spelling.specs.Writing.{seen, ran, Fine};
 ghost use Rattle.spelling.specs.Spellings.{Announces};
 use crate::Put;
@@ -22,7 +22,7 @@ pub struct Announced {
 // n SB fields of w bits. The sum wraps a negative number back: v is one from -half up to half. Places only grow, so the last one alone is judged.
 fn write_signed(w: usize, n: usize, out: &mut [u8], s: Sink, t: &[u64], k: usize) -> Put
     requires { ⌜ Fine s × (1 ≤ w) × (w ≤ 32) × (n < 2 ^ 32) ⌝ }
-    ensures { λ r. ⌜ seen (now (out .exit)) r ≡ ran (now (t .entry)) («under» (now (out .entry)) s) k (times n (fieldOf Coordinate w)) ⌝ }
+    ensures { λ r. ⌜ seen (now (out .exit)) r ≡ ran (now (t .entry)) (under (now (out .entry)) s) k (times n (fieldOf Coordinate w)) ⌝ }
 {
     if table::room_for(t.len(), k, n) < n {
         return Put::Impossible;
@@ -53,7 +53,7 @@ fn write_unsigned(
     k: usize,
 ) -> Announced
     requires { ⌜ Fine s × (1 ≤ w) × (w ≤ 32) × (n < 2 ^ 32) × (signed kind ≡ false) ⌝ }
-    ensures states { λ r. ⌜ seen (now (out .exit)) (r .put) ≡ ran (now (t .entry)) («under» (now (out .entry)) s) k (times n (fieldOf kind w)) ⌝ }
+    ensures states { λ r. ⌜ seen (now (out .exit)) (r .put) ≡ ran (now (t .entry)) (under (now (out .entry)) s) k (times n (fieldOf kind w)) ⌝ }
     ensures counts { λ r. ⌜ Announces kind (now (t .entry)) k n (r .put) (r .count) ⌝ }
 {
     let put = Put::Impossible;
@@ -93,7 +93,7 @@ pub fn write_fields(
     k: usize,
 ) -> Announced
     requires { ⌜ Fine s × (1 ≤ w) × (w ≤ 32) × (n < 2 ^ 32) ⌝ }
-    ensures states { λ r. ⌜ seen (now (out .exit)) (r .put) ≡ ran (now (t .entry)) («under» (now (out .entry)) s) k (times n (fieldOf kind w)) ⌝ }
+    ensures states { λ r. ⌜ seen (now (out .exit)) (r .put) ≡ ran (now (t .entry)) (under (now (out .entry)) s) k (times n (fieldOf kind w)) ⌝ }
     ensures counts { λ r. ⌜ Announces kind (now (t .entry)) k n (r .put) (r .count) ⌝ }
 {
     if table::fields::is_signed(kind) {
@@ -106,7 +106,7 @@ pub fn write_fields(
 // A width: one less than it, in five bits.
 fn write_width(out: &mut [u8], s: Sink, t: &[u64], k: usize) -> Put
     requires { ⌜ Fine s ⌝ }
-    ensures { λ r. ⌜ seen (now (out .exit)) r ≡ ran (now (t .entry)) («under» (now (out .entry)) s) k (item Item.width) ⌝ }
+    ensures { λ r. ⌜ seen (now (out .exit)) r ≡ ran (now (t .entry)) (under (now (out .entry)) s) k (item Item.width) ⌝ }
 {
     if t.len() <= k {
         return Put::Impossible;
@@ -125,7 +125,7 @@ fn write_width(out: &mut [u8], s: Sink, t: &[u64], k: usize) -> Put
 // A width, and n fields of it.
 pub fn write_scaled(kind: Field, n: usize, out: &mut [u8], s: Sink, t: &[u64], k: usize) -> Put
     requires { ⌜ Fine s × (n < 2 ^ 32) ⌝ }
-    ensures { λ r. ⌜ seen (now (out .exit)) r ≡ ran (now (t .entry)) («under» (now (out .entry)) s) k (item Item.width ▹ λ w. times n (fieldOf kind (the w))) ⌝ }
+    ensures { λ r. ⌜ seen (now (out .exit)) r ≡ ran (now (t .entry)) (under (now (out .entry)) s) k (item Item.width ▹ λ w. times n (fieldOf kind (the w))) ⌝ }
 {
     let r = write_width(out, s, t, k);
     let Put::Done(next, j) = r else {

@@ -5,7 +5,7 @@ ghost use Rattle.format.specs.Bits.{high};
 ghost use Rattle.format.specs.Items.{skipped};
 ghost use Rattle.format.specs.WritingItems.{dig};
 ghost use Rattle.sink.specs.Lain.{lainAs};
-ghost use Rattle.sink.specs.Laying.{at as «under», lay};
+ghost use Rattle.sink.specs.Laying.{at as under, lay};
 ghost use Rattle.spelling.specs.Ends.{concluded, FineAfter};
 ghost use Rattle.spelling.specs.Writing.{seen, ran, finish, Fine};
 
@@ -44,7 +44,7 @@ pub fn ended(s: Sink, k: usize) -> Put
 // One item: in its range, on a whole byte.
 pub fn write_one(kind: Item, out: &mut [u8], s: Sink, t: &[u64], k: usize) -> Put
     requires { ⌜ Fine s ⌝ }
-    ensures { λ r. ⌜ seen (now (out .exit)) r ≡ ran (now (t .entry)) («under» (now (out .entry)) s) k (formatOf kind) ⌝ }
+    ensures { λ r. ⌜ seen (now (out .exit)) r ≡ ran (now (t .entry)) (under (now (out .entry)) s) k (formatOf kind) ⌝ }
 {
     if t.len() <= k {
         return Put::Impossible;
@@ -64,7 +64,7 @@ pub fn write_one(kind: Item, out: &mut [u8], s: Sink, t: &[u64], k: usize) -> Pu
 // Zero bits up to the next whole byte.
 pub fn skip(out: &mut [u8], s: Sink) -> Sink
     requires { ⌜ Fine s ⌝ }
-    ensures { λ r. ⌜ («under» (now (out .exit)) r ≡ lay («under» (now (out .entry)) s) (dig high (skipped (s .place .0)) 0)) × Fine r ⌝ }
+    ensures { λ r. ⌜ (under (now (out .exit)) r ≡ lay (under (now (out .entry)) s) (dig high (skipped (s .place .0)) 0)) × Fine r ⌝ }
 {
     let start = sink::align(out, s);
     let place = start.bit;

@@ -4,7 +4,7 @@ ghost use Prim.Native.Nat.{_<_, _≤_};
 ghost use Rattle.format.specs.Bits.{high};
 ghost use Rattle.format.specs.WritingItems.{spellUB, spellVar, spellI32, spellLE};
 ghost use Rattle.sink.specs.Laying.{mk};
-ghost use Rattle.spelling.specs.Writing.{laid, got, OnByte};
+ghost use Rattle.spelling.specs.Writing.{bitsOver, got, OnByte};
 ghost use Rattle.spelling.specs.Spellings.{spellingOf};
 use crate::Spelt;
 use bits::BitPlace;
@@ -16,7 +16,7 @@ use sink::put_byte;
 // One byte.
 fn spell_byte(out: &mut [u8], at: Whole, v: u64) -> Spelt
     requires { ⌜ OnByte (at .byte .0) (at .bit .0) ⌝ }
-    ensures { λ r. ⌜ got (now (out .exit)) r ≡ laid (mk (now (out .entry)) (at .bit .0) 0) (spellUB high 8 v) ⌝ }
+    ensures { λ r. ⌜ got (now (out .exit)) r ≡ bitsOver (mk (now (out .entry)) (at .bit .0) 0) (spellUB high 8 v) ⌝ }
 {
     if 255 < v {
         return Spelt::No;
@@ -32,7 +32,7 @@ fn spell_byte(out: &mut [u8], at: Whole, v: u64) -> Spelt
 // A Float: four bytes, lowest first.
 fn spell_float(out: &mut [u8], at: Whole, v: u64) -> Spelt
     requires { ⌜ OnByte (at .byte .0) (at .bit .0) ⌝ }
-    ensures { λ r. ⌜ got (now (out .exit)) r ≡ laid (mk (now (out .entry)) (at .bit .0) 0) (spellLE high v 4) ⌝ }
+    ensures { λ r. ⌜ got (now (out .exit)) r ≡ bitsOver (mk (now (out .entry)) (at .bit .0) 0) (spellLE high v 4) ⌝ }
 {
     if 4294967295 < v {
         return Spelt::No;
@@ -51,7 +51,7 @@ fn spell_float(out: &mut [u8], at: Whole, v: u64) -> Spelt
 // Seven bits a byte, lowest first: at most `most` bytes with the top bit set, and a last one, which is at most `top` after so many.
 fn spell_var(out: &mut [u8], at: Whole, v: u64, most: u64, top: u64) -> Spelt
     requires { ⌜ OnByte (at .byte .0) (at .bit .0) × (most ≤ 9) × (top < 128) ⌝ }
-    ensures { λ r. ⌜ got (now (out .exit)) r ≡ laid (mk (now (out .entry)) (at .bit .0) 0) (spellVar high top v most) ⌝ }
+    ensures { λ r. ⌜ got (now (out .exit)) r ≡ bitsOver (mk (now (out .entry)) (at .bit .0) 0) (spellVar high top v most) ⌝ }
 {
     let mut i = at.byte.0;
     let mut next = at.bit.0;
@@ -82,7 +82,7 @@ fn spell_var(out: &mut [u8], at: Whole, v: u64, most: u64, top: u64) -> Spelt
 // I32: twice the magnitude, plus 1 for a negative number, which the wrapping difference turns back.
 fn spell_i32(out: &mut [u8], at: Whole, v: u64) -> Spelt
     requires { ⌜ OnByte (at .byte .0) (at .bit .0) ⌝ }
-    ensures { λ r. ⌜ got (now (out .exit)) r ≡ laid (mk (now (out .entry)) (at .bit .0) 0) (spellI32 high v) ⌝ }
+    ensures { λ r. ⌜ got (now (out .exit)) r ≡ bitsOver (mk (now (out .entry)) (at .bit .0) 0) (spellI32 high v) ⌝ }
 {
     if v < 9223372036854775808 {
         return spell_var(out, at, v * 2, 4, 15);
@@ -97,7 +97,7 @@ fn spell_i32(out: &mut [u8], at: Whole, v: u64) -> Spelt
 // One number by its kind; its range is looked at before.
 pub(crate) fn spell_item(kind: Item, out: &mut [u8], at: Whole, v: u64) -> Spelt
     requires { ⌜ OnByte (at .byte .0) (at .bit .0) ⌝ }
-    ensures { λ r. ⌜ got (now (out .exit)) r ≡ laid (mk (now (out .entry)) (at .bit .0) 0) (spellingOf kind v) ⌝ }
+    ensures { λ r. ⌜ got (now (out .exit)) r ≡ bitsOver (mk (now (out .entry)) (at .bit .0) 0) (spellingOf kind v) ⌝ }
 {
     match kind {
         Item::U32 => spell_var(out, at, v, 4, 15),

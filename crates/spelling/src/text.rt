@@ -5,8 +5,8 @@ ghost use lib.ListN.{length};
 ghost use Rattle.format.specs.Bits.{high};
 ghost use Rattle.format.specs.Items.{string};
 ghost use Rattle.format.specs.WritingItems.{spellTxt};
-ghost use Rattle.sink.specs.Laying.{mk, at as «under»};
-ghost use Rattle.spelling.specs.Writing.{laid, got, seen, ran, Fine, OnByte};
+ghost use Rattle.sink.specs.Laying.{mk, at as under};
+ghost use Rattle.spelling.specs.Writing.{bitsOver, got, seen, ran, Fine, OnByte};
 use crate::Put;
 use crate::Spelt;
 use crate::ended;
@@ -18,7 +18,7 @@ use sink::put_byte;
 // The bytes of a String, 1 to 255 each, and the zero byte that ends it.
 fn spell_text(out: &mut [u8], at: Whole, text: &[u64]) -> Spelt
     requires { ⌜ OnByte (at .byte .0) (at .bit .0) × (length (now text) ≤ 16777216) ⌝ }
-    ensures { λ r. ⌜ got (now (out .exit)) r ≡ laid (mk (now (out .entry)) (at .bit .0) 0) (spellTxt high (now (text .entry))) ⌝ }
+    ensures { λ r. ⌜ got (now (out .exit)) r ≡ bitsOver (mk (now (out .entry)) (at .bit .0) 0) (spellTxt high (now (text .entry))) ⌝ }
 {
     let start = at.byte.0;
     let n = text.len();
@@ -45,7 +45,7 @@ fn spell_text(out: &mut [u8], at: Whole, text: &[u64]) -> Spelt
 // A String: its length and then its bytes.
 pub fn write_string(out: &mut [u8], s: Sink, t: &[u64], k: usize) -> Put
     requires { ⌜ Fine s ⌝ }
-    ensures { λ r. ⌜ seen (now (out .exit)) r ≡ ran (now (t .entry)) («under» (now (out .entry)) s) k string ⌝ }
+    ensures { λ r. ⌜ seen (now (out .exit)) r ≡ ran (now (t .entry)) (under (now (out .entry)) s) k string ⌝ }
 {
     if t.len() <= k {
         return Put::Impossible;

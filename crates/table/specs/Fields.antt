@@ -6,7 +6,7 @@ use lib.Dec.{ltb, leb, eqb}
 use Rattle.format.specs.Tests.{pick}
 use Rattle.format.specs.Formats.{Item, Format, item, only, the}
 use Rattle.format.specs.Items.{Num, num, bad, coordinatesOf}
-use Rattle.bits.specs.Places.{Inside}
+use Rattle.bits.specs.Places.{PlaceIn}
 use Rattle.table.specs.declared.fields.Field.{Field}
 use Rattle.table.specs.declared.fields.Field.the-variants.{Verb, Interpolation, Bit, ByteValue, Coordinate}
 
@@ -60,4 +60,4 @@ weights Coordinate = 0 ∷ 0 ∷ 0 ∷ 0 ∷ 0 ∷ 0 ∷ 0 ∷ 0 ∷ []
 
 -- an engine's place p and index k: so far a number was stored for each bit at most, so that no index can wrap
 abbrev pub Fits : List ℕ → ℕ → ℕ → Type 0
-Fits b p k = Inside b p × (k ≤ p + 2 ^ 62)
+Fits b p k = PlaceIn b p × (k ≤ p + 2 ^ 62)

@@ -3,13 +3,13 @@ ghost use mathlib.Core.Path.{_≡_};
 ghost use Prim.Native.Nat.{_*_, _≤_, _<_, _^_};
 ghost use lib.ListN.{getD};
 ghost use Rattle.format.specs.Bits.{high};
-ghost use Rattle.format.specs.Formats.{item, Item as «ItemOf», times, the, _▹_};
+ghost use Rattle.format.specs.Formats.{item, Item as ItemOf, times, the, _▹_};
 ghost use Rattle.format.specs.Tests.{pick};
 ghost use Rattle.format.specs.Items.{coordinatesOf, run, signExtend};
-ghost use Rattle.table.specs.State.{after};
-ghost use Rattle.table.specs.Run.{left};
-ghost use Rattle.table.specs.Fields.{Fits, allows, signed, fieldOf, announces, announced, weights as «weights»};
-ghost use Rattle.table.specs.declared.fields.Field.the-variants.{Coordinate as «Coordinate»};
+ghost use Rattle.table.specs.State.{shownOver};
+ghost use Rattle.table.specs.Run.{runLeaves};
+ghost use Rattle.table.specs.Fields.{Fits, allows, signed, fieldOf, announces, announced, weights};
+ghost use Rattle.table.specs.declared.fields.Field.the-variants.{Coordinate};
 use crate::Run;
 use crate::put;
 use crate::room_for;
@@ -32,7 +32,7 @@ pub struct Announced {
 
 // What the numbers 0 to 7 announce in a field of this kind: a verb its coordinates, a Bezier frame four easing numbers.
 pub fn weights_of(kind: Field) -> [usize; 8]
-    ensures { λ r. ⌜ r ≡ «weights» kind ⌝ }
+    ensures { λ r. ⌜ r ≡ weights kind ⌝ }
 {
     match kind {
         Field::Verb => [0, 2, 2, 1, 1, 4, 4, 6],
@@ -103,7 +103,7 @@ pub fn read_fields(
     k: usize,
 ) -> Announced
     requires { ⌜ Fits (now s) (at .0) k × (1 ≤ w) × (w ≤ 32) × (n < 2 ^ 32) ⌝ }
-    ensures states { λ r. ⌜ left (now (t .exit)) (r .run) ≡ after (now (t .entry)) k (run high (now (s .entry)) (times n (fieldOf kind w)) (at .0)) ⌝ }
+    ensures states { λ r. ⌜ runLeaves (now (t .exit)) (r .run) ≡ shownOver (now (t .entry)) k (run high (now (s .entry)) (times n (fieldOf kind w)) (at .0)) ⌝ }
     ensures counts { λ r. ⌜ r .count ≡ announced kind (run high (now (s .entry)) (times n (fieldOf kind w)) (at .0) .shown) ⌝ }
     ensures few { λ r. ⌜ r .count ≤ 6 * n ⌝ }
 {
@@ -138,7 +138,7 @@ pub fn read_fields(
 // n SB fields of w bits. They show whatever their bits are, so only those are read that there is room for.
 fn read_signed(w: u64, n: usize, s: &[u8], at: BitPlace, t: &mut [u64], k: usize) -> Run
     requires { ⌜ Fits (now s) (at .0) k × (1 ≤ w) × (w ≤ 32) × (n < 2 ^ 32) ⌝ }
-    ensures { λ r. ⌜ left (now (t .exit)) r ≡ after (now (t .entry)) k (run high (now (s .entry)) (times n (fieldOf «Coordinate» w)) (at .0)) ⌝ }
+    ensures { λ r. ⌜ runLeaves (now (t .exit)) r ≡ shownOver (now (t .entry)) k (run high (now (s .entry)) (times n (fieldOf Coordinate w)) (at .0)) ⌝ }
 {
     let step = w as usize;
     let end = at.0 + n * step;
@@ -162,7 +162,7 @@ fn read_signed(w: u64, n: usize, s: &[u8], at: BitPlace, t: &mut [u64], k: usize
 // n fields of w bits, by their kind.
 fn read_run(kind: Field, w: u64, n: usize, s: &[u8], at: BitPlace, t: &mut [u64], k: usize) -> Run
     requires { ⌜ Fits (now s) (at .0) k × (1 ≤ w) × (w ≤ 32) × (n < 2 ^ 32) ⌝ }
-    ensures { λ r. ⌜ left (now (t .exit)) r ≡ after (now (t .entry)) k (run high (now (s .entry)) (times n (fieldOf kind w)) (at .0)) ⌝ }
+    ensures { λ r. ⌜ runLeaves (now (t .exit)) r ≡ shownOver (now (t .entry)) k (run high (now (s .entry)) (times n (fieldOf kind w)) (at .0)) ⌝ }
 {
     if is_signed(kind) {
         return read_signed(w, n, s, at, t, k);
@@ -174,7 +174,7 @@ fn read_run(kind: Field, w: u64, n: usize, s: &[u8], at: BitPlace, t: &mut [u64]
 // A width, and n fields of it.
 pub fn read_scaled(kind: Field, n: usize, s: &[u8], at: BitPlace, t: &mut [u64], k: usize) -> Run
     requires { ⌜ Fits (now s) (at .0) k × (n < 2 ^ 32) ⌝ }
-    ensures { λ r. ⌜ left (now (t .exit)) r ≡ after (now (t .entry)) k (run high (now (s .entry)) (item «ItemOf».width ▹ λ w. times n (fieldOf kind (the w))) (at .0)) ⌝ }
+    ensures { λ r. ⌜ runLeaves (now (t .exit)) r ≡ shownOver (now (t .entry)) k (run high (now (s .entry)) (item ItemOf.width ▹ λ w. times n (fieldOf kind (the w))) (at .0)) ⌝ }
 {
     let r = bits::fields::read_width(s, at);
     match r {

@@ -5,8 +5,8 @@ ghost use lib.ListN.{set};
 ghost use Rattle.format.specs.Bits.{high};
 ghost use Rattle.format.specs.Items.{run};
 ghost use Rattle.items.specs.Kinds.{formatOf};
-ghost use Rattle.table.specs.State.{after};
-ghost use Rattle.table.specs.Run.{left};
+ghost use Rattle.table.specs.State.{shownOver};
+ghost use Rattle.table.specs.Run.{runLeaves};
 ghost use Rattle.table.specs.Fields.{Fits};
 
 pub mod fields;
@@ -47,7 +47,7 @@ pub fn room_for(len: usize, k: usize, n: usize) -> usize
 // One item.
 pub fn read_one(kind: Item, s: &[u8], at: BitPlace, t: &mut [u64], k: usize) -> Run
     requires { ⌜ Fits (now s) (at .0) k ⌝ }
-    ensures { λ r. ⌜ left (now (t .exit)) r ≡ after (now (t .entry)) k (run high (now (s .entry)) (formatOf kind) (at .0)) ⌝ }
+    ensures { λ r. ⌜ runLeaves (now (t .exit)) r ≡ shownOver (now (t .entry)) k (run high (now (s .entry)) (formatOf kind) (at .0)) ⌝ }
 {
     let r = items::read_item(kind, s, at);
     match r {

@@ -6,8 +6,8 @@ use native.Mathlib.Omega.{arith}
 use lib.ListN.{length, set, length-set}
 use lib.Seq.{sets, length-sets}
 use Rattle.format.specs.Reading.{At, Reading, shows}
-use Rattle.table.specs.State.{State, after}
-use Rattle.table.specs.Run.{left, indexOf}
+use Rattle.table.specs.State.{State, shownOver}
+use Rattle.table.specs.Run.{runLeaves, indexOf}
 use Rattle.table.specs.declared.Run.{Run}
 use Rattle.bits.proofs.StoreLaws.{sets-out}
 use Rattle.table.proofs.EngineLaws.{state, state-eq, after-none}
@@ -17,27 +17,27 @@ use Rattle.classes.specs.declared.Class.{Class}
 use Rattle.tags.specs.Shown.{valuesOf, headed}
 
 -- ---- bytes, one by one: all are stored, or there is no more room
-pub copied : (t₀ b : List ℕ) (k : ℕ) {t : List ℕ} {i m : ℕ} → Storing t₀ b k t i → m ≡ min (length b) (length t - k) → m ≤ i → state t (k + length b) (At 0) ≡ after t₀ k (shows b 0)
-unfolding after
+pub copied : (t₀ b : List ℕ) (k : ℕ) {t : List ℕ} {i m : ℕ} → Storing t₀ b k t i → m ≡ min (length b) (length t - k) → m ≤ i → state t (k + length b) (At 0) ≡ shownOver t₀ k (shows b 0)
+unfolding shownOver
 copied t₀ b k {t} {i} {m} g h l = state-eq (storing-done t₀ b k g h l) refl refl
 
 -- ---- a reading that showed nothing more
-pub none-left : (t : List ℕ) (k : ℕ) {q : ℕ} {r : Reading} → r ≡ shows [] q → state t k (At q) ≡ after t k r
+pub none-left : (t : List ℕ) (k : ℕ) {q : ℕ} {r : Reading} → r ≡ shows [] q → state t k (At q) ≡ shownOver t k r
 none-left t k {q} e = rw e (sym (after-none t k q))
 
 -- ---- the class that a `match` tells
-pub values-of : (body t : List ℕ) (k code : ℕ) {class : Class} {x : State} (told : Class) → class ≡ told → x ≡ after t k (valuesOf told code body) → x ≡ after t k (valuesOf class code body)
-values-of body t k code told e f = f ∙ ap (λ (z : Class). after t k (valuesOf z code body)) (sym e)
+pub values-of : (body t : List ℕ) (k code : ℕ) {class : Class} {x : State} (told : Class) → class ≡ told → x ≡ shownOver t k (valuesOf told code body) → x ≡ shownOver t k (valuesOf class code body)
+values-of body t k code told e f = f ∙ ap (λ (z : Class). shownOver t k (valuesOf z code body)) (sym e)
 
 -- ---- an index never falls
-pub index-le : (t : List ℕ) (k : ℕ) (r : Reading) {u : List ℕ} (R : Run) → left u R ≡ after t k r → k ≤ indexOf R
-unfolding after
+pub index-le : (t : List ℕ) (k : ℕ) (r : Reading) {u : List ℕ} (R : Run) → runLeaves u R ≡ shownOver t k r → k ≤ indexOf R
+unfolding shownOver
 index-le t k r R e = omega (arith, ap (λ (z : State). z .count) e)
 
 -- ---- three numbers before the values
-pub headed-stored : (t : List ℕ) (k code : ℕ) (s : ℕ) (r : Reading) {u u₁ u₂ u₃ : List ℕ} {n : ℕ} (R : Run) → left u R ≡ after t (k + 3) r
-    → u₁ ≡ set u k code → u₂ ≡ set u₁ (k + 1) s → n ≡ indexOf R - (k + 3) → u₃ ≡ set u₂ (k + 2) n → left u₃ R ≡ after t k (headed code s r)
-unfolding after
+pub headed-stored : (t : List ℕ) (k code : ℕ) (s : ℕ) (r : Reading) {u u₁ u₂ u₃ : List ℕ} {n : ℕ} (R : Run) → runLeaves u R ≡ shownOver t (k + 3) r
+    → u₁ ≡ set u k code → u₂ ≡ set u₁ (k + 1) s → n ≡ indexOf R - (k + 3) → u₃ ≡ set u₂ (k + 2) n → runLeaves u₃ R ≡ shownOver t k (headed code s r)
+unfolding shownOver
 headed-stored t k code s r R e a b c d =
     let v : List ℕ = r .shown in
     let m : indexOf R ≡ k + 3 + length v = ap (λ (z : State). z .count) e in
@@ -45,7 +45,7 @@ headed-stored t k code s r R e a b c d =
     let i1 : k + 1 ≡ suc k = omega arith in
     let i2 : k + 2 ≡ suc (suc k) = omega arith in
     let i3 : k + 3 ≡ suc (suc (suc k)) = omega arith in
-    let t3 : left _ R .table ≡ sets t (suc (suc (suc k))) v = ap (λ (z : State). z .table) e ∙ ap (λ (j : ℕ). sets t j v) i3 in
+    let t3 : runLeaves _ R .table ≡ sets t (suc (suc (suc k))) v = ap (λ (z : State). z .table) e ∙ ap (λ (j : ℕ). sets t j v) i3 in
     state-eq
     (d ∙ rw (
       c,
@@ -63,8 +63,8 @@ headed-stored t k code s r R e a b c d =
     (ap (λ (z : State). z .ended) e)
 
 -- there is no room for any of them
-pub headed-out : (t : List ℕ) (k code : ℕ) (s : ℕ) (r : Reading) {u : List ℕ} (R : Run) → left u R ≡ after t (k + 3) r → length u ≤ k → left u R ≡ after t k (headed code s r)
-unfolding after
+pub headed-out : (t : List ℕ) (k code : ℕ) (s : ℕ) (r : Reading) {u : List ℕ} (R : Run) → runLeaves u R ≡ shownOver t (k + 3) r → length u ≤ k → runLeaves u R ≡ shownOver t k (headed code s r)
+unfolding shownOver
 headed-out t k code s r {u} R e h =
     let v : List ℕ = r .shown in
     let d : u ≡ sets t (k + 3) v = ap (λ (z : State). z .table) e in

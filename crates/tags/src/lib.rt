@@ -8,8 +8,8 @@ ghost use Rattle.format.specs.Bits.{high};
 ghost use Rattle.format.specs.Reading.{shows};
 ghost use Rattle.format.specs.Items.{run};
 ghost use Rattle.format.specs.FileAndTags.{front};
-ghost use Rattle.table.specs.State.{after};
-ghost use Rattle.table.specs.Run.{left, indexOf};
+ghost use Rattle.table.specs.State.{shownOver};
+ghost use Rattle.table.specs.Run.{runLeaves, indexOf};
 ghost use Rattle.fixed.specs.Fixed.{fixedOf};
 ghost use Rattle.tags.specs.Shown.{stateOf, valuesOf, headed};
 use bits::Aligned;
@@ -20,7 +20,7 @@ use table::Run;
 // The bytes of an opaque body: those that there is room for, in one plain loop.
 fn copy_bytes(body: &[u8], t: &mut [u64], k: usize) -> Run
     requires { ⌜ (length (now body) < 2 ^ 60) × (k < 2 ^ 61) ⌝ }
-    ensures { λ r. ⌜ left (now (t .exit)) r ≡ after (now (t .entry)) k (shows (now (body .entry)) 0) ⌝ }
+    ensures { λ r. ⌜ runLeaves (now (t .exit)) r ≡ shownOver (now (t .entry)) k (shows (now (body .entry)) 0) ⌝ }
 {
     let n = body.len();
     let m = table::room_for(t.len(), k, n);
@@ -36,7 +36,7 @@ fn copy_bytes(body: &[u8], t: &mut [u64], k: usize) -> Run
 // What stands in a container before its list, up to a whole byte.
 fn read_front(code: u32, body: &[u8], t: &mut [u64], k: usize) -> Run
     requires { ⌜ (length (now body) < 2 ^ 60) × (k < 2 ^ 61) ⌝ }
-    ensures { λ r. ⌜ left (now (t .exit)) r ≡ after (now (t .entry)) k (run high (now (body .entry)) (front (fixedOf code)) 0) ⌝ }
+    ensures { λ r. ⌜ runLeaves (now (t .exit)) r ≡ shownOver (now (t .entry)) k (run high (now (body .entry)) (front (fixedOf code)) 0) ⌝ }
 {
     let r = fixed::read_fixed(code, body, BitPlace(0), t, k);
     let Run::Done(next, j) = r else {
@@ -52,7 +52,7 @@ fn read_front(code: u32, body: &[u8], t: &mut [u64], k: usize) -> Run
 // The values of a tag, by its class.
 fn read_values(class: Class, code: u32, body: &[u8], t: &mut [u64], k: usize) -> Run
     requires { ⌜ (length (now body) < 2 ^ 60) × (k < 2 ^ 61) ⌝ }
-    ensures { λ r. ⌜ left (now (t .exit)) r ≡ after (now (t .entry)) k (valuesOf class code (now (body .entry))) ⌝ }
+    ensures { λ r. ⌜ runLeaves (now (t .exit)) r ≡ shownOver (now (t .entry)) k (valuesOf class code (now (body .entry))) ⌝ }
 {
     match class {
         Class::Opaque => copy_bytes(body, t, k),
@@ -89,7 +89,7 @@ pub fn state(class: Class) -> u64
 // A tag's numbers: its values are stored first, behind its code, its state and their count. The walk that counts has no room for any of them.
 pub fn show_tag(class: Class, code: u32, body: &[u8], t: &mut [u64], k: usize) -> Run
     requires { ⌜ (length (now body) < 2 ^ 60) × (k < 2 ^ 60) ⌝ }
-    ensures { λ r. ⌜ left (now (t .exit)) r ≡ after (now (t .entry)) k (headed code (stateOf class) (valuesOf class code (now (body .entry)))) ⌝ }
+    ensures { λ r. ⌜ runLeaves (now (t .exit)) r ≡ shownOver (now (t .entry)) k (headed code (stateOf class) (valuesOf class code (now (body .entry)))) ⌝ }
 {
     let r = read_values(class, code, body, t, k + 3);
     if t.len() <= k {

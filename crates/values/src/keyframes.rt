@@ -4,9 +4,9 @@ ghost use Prim.Native.Nat.{_*_, _<_, _≤_, _^_};
 ghost use Rattle.format.specs.Bits.{high};
 ghost use Rattle.format.specs.Formats.{_▸_};
 ghost use Rattle.format.specs.Items.{run};
-ghost use Rattle.format.specs.Bodies.{values as «valuesOf», interpolations as «interpolationsOf», beziers, aligned, keyframed as «keyframed»};
-ghost use Rattle.table.specs.State.{after};
-ghost use Rattle.table.specs.Run.{left};
+ghost use Rattle.format.specs.Bodies.{values as valuesOf, interpolations as interpolationsOf, beziers, aligned, keyframed};
+ghost use Rattle.table.specs.State.{shownOver};
+ghost use Rattle.table.specs.Run.{runLeaves};
 ghost use Rattle.table.specs.Fields.{Fits};
 ghost use Rattle.attributes.specs.Rows.{kindOf, typeOf};
 ghost use Rattle.values.specs.Parts.{scaled, framesOf, keyframesOf};
@@ -32,8 +32,8 @@ fn read_interpolations(
     k: usize,
 ) -> Announced
     requires { ⌜ Fits (now s) (at .0) k × (n ≤ 4096) ⌝ }
-    ensures states { λ r. ⌜ left (now (t .exit)) (r .run) ≡ after (now (t .entry)) k (run high (now (s .entry)) (aligned ▸ «interpolationsOf» (kindOf kind) n) (at .0)) ⌝ }
-    ensures counts { λ r. ⌜ r .count ≡ beziers (run high (now (s .entry)) (aligned ▸ «interpolationsOf» (kindOf kind) n) (at .0) .shown) * 4 ⌝ }
+    ensures states { λ r. ⌜ runLeaves (now (t .exit)) (r .run) ≡ shownOver (now (t .entry)) k (run high (now (s .entry)) (aligned ▸ interpolationsOf (kindOf kind) n) (at .0)) ⌝ }
+    ensures counts { λ r. ⌜ r .count ≡ beziers (run high (now (s .entry)) (aligned ▸ interpolationsOf (kindOf kind) n) (at .0) .shown) * 4 ⌝ }
     ensures few { λ r. ⌜ r .count ≤ 6 * n ⌝ }
 {
     let a = bits::align(s, at);
@@ -74,7 +74,7 @@ fn read_values_part(
     k: usize,
 ) -> Run
     requires { ⌜ Fits (now s) (at .0) k × (n < 2 ^ 32) ⌝ }
-    ensures { λ r. ⌜ left (now (t .exit)) r ≡ after (now (t .entry)) k (run high (now (s .entry)) (aligned ▸ «valuesOf» (typeOf what) n) (at .0)) ⌝ }
+    ensures { λ r. ⌜ runLeaves (now (t .exit)) r ≡ shownOver (now (t .entry)) k (run high (now (s .entry)) (aligned ▸ valuesOf (typeOf what) n) (at .0)) ⌝ }
 {
     let a = bits::align(s, at);
     let Aligned::Clean(_, start) = a else {
@@ -86,7 +86,7 @@ fn read_values_part(
 // The easing part: a width, which stands always, and n signed fields of it.
 fn read_easing(n: usize, s: &[u8], at: BitPlace, t: &mut [u64], k: usize) -> Run
     requires { ⌜ Fits (now s) (at .0) k × (n < 2 ^ 32) ⌝ }
-    ensures { λ r. ⌜ left (now (t .exit)) r ≡ after (now (t .entry)) k (run high (now (s .entry)) (aligned ▸ scaled n) (at .0)) ⌝ }
+    ensures { λ r. ⌜ runLeaves (now (t .exit)) r ≡ shownOver (now (t .entry)) k (run high (now (s .entry)) (aligned ▸ scaled n) (at .0)) ⌝ }
 {
     let a = bits::align(s, at);
     let Aligned::Clean(_, start) = a else {
@@ -106,7 +106,7 @@ fn read_frames(
     k: usize,
 ) -> Run
     requires { ⌜ Fits (now s) (at .0) k × (n ≤ 4096) × (easing < 2 ^ 32) ⌝ }
-    ensures { λ r. ⌜ left (now (t .exit)) r ≡ after (now (t .entry)) k (run high (now (s .entry)) (framesOf (typeOf what) n easing) (at .0)) ⌝ }
+    ensures { λ r. ⌜ runLeaves (now (t .exit)) r ≡ shownOver (now (t .entry)) k (run high (now (s .entry)) (framesOf (typeOf what) n easing) (at .0)) ⌝ }
 {
     let r = read_in_turn(DataType::Time, n + 1, s, at, t, k);
     let Run::Done(timed, i) = r else {
@@ -130,7 +130,7 @@ fn read_keyframes(
     k: usize,
 ) -> Run
     requires { ⌜ Fits (now s) (at .0) k × (n ≤ 4096) ⌝ }
-    ensures { λ r. ⌜ left (now (t .exit)) r ≡ after (now (t .entry)) k (run high (now (s .entry)) (keyframesOf (kindOf kind) (typeOf what) n) (at .0)) ⌝ }
+    ensures { λ r. ⌜ runLeaves (now (t .exit)) r ≡ shownOver (now (t .entry)) k (run high (now (s .entry)) (keyframesOf (kindOf kind) (typeOf what) n) (at .0)) ⌝ }
 {
     let kinds = read_interpolations(kind, n, s, at, t, k);
     let easing = kinds.count;
@@ -151,7 +151,7 @@ pub fn read_keyframed(
     k: usize,
 ) -> Run
     requires { ⌜ Fits (now s) (at .0) k ⌝ }
-    ensures { λ r. ⌜ left (now (t .exit)) r ≡ after (now (t .entry)) k (run high (now (s .entry)) («keyframed» (kindOf kind) (typeOf what)) (at .0)) ⌝ }
+    ensures { λ r. ⌜ runLeaves (now (t .exit)) r ≡ shownOver (now (t .entry)) k (run high (now (s .entry)) (keyframed (kindOf kind) (typeOf what)) (at .0)) ⌝ }
 {
     let c = items::read_item(Item::Count(1), s, at);
     match c {

@@ -2,11 +2,11 @@
 ghost use mathlib.Core.Path.{_≡_};
 ghost use Prim.Native.Nat.{_<_, _≤_, _^_};
 ghost use Rattle.format.specs.Bits.{high};
-ghost use Rattle.format.specs.Formats.{times as «times»};
-ghost use Rattle.format.specs.Items.{run, ratio as «ratioOf», path as «path»};
-ghost use Rattle.format.specs.Bodies.{value as «valueOf», values as «valuesOf»};
-ghost use Rattle.table.specs.State.{after};
-ghost use Rattle.table.specs.Run.{left};
+ghost use Rattle.format.specs.Formats.{times};
+ghost use Rattle.format.specs.Items.{run, ratio as ratioOf, path};
+ghost use Rattle.format.specs.Bodies.{value as valueOf, values as valuesOf};
+ghost use Rattle.table.specs.State.{shownOver};
+ghost use Rattle.table.specs.Run.{runLeaves};
 ghost use Rattle.table.specs.Fields.{Fits};
 ghost use Rattle.attributes.specs.Rows.{typeOf};
 ghost use Rattle.values.specs.Parts.{pathOf};
@@ -23,7 +23,7 @@ use table::fields::Field;
 // A Ratio: I32, U32.
 fn read_ratio(s: &[u8], at: BitPlace, t: &mut [u64], k: usize) -> Run
     requires { ⌜ Fits (now s) (at .0) k ⌝ }
-    ensures { λ r. ⌜ left (now (t .exit)) r ≡ after (now (t .entry)) k (run high (now (s .entry)) «ratioOf» (at .0)) ⌝ }
+    ensures { λ r. ⌜ runLeaves (now (t .exit)) r ≡ shownOver (now (t .entry)) k (run high (now (s .entry)) ratioOf (at .0)) ⌝ }
 {
     let r = table::read_one(Item::I32, s, at, t, k);
     let Run::Done(next, j) = r else {
@@ -35,7 +35,7 @@ fn read_ratio(s: &[u8], at: BitPlace, t: &mut [u64], k: usize) -> Run
 // The verbs of a path, UB[3] each; then a width and an SB field of it for each coordinate.
 fn read_verbs(n: usize, s: &[u8], at: BitPlace, t: &mut [u64], k: usize) -> Run
     requires { ⌜ Fits (now s) (at .0) k × (n ≤ 4096) ⌝ }
-    ensures { λ r. ⌜ left (now (t .exit)) r ≡ after (now (t .entry)) k (run high (now (s .entry)) (pathOf n) (at .0)) ⌝ }
+    ensures { λ r. ⌜ runLeaves (now (t .exit)) r ≡ shownOver (now (t .entry)) k (run high (now (s .entry)) (pathOf n) (at .0)) ⌝ }
 {
     let verbs = table::fields::read_fields(Field::Verb, 3, n, s, at, t, k);
     let coordinates = verbs.count;
@@ -49,7 +49,7 @@ fn read_verbs(n: usize, s: &[u8], at: BitPlace, t: &mut [u64], k: usize) -> Run
 // A Path: its verb count, its verbs and its coordinates.
 fn read_path(s: &[u8], at: BitPlace, t: &mut [u64], k: usize) -> Run
     requires { ⌜ Fits (now s) (at .0) k ⌝ }
-    ensures { λ r. ⌜ left (now (t .exit)) r ≡ after (now (t .entry)) k (run high (now (s .entry)) «path» (at .0)) ⌝ }
+    ensures { λ r. ⌜ runLeaves (now (t .exit)) r ≡ shownOver (now (t .entry)) k (run high (now (s .entry)) path (at .0)) ⌝ }
 {
     let c = items::read_item(Item::Count(0), s, at);
     match c {
@@ -64,7 +64,7 @@ fn read_path(s: &[u8], at: BitPlace, t: &mut [u64], k: usize) -> Run
 // One value that is not keyframed.
 pub fn read_value(what: DataType, s: &[u8], at: BitPlace, t: &mut [u64], k: usize) -> Run
     requires { ⌜ Fits (now s) (at .0) k ⌝ }
-    ensures { λ r. ⌜ left (now (t .exit)) r ≡ after (now (t .entry)) k (run high (now (s .entry)) («valueOf» (typeOf what)) (at .0)) ⌝ }
+    ensures { λ r. ⌜ runLeaves (now (t .exit)) r ≡ shownOver (now (t .entry)) k (run high (now (s .entry)) (valueOf (typeOf what)) (at .0)) ⌝ }
 {
     match what {
         DataType::U32 => table::read_one(Item::U32, s, at, t, k),
@@ -83,7 +83,7 @@ pub fn read_value(what: DataType, s: &[u8], at: BitPlace, t: &mut [u64], k: usiz
 // n values in turn.
 fn read_in_turn(what: DataType, n: usize, s: &[u8], at: BitPlace, t: &mut [u64], k: usize) -> Run
     requires { ⌜ Fits (now s) (at .0) k ⌝ }
-    ensures { λ r. ⌜ left (now (t .exit)) r ≡ after (now (t .entry)) k (run high (now (s .entry)) («times» n («valueOf» (typeOf what))) (at .0)) ⌝ }
+    ensures { λ r. ⌜ runLeaves (now (t .exit)) r ≡ shownOver (now (t .entry)) k (run high (now (s .entry)) (times n (valueOf (typeOf what))) (at .0)) ⌝ }
 {
     let mut place = at;
     let mut j = k;
@@ -103,7 +103,7 @@ fn read_in_turn(what: DataType, n: usize, s: &[u8], at: BitPlace, t: &mut [u64],
 // n keyframed values: Bools one bit each; bytes as a width and fields of it; the others in turn.
 fn read_values(what: DataType, n: usize, s: &[u8], at: BitPlace, t: &mut [u64], k: usize) -> Run
     requires { ⌜ Fits (now s) (at .0) k × (n < 2 ^ 32) ⌝ }
-    ensures { λ r. ⌜ left (now (t .exit)) r ≡ after (now (t .entry)) k (run high (now (s .entry)) («valuesOf» (typeOf what) n) (at .0)) ⌝ }
+    ensures { λ r. ⌜ runLeaves (now (t .exit)) r ≡ shownOver (now (t .entry)) k (run high (now (s .entry)) (valuesOf (typeOf what) n) (at .0)) ⌝ }
 {
     match what {
         DataType::Bool => {

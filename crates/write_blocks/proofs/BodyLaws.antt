@@ -21,6 +21,7 @@ use Rattle.format.specs.WritingFormats.{adjoin, onward, unrun}
 use Rattle.format.specs.WritingBodies.{flagsIn, usedUp, writeBlock, writePart, pack, val, Bytes, bytes, impossible, packed, writeBody}
 use Rattle.format.proofs.BitLaws.{length-dig}
 use Rattle.format.proofs.ByteLaws.{length-pack}
+use Rattle.format.proofs.Absurd.{clash}
 use Rattle.sink.specs.Lain.{Lain, lain, unlain, lies, lainAs, longest}
 use Rattle.sink.specs.Laying.{State, mk, at, lay, Holds, Skipped}
 use Rattle.sink.specs.declared.Body.{Body}
@@ -97,7 +98,7 @@ some-flag v n = go (eqb v 0) (eqb (v % 2) 1)
 
 some-kind : (k : Kind) (v : ℕ) → hasFlag k ≡ true → Some (flagSpelling k v)
 some-kind Value v e = some-flag v 0
-some-kind Fixed v e = absurd (let z : _≡_ {A = ℕ} 0 1 = cc in omega arith)
+some-kind Fixed v e = clash cc
 some-kind BitFlag v e = some-flag v 0
 some-kind Simple v e = some-flag v 1
 some-kind Discrete v e = some-flag v 1
@@ -114,7 +115,7 @@ some-rest none c h = tt
 
 some-flags : (ks : List Attribute) (φs : List ℕ) → anyFlag ks ≡ true → Some (flagBits ks φs)
 unfolding flagBits anyFlag
-some-flags [] φs e = absurd (let z : _≡_ {A = ℕ} 0 1 = cc in omega arith)
+some-flags [] φs e = clash cc
 some-flags (a ∷ ks) [] e = tt
 some-flags (a ∷ ks) (φ ∷ φs) e = go (hasFlag (a .kind)) refl e (some-flags ks φs)
   where
@@ -319,17 +320,17 @@ both-is (spelt cs) (here st′ j) bs st k e =
     let q : st′ ≡ st = cc in
     let i : j ≡ k = cc in
     (ap spelt p, ap₂ here q i)
-both-is (spelt cs) gone bs st k e = absurd (let z : _≡_ {A = ℕ} 0 1 = cc in omega arith)
-both-is none x bs st k e = absurd (let z : _≡_ {A = ℕ} 0 1 = cc in omega arith)
+both-is (spelt cs) gone bs st k e = clash cc
+both-is none x bs st k e = clash cc
 
 lies-between : (o : List ℕ) (a : ℕ) (b : Bytes) (u : List ℕ) (stop : ℕ) → lain u stop ≡ lies o a b → (a ≤ stop) × (stop ≤ longest)
 unfolding lies
-lies-between o a impossible u stop e = absurd (let z : _≡_ {A = ℕ} 0 1 = cc in omega arith)
+lies-between o a impossible u stop e = clash cc
 lies-between o a (bytes xs) u stop e = go (leb (a + length xs) longest) refl e
   where
     go : (c : Bool) → leb (a + length xs) longest ≡ c → lain u stop ≡ pick c (lain (sets o a xs) (a + length xs)) unlain → (a ≤ stop) × (stop ≤ longest)
     go true q d = let z : stop ≡ a + length xs = cc in (omega arith, omega (arith, leb-true (a + length xs) longest q))
-    go false q d = absurd (let z : _≡_ {A = ℕ} 0 1 = cc in omega arith)
+    go false q d = clash cc
 
 module _ (ks : List Attribute) (t : List ℕ) (any : anyFlag ks ≡ true) (o : List ℕ) (a : ℕ) (u : List ℕ) (R : Filled)
     (e : (filled u R ≡ fills ks t (mk o (8 * (a + 1)) 0)) × Ready R) where

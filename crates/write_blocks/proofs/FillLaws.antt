@@ -18,7 +18,7 @@ use Rattle.attributes.specs.Rows.{allAttributes, rowsFrom}
 use Rattle.sink.specs.Laying.{State, at}
 use Rattle.sink.specs.declared.Sink.{Sink}
 use Rattle.sink.proofs.LayingLaws.{lay-none}
-use Rattle.spelling.specs.Writing.{Seen, here, gone, seen, after, ran, limit, Fine}
+use Rattle.spelling.specs.Writing.{Seen, here, gone, seen, writtenOver, ran, limit, Fine}
 use Rattle.spelling.specs.declared.Put.{Put}
 use Rattle.spelling.specs.declared.Put.the-variants.{Done, Impossible}
 use Rattle.spelling.proofs.RunLaws.{ends-in, ran-then, resume, ran-nothing, ran-fine}
@@ -73,7 +73,7 @@ module _ (t : List ℕ) where
       flags-cons = rw (drop-cons t k 0 lk)
 
       echoed : st .place ≤ limit → ran t st k (item (Item.echo (getD t k 0))) ≡ here st (k + 1)
-      unfolding ran unrun writeItem after
+      unfolding ran unrun writeItem writtenOver
       echoed l = rw (drop-cons t k 0 lk, eq-eqb (getD t k 0) (getD t k 0) refl, lay-none) (ends-in st (k + 1) l)
 
       -- its flag number, its content, and the contents of the others

@@ -5,11 +5,11 @@ ghost use mathlib.Core.Bool.{true};
 ghost use Prim.Native.Nat.{_+_, _-_, _≤_, _<_};
 ghost use Rattle.format.specs.Bits.{high};
 ghost use Rattle.format.specs.WritingItems.{before, spellFlag};
-ghost use Rattle.format.specs.Bodies.{content as «contentOf», attributes as «attributesBody»};
+ghost use Rattle.format.specs.Bodies.{content as contentOf, attributes as attributesBody};
 ghost use Rattle.format.specs.WritingBodies.{writeBody};
 ghost use Rattle.attributes.specs.Rows.{kindOf, attributeOf, rowsFrom, AreRows};
 ghost use Rattle.sink.specs.Lain.{lies, lainAs, longest};
-ghost use Rattle.sink.specs.Laying.{at as «under»};
+ghost use Rattle.sink.specs.Laying.{at as under};
 ghost use Rattle.spelling.specs.Writing.{seen, ran, Fine};
 ghost use Rattle.write_blocks.specs.Flags.{bitsOf, noted, Held, Grown, flagSpelling, flagBytes, anyFlag};
 ghost use Rattle.write_blocks.specs.Filling.{filled, fills, Ready, underFlags};
@@ -108,7 +108,7 @@ fn write_content(
     k: usize,
 ) -> Put
     requires { ⌜ Fine s ⌝ }
-    ensures { λ r. ⌜ seen (now (out .exit)) r ≡ ran (now (t .entry)) («under» (now (out .entry)) s) k («contentOf» (attributeOf attribute) flag) ⌝ }
+    ensures { λ r. ⌜ seen (now (out .exit)) r ≡ ran (now (t .entry)) (under (now (out .entry)) s) k (contentOf (attributeOf attribute) flag) ⌝ }
 {
     let kind = attribute.kind;
     let what = attribute.data_type;
@@ -122,7 +122,7 @@ fn write_content(
 // The contents of all rows; their flags are gathered on the way.
 fn write_contents(rows: Rows, t: &[u64], out: &mut [u8], s: Sink) -> Filled
     requires { ⌜ AreRows (rows .start) (rows .end) × Fine s ⌝ }
-    ensures { λ r. ⌜ (filled (now (out .exit)) r ≡ fills (rowsFrom (rows .start) (rows .end)) (now (t .entry)) («under» (now (out .entry)) s)) × Ready r ⌝ }
+    ensures { λ r. ⌜ (filled (now (out .exit)) r ≡ fills (rowsFrom (rows .start) (rows .end)) (now (t .entry)) (under (now (out .entry)) s)) × Ready r ⌝ }
 {
     let attributes = attributes::ATTRIBUTES;
     let end = rows.end;
@@ -182,7 +182,7 @@ fn put_flags(flags: Flags, out: &mut [u8], at: usize, stop: usize) -> Body
 // An attribute block, from a byte place on; one that has flags. No file is longer than 16,777,216 bytes.
 pub fn write_block(rows: Rows, values: &[u64], out: &mut [u8], at: usize) -> Body
     requires { ⌜ AreRows (rows .start) (rows .end) × (anyFlag (rowsFrom (rows .start) (rows .end)) ≡ true) ⌝ }
-    ensures { λ r. ⌜ lainAs (now (out .exit)) r ≡ lies (now (out .entry)) at (writeBody high («attributesBody» (rowsFrom (rows .start) (rows .end))) (now (values .entry))) ⌝ }
+    ensures { λ r. ⌜ lainAs (now (out .exit)) r ≡ lies (now (out .entry)) at (writeBody high (attributesBody (rowsFrom (rows .start) (rows .end))) (now (values .entry))) ⌝ }
 {
     if 16777216 <= at {
         return Body::No;

@@ -5,7 +5,7 @@ ghost use Rattle.format.specs.Formats.{times};
 ghost use Rattle.format.specs.Items.{string};
 ghost use Rattle.format.specs.Bodies.{fontTables};
 ghost use Rattle.fixed.specs.Fixed.{inOrder, itemsFrom, fixedOf};
-ghost use Rattle.sink.specs.Laying.{at as «under»};
+ghost use Rattle.sink.specs.Laying.{at as under};
 ghost use Rattle.spelling.specs.Writing.{seen, ran, Fine};
 use bits::BitPlace;
 use items::Item;
@@ -15,7 +15,7 @@ use spelling::Put;
 // The items from row start on, up to row end.
 fn write_items(start: usize, end: usize, out: &mut [u8], s: Sink, t: &[u64], k: usize) -> Put
     requires { ⌜ (start ≤ end) × (end ≤ 18) × Fine s ⌝ }
-    ensures { λ r. ⌜ seen (now (out .exit)) r ≡ ran (now (t .entry)) («under» (now (out .entry)) s) k (inOrder (itemsFrom start end)) ⌝ }
+    ensures { λ r. ⌜ seen (now (out .exit)) r ≡ ran (now (t .entry)) (under (now (out .entry)) s) k (inOrder (itemsFrom start end)) ⌝ }
 {
     let rows = fixed::ITEMS;
     let mut cur = s;
@@ -41,7 +41,7 @@ fn write_items(start: usize, end: usize, out: &mut [u8], s: Sink, t: &[u64], k: 
 // n Strings.
 fn write_strings(n: usize, out: &mut [u8], s: Sink, t: &[u64], k: usize) -> Put
     requires { ⌜ Fine s ⌝ }
-    ensures { λ r. ⌜ seen (now (out .exit)) r ≡ ran (now (t .entry)) («under» (now (out .entry)) s) k (times n string) ⌝ }
+    ensures { λ r. ⌜ seen (now (out .exit)) r ≡ ran (now (t .entry)) (under (now (out .entry)) s) k (times n string) ⌝ }
 {
     let mut cur = s;
     let mut j = k;
@@ -61,7 +61,7 @@ fn write_strings(n: usize, out: &mut [u8], s: Sink, t: &[u64], k: usize) -> Put
 // 1: a count, then two Strings each.
 fn write_fonts(out: &mut [u8], s: Sink, t: &[u64], k: usize) -> Put
     requires { ⌜ Fine s ⌝ }
-    ensures { λ r. ⌜ seen (now (out .exit)) r ≡ ran (now (t .entry)) («under» (now (out .entry)) s) k fontTables ⌝ }
+    ensures { λ r. ⌜ seen (now (out .exit)) r ≡ ran (now (t .entry)) (under (now (out .entry)) s) k fontTables ⌝ }
 {
     let r = spelling::write_one(Item::Count(0), out, s, t, k);
     let Put::Done(next, j) = r else {
@@ -73,7 +73,7 @@ fn write_fonts(out: &mut [u8], s: Sink, t: &[u64], k: usize) -> Put
 // The items of a tag that is no attribute block; of a container those before its list.
 pub fn write_fixed(code: u32, out: &mut [u8], s: Sink, t: &[u64], k: usize) -> Put
     requires { ⌜ Fine s ⌝ }
-    ensures { λ r. ⌜ seen (now (out .exit)) r ≡ ran (now (t .entry)) («under» (now (out .entry)) s) k (fixedOf code) ⌝ }
+    ensures { λ r. ⌜ seen (now (out .exit)) r ≡ ran (now (t .entry)) (under (now (out .entry)) s) k (fixedOf code) ⌝ }
 {
     if code == 1 {
         return write_fonts(out, s, t, k);

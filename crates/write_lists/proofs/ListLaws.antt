@@ -17,6 +17,7 @@ use Rattle.format.specs.WritingBodies.{Bytes, bytes, impossible, packed, writeB
 use Rattle.format.specs.WritingFiles.{Made, made, unmade, allBytes, spellHead, fitsHead, bodyOf, fronted, fill, outTag, headed, unwalkList}
 use Rattle.format.proofs.ListLaws.{unlist-nil, unlist-one}
 use Rattle.format.proofs.ListTrip.{ListIf, list-back}
+use Rattle.format.proofs.Absurd.{clash}
 use Rattle.classes.specs.declared.Class.{Class}
 use Rattle.classes.specs.declared.Class.the-variants.{Opaque, End, Container, Fixed, Attributes}
 use Rattle.classes.specs.Classes.{ends, contains, classAt}
@@ -84,7 +85,7 @@ module _ (code left s n : ℕ) (vs ys : List ℕ) (W : List ℕ → Made) (count
       go true true = refl
       go true false = refl
       go false y = refl
-  fill-leaf Container h = absurd (let z : _≡_ {A = Bool} true false = h in let y : _≡_ {A = ℕ} 0 1 = cc in omega arith)
+  fill-leaf Container h = absurd (let z : _≡_ {A = Bool} true false = h in clash cc)
   fill-leaf Fixed h = go (eqb s 1) (writeBody high (leafBody code) vs)
     where
       go : (x : Bool) (z : Bytes) → coded code (pick x (bodyOf (s ∷ n ∷ vs) z ys) unmade) ≡ bodyOf (code ∷ s ∷ n ∷ vs) (pick x z impossible) ys

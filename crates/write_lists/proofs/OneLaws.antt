@@ -2,10 +2,10 @@
 use Prim.Native.Nat.{ℕ}
 use mathlib.Core.List.{List}
 use mathlib.Core.Path.{_≡_, refl, ap₂, sym, _∙_}
-use native.Mathlib.Omega.{arith}
 use Rattle.write_lists.specs.Stood.{Stood, stoodAs}
 use Rattle.write_lists.specs.declared.Wrote.{Wrote}
 use Rattle.write_lists.specs.declared.Wrote.the-variants.{Done, Impossible}
+use Rattle.format.proofs.Absurd.{clash}
 
 -- two answers with their outputs, of which at most the outputs differ, and these only where nothing was written
 abbrev Same : List ℕ → Wrote → List ℕ → Wrote → Type 0
@@ -20,6 +20,6 @@ stood-one u a v b e d = go a b (e ∙ sym d)
         let z : p ≡ q = cc in
         let i : k ≡ j = cc in
         (cc, ap₂ Done z i)
-    go (Done p k) Impossible f = absurd (let z : _≡_ {A = ℕ} 0 1 = cc in omega arith)
-    go Impossible (Done q j) f = absurd (let z : _≡_ {A = ℕ} 0 1 = cc in omega arith)
+    go (Done p k) Impossible f = clash cc
+    go Impossible (Done q j) f = clash cc
     go Impossible Impossible f = refl

@@ -11,6 +11,7 @@ use lib.ListN.{length, drop, length-append, length-drop}
 use lib.Seq.{sets, drop-drop, drop-append-seam}
 use Rattle.format.specs.Tests.{pick}
 use Rattle.format.specs.WritingFiles.{Made, made, unmade, joined}
+use Rattle.format.proofs.Absurd.{clash}
 use Rattle.table.proofs.EngineLaws.{sets-append}
 use Rattle.sink.specs.Lain.{longest}
 use Rattle.write_lists.specs.Stood.{Stood, stood, fell, over}
@@ -30,14 +31,14 @@ pub record StoodBy (o : List ℕ) (a k : ℕ) (u : List ℕ) (p j : ℕ) (m : Ma
 
 pub stood-by : (o : List ℕ) (a k : ℕ) (u : List ℕ) (p j : ℕ) (m : Made) → stood u p j ≡ over o a k m → StoodBy o a k u p j m
 unfolding over
-stood-by o a k u p j unmade e = absurd (let z : _≡_ {A = ℕ} 0 1 = cc in omega arith)
+stood-by o a k u p j unmade e = clash cc
 stood-by o a k u p j (made xs b ys) e = go (leb (a + length b) longest) refl e
   where
     go : (c : Bool) → leb (a + length b) longest ≡ c → stood u p j ≡ pick c (stood (sets o a b) (a + length b) (k + length xs)) fell → StoodBy o a k u p j (made xs b ys)
     go true q h =
         let z : p ≡ a + length b = cc in
         record { xs = xs; b = b; ys = ys; is = refl; out = cc; place = z; index = cc; small = omega (arith, leb-true (a + length b) longest q) }
-    go false q h = absurd (let z : _≡_ {A = ℕ} 0 1 = cc in omega arith)
+    go false q h = clash cc
 
 -- the numbers that were used up and those that are left are the numbers that were given
 abbrev pub Parts : List ℕ → Made → Type 0
@@ -46,7 +47,7 @@ Parts ns unmade = Unit {0}
 
 pub parts-of : (ns xs b ys : List ℕ) (m : Made) → m ≡ made xs b ys → Parts ns m → ns ≡ xs ++ ys
 parts-of ns xs b ys (made xs′ b′ ys′) e h = let p : xs′ ≡ xs = cc in let q : ys′ ≡ ys = cc in rw (← p, ← q) h
-parts-of ns xs b ys unmade e h = absurd (let z : _≡_ {A = ℕ} 0 1 = cc in omega arith)
+parts-of ns xs b ys unmade e h = clash cc
 
 -- places and indexes grow, and stay in their bounds
 pub stood-index : (t o : List ℕ) (a k : ℕ) (u : List ℕ) (p j : ℕ) (m : Made) → k ≤ length t → Parts (drop k t) m → stood u p j ≡ over o a k m

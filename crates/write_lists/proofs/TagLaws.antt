@@ -11,6 +11,7 @@ use lib.Seq.{sets, length-sets, drop-cons, length-take-le}
 use Rattle.format.specs.Tests.{pick}
 use Rattle.format.specs.WritingBodies.{Bytes, bytes, impossible}
 use Rattle.format.specs.WritingFiles.{Made, made, unmade, bodyOf, spell16, spell32, spellHead, fitsHead}
+use Rattle.format.proofs.Absurd.{clash}
 use Rattle.classes.specs.declared.Class.{Class}
 use Rattle.tags.specs.Shown.{stateOf}
 use Rattle.table.proofs.EngineLaws.{sets-append}
@@ -78,7 +79,7 @@ shut-over o l a k code Impossible (made xs b ys) h e = go (leb (a + 2 + length b
   where
     go : (c : Bool) → leb (a + 2 + length b) longest ≡ c → fell ≡ pick c (stood (sets o (a + 2) b) (a + 2 + length b) (k + length xs)) fell
         → (f : Bool) → fell ≡ over o a k (pick f (made xs (spellHead code (length b) ++ b) ys) unmade)
-    go true q w f = absurd (let z : _≡_ {A = ℕ} 0 1 = cc in omega arith)
+    go true q w f = clash cc
     go false q w false = refl
     go false q w true =
         rw (lt-leb (a + length (spellHead code (length b) ++ b)) longest (rw length-append (omega (arith, leb-false (a + 2 + length b) longest q, head-two code (length b)))))
@@ -98,11 +99,11 @@ shut-after o l a k (Done p j) m e = let s = stood-by o (a + 2) k l p j m e in (o
 -- a whole tag takes two bytes at least
 pub shut-place : (o u : List ℕ) (a k code p j : ℕ) (m : Made) → stood u p j ≡ over o a k (shut code m) → (a + 2 ≤ p) × (p ≤ longest)
 unfolding over
-shut-place o u a k code p j unmade e = absurd (let z : _≡_ {A = ℕ} 0 1 = cc in omega arith)
+shut-place o u a k code p j unmade e = clash cc
 shut-place o u a k code p j (made xs b ys) e = go (fitsHead code (length b)) e
   where
     go : (c : Bool) → stood u p j ≡ over o a k (pick c (made xs (spellHead code (length b) ++ b) ys) unmade) → (a + 2 ≤ p) × (p ≤ longest)
-    go false w = absurd (let z : _≡_ {A = ℕ} 0 1 = cc in omega arith)
+    go false w = clash cc
     go true w =
         let s = stood-by o a k u p j (made xs (spellHead code (length b) ++ b) ys) w in
         let d : spellHead code (length b) ++ b ≡ s .b = go′ (s .xs) (s .b) (s .ys) (s .is) in
@@ -192,13 +193,13 @@ module _ (class : Class) (t : List ℕ) (k : ℕ) (o : List ℕ) (b : ℕ) where
           where
             go : (z : Bytes) → lain u p ≡ lies o b z
                 → over o b k (bodyOf (code ∷ getD t (k + 1) 0 ∷ getD t (k + 2) 0 ∷ vs) z (drop (getD t (k + 2) 0) (drop (k + 3) t))) ≡ stood u p (k + 3 + getD t (k + 2) 0)
-            go impossible q = absurd (let z : _≡_ {A = ℕ} 0 1 = cc in omega arith)
+            go impossible q = clash cc
             go (bytes bs) q = lim (leb (b + length bs) longest) q
               where
                 lim : (c : Bool) → lain u p ≡ pick c (lain (sets o b bs) (b + length bs)) unlain
                     → pick c (stood (sets o b bs) (b + length bs) (k + length (code ∷ getD t (k + 1) 0 ∷ getD t (k + 2) 0 ∷ vs))) fell ≡ stood u p (k + 3 + getD t (k + 2) 0)
                 lim true w = let x : u ≡ sets o b bs = cc in let y : p ≡ b + length bs = cc in rw (x, y, used)
-                lim false w = absurd (let z : _≡_ {A = ℕ} 0 1 = cc in omega arith)
+                lim false w = clash cc
 
         pub begun-no : R ≡ No → fell ≡ over o b k (begun class (drop k t))
         unfolding over lies
@@ -210,5 +211,5 @@ module _ (class : Class) (t : List ℕ) (k : ℕ) (o : List ℕ) (b : ℕ) where
               where
                 lim : (c : Bool) → unlain ≡ pick c (lain (sets o b bs) (b + length bs)) unlain
                     → pick c (stood (sets o b bs) (b + length bs) (k + length (code ∷ getD t (k + 1) 0 ∷ getD t (k + 2) 0 ∷ vs))) fell ≡ fell
-                lim true w = absurd (let z : _≡_ {A = ℕ} 0 1 = cc in omega arith)
+                lim true w = clash cc
                 lim false w = refl

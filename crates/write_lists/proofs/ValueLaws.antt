@@ -13,6 +13,7 @@ use lib.Seq.{sets, sets-eq, length-sets, drop-cons, drop-drop, take-all, length-
 use Rattle.format.specs.Tests.{pick}
 use Rattle.format.specs.WritingBodies.{bytes, impossible}
 use Rattle.format.specs.WritingFiles.{allBytes}
+use Rattle.format.proofs.Absurd.{clash}
 use Rattle.classes.specs.declared.Class.{Class}
 use Rattle.classes.specs.declared.Class.the-variants.{End}
 use Rattle.sink.specs.Lain.{longest, Lain, lain, unlain, lies}
@@ -70,7 +71,7 @@ module _ (o : List ℕ) (b : ℕ) (vs : List ℕ) where
   -- the part p of the output that was lent, back in its place
   pub front-some : (m k j : ℕ) (r : Bool) (p : List ℕ) {u : List ℕ} → k ≡ m → j ≡ m → 0 < m → m ≡ min (length vs) (length o - b) → not r ≡ false → LaidAs r (take j vs) p
       → u ≡ take b o ++ (p ++ drop k (drop b o)) → Front m u
-  front-some m k j false p d e z h n l q = absurd (let x : _≡_ {A = ℕ} 0 1 = cc in omega arith)
+  front-some m k j false p d e z h n l q = clash cc
   front-some m k j true p d e z h n l q =
       let f : p ≡ take m vs = l .1 ∙ ap (λ (x : ℕ). take x vs) e in
       let len : length (take m vs) ≡ m = length-take-le m vs (omega arith) in
@@ -83,7 +84,7 @@ module _ (o : List ℕ) (b : ℕ) (vs : List ℕ) where
 
   pub copy-bad : (j : ℕ) (r : Bool) (p : List ℕ) → not r ≡ true → LaidAs r (take j vs) p → unlain ≡ lies o b (asBytes vs)
   unfolding lies
-  copy-bad j true p n l = absurd (let x : _≡_ {A = ℕ} 0 1 = cc in omega arith)
+  copy-bad j true p n l = clash cc
   copy-bad j false p n l = rw (bytes-split j vs, l)
 
   -- the others, as a part of the slice up to its end

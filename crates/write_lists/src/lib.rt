@@ -9,7 +9,7 @@ ghost use Rattle.format.specs.WritingFiles.{allBytes, unwalkList};
 ghost use Rattle.classes.specs.Classes.{contains, ends};
 ghost use Rattle.sink.specs.Lain.{longest, lies, lainAs};
 ghost use Rattle.write_lists.specs.Stood.{over, stoodAs};
-ghost use Rattle.write_lists.specs.Tags.{asBytes, LaidAs, valuesIn, begun, shut as «shutBy», shutAs, After};
+ghost use Rattle.write_lists.specs.Tags.{asBytes, LaidAs, valuesIn, begun, shut as shutBy, shutAs, After};
 use classes::Class;
 use sink::Body;
 
@@ -139,7 +139,7 @@ fn shut(out: &mut [u8], place: usize, code: u32, w: Wrote) -> Wrote
 // A whole tag that is no container.
 fn write_leaf(class: Class, code: u32, out: &mut [u8], place: usize, t: &[u64], k: usize) -> Wrote
     requires { ⌜ (place ≤ longest) × (k < length (now t)) × (code ≡ getD (now t) k 0) × (code < 1024) ⌝ }
-    ensures { λ r. ⌜ stoodAs (now (out .exit)) r ≡ over (now (out .entry)) place k («shutBy» code (begun class (drop k (now (t .entry))))) ⌝ }
+    ensures { λ r. ⌜ stoodAs (now (out .exit)) r ≡ over (now (out .entry)) place k (shutBy code (begun class (drop k (now (t .entry))))) ⌝ }
 {
     let w = begin_tag(class, code, out, place + 2, t, k);
     shut(out, place, code, w)

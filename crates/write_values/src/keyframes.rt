@@ -2,10 +2,10 @@
 ghost use mathlib.Core.Path.{_≡_};
 ghost use Prim.Native.Nat.{_<_, _≤_, _^_};
 ghost use Rattle.format.specs.Formats.{_▸_};
-ghost use Rattle.format.specs.Bodies.{values as «valuesOf», interpolations as «interpolationsOf», aligned, keyframed as «keyframed»};
+ghost use Rattle.format.specs.Bodies.{values as valuesOf, interpolations as interpolationsOf, aligned, keyframed};
 ghost use Rattle.attributes.specs.Rows.{kindOf, typeOf};
 ghost use Rattle.values.specs.Parts.{scaled, framesOf, keyframesOf};
-ghost use Rattle.sink.specs.Laying.{at as «under»};
+ghost use Rattle.sink.specs.Laying.{at as under};
 ghost use Rattle.spelling.specs.Writing.{seen, ran, Fine};
 ghost use Rattle.write_values.specs.Easing.{Eases};
 use crate::write_in_turn;
@@ -28,7 +28,7 @@ fn write_interpolations(
     k: usize,
 ) -> Announced
     requires { ⌜ Fine s × (n ≤ 4096) ⌝ }
-    ensures states { λ r. ⌜ seen (now (out .exit)) (r .put) ≡ ran (now (t .entry)) («under» (now (out .entry)) s) k (aligned ▸ «interpolationsOf» (kindOf kind) n) ⌝ }
+    ensures states { λ r. ⌜ seen (now (out .exit)) (r .put) ≡ ran (now (t .entry)) (under (now (out .entry)) s) k (aligned ▸ interpolationsOf (kindOf kind) n) ⌝ }
     ensures counts { λ r. ⌜ Eases (now (t .entry)) k n (r .put) (r .count) ⌝ }
 {
     let start = spelling::skip(out, s);
@@ -64,7 +64,7 @@ fn write_interpolations(
 // The values part.
 fn write_values_part(what: DataType, n: usize, out: &mut [u8], s: Sink, t: &[u64], k: usize) -> Put
     requires { ⌜ Fine s × (n < 2 ^ 32) ⌝ }
-    ensures { λ r. ⌜ seen (now (out .exit)) r ≡ ran (now (t .entry)) («under» (now (out .entry)) s) k (aligned ▸ «valuesOf» (typeOf what) n) ⌝ }
+    ensures { λ r. ⌜ seen (now (out .exit)) r ≡ ran (now (t .entry)) (under (now (out .entry)) s) k (aligned ▸ valuesOf (typeOf what) n) ⌝ }
 {
     let start = spelling::skip(out, s);
     write_values(what, n, out, start, t, k)
@@ -73,7 +73,7 @@ fn write_values_part(what: DataType, n: usize, out: &mut [u8], s: Sink, t: &[u64
 // The easing part: a width, which stands always, and n signed fields of it.
 fn write_easing(n: usize, out: &mut [u8], s: Sink, t: &[u64], k: usize) -> Put
     requires { ⌜ Fine s × (n < 2 ^ 32) ⌝ }
-    ensures { λ r. ⌜ seen (now (out .exit)) r ≡ ran (now (t .entry)) («under» (now (out .entry)) s) k (aligned ▸ scaled n) ⌝ }
+    ensures { λ r. ⌜ seen (now (out .exit)) r ≡ ran (now (t .entry)) (under (now (out .entry)) s) k (aligned ▸ scaled n) ⌝ }
 {
     let start = spelling::skip(out, s);
     spelling::fields::write_scaled(Field::Coordinate, n, out, start, t, k)
@@ -90,7 +90,7 @@ fn write_frames(
     k: usize,
 ) -> Put
     requires { ⌜ Fine s × (n ≤ 4096) × (easing < 2 ^ 32) ⌝ }
-    ensures { λ r. ⌜ seen (now (out .exit)) r ≡ ran (now (t .entry)) («under» (now (out .entry)) s) k (framesOf (typeOf what) n easing) ⌝ }
+    ensures { λ r. ⌜ seen (now (out .exit)) r ≡ ran (now (t .entry)) (under (now (out .entry)) s) k (framesOf (typeOf what) n easing) ⌝ }
 {
     let r = write_in_turn(DataType::Time, n + 1, out, s, t, k);
     let Put::Done(timed, i) = r else {
@@ -114,7 +114,7 @@ fn write_keyframes(
     k: usize,
 ) -> Put
     requires { ⌜ Fine s × (n ≤ 4096) ⌝ }
-    ensures { λ r. ⌜ seen (now (out .exit)) r ≡ ran (now (t .entry)) («under» (now (out .entry)) s) k (keyframesOf (kindOf kind) (typeOf what) n) ⌝ }
+    ensures { λ r. ⌜ seen (now (out .exit)) r ≡ ran (now (t .entry)) (under (now (out .entry)) s) k (keyframesOf (kindOf kind) (typeOf what) n) ⌝ }
 {
     let kinds = write_interpolations(kind, n, out, s, t, k);
     let easing = kinds.count;
@@ -135,7 +135,7 @@ pub fn write_keyframed(
     k: usize,
 ) -> Put
     requires { ⌜ Fine s ⌝ }
-    ensures { λ r. ⌜ seen (now (out .exit)) r ≡ ran (now (t .entry)) («under» (now (out .entry)) s) k («keyframed» (kindOf kind) (typeOf what)) ⌝ }
+    ensures { λ r. ⌜ seen (now (out .exit)) r ≡ ran (now (t .entry)) (under (now (out .entry)) s) k (keyframed (kindOf kind) (typeOf what)) ⌝ }
 {
     let r = spelling::write_one(Item::Count(1), out, s, t, k);
     let Put::Done(next, j) = r else {

@@ -1,12 +1,12 @@
 // The values of attributes, written by their data type: one, or several in turn.
 ghost use mathlib.Core.Path.{_≡_};
 ghost use Prim.Native.Nat.{_<_, _≤_, _^_};
-ghost use Rattle.format.specs.Formats.{times as «times»};
-ghost use Rattle.format.specs.Items.{ratio as «ratioOf», path as «path»};
-ghost use Rattle.format.specs.Bodies.{value as «valueOf», values as «valuesOf»};
+ghost use Rattle.format.specs.Formats.{times};
+ghost use Rattle.format.specs.Items.{ratio as ratioOf, path};
+ghost use Rattle.format.specs.Bodies.{value as valueOf, values as valuesOf};
 ghost use Rattle.attributes.specs.Rows.{typeOf};
 ghost use Rattle.values.specs.Parts.{pathOf};
-ghost use Rattle.sink.specs.Laying.{at as «under»};
+ghost use Rattle.sink.specs.Laying.{at as under};
 ghost use Rattle.spelling.specs.Writing.{seen, ran, Fine};
 
 pub mod keyframes;
@@ -20,7 +20,7 @@ use table::fields::Field;
 // A Ratio: I32, U32.
 fn write_ratio(out: &mut [u8], s: Sink, t: &[u64], k: usize) -> Put
     requires { ⌜ Fine s ⌝ }
-    ensures { λ r. ⌜ seen (now (out .exit)) r ≡ ran (now (t .entry)) («under» (now (out .entry)) s) k «ratioOf» ⌝ }
+    ensures { λ r. ⌜ seen (now (out .exit)) r ≡ ran (now (t .entry)) (under (now (out .entry)) s) k ratioOf ⌝ }
 {
     let r = spelling::write_one(Item::I32, out, s, t, k);
     let Put::Done(next, j) = r else {
@@ -32,7 +32,7 @@ fn write_ratio(out: &mut [u8], s: Sink, t: &[u64], k: usize) -> Put
 // The verbs of a path, UB[3] each; then a width and an SB field of it for each coordinate.
 fn write_verbs(n: usize, out: &mut [u8], s: Sink, t: &[u64], k: usize) -> Put
     requires { ⌜ Fine s × (n ≤ 4096) ⌝ }
-    ensures { λ r. ⌜ seen (now (out .exit)) r ≡ ran (now (t .entry)) («under» (now (out .entry)) s) k (pathOf n) ⌝ }
+    ensures { λ r. ⌜ seen (now (out .exit)) r ≡ ran (now (t .entry)) (under (now (out .entry)) s) k (pathOf n) ⌝ }
 {
     let verbs = spelling::fields::write_fields(Field::Verb, 3, n, out, s, t, k);
     let coordinates = verbs.count;
@@ -46,7 +46,7 @@ fn write_verbs(n: usize, out: &mut [u8], s: Sink, t: &[u64], k: usize) -> Put
 // A Path: its verb count, its verbs and its coordinates.
 fn write_path(out: &mut [u8], s: Sink, t: &[u64], k: usize) -> Put
     requires { ⌜ Fine s ⌝ }
-    ensures { λ r. ⌜ seen (now (out .exit)) r ≡ ran (now (t .entry)) («under» (now (out .entry)) s) k «path» ⌝ }
+    ensures { λ r. ⌜ seen (now (out .exit)) r ≡ ran (now (t .entry)) (under (now (out .entry)) s) k path ⌝ }
 {
     let r = spelling::write_one(Item::Count(0), out, s, t, k);
     let Put::Done(next, j) = r else {
@@ -58,7 +58,7 @@ fn write_path(out: &mut [u8], s: Sink, t: &[u64], k: usize) -> Put
 // One value that is not keyframed.
 pub fn write_value(what: DataType, out: &mut [u8], s: Sink, t: &[u64], k: usize) -> Put
     requires { ⌜ Fine s ⌝ }
-    ensures { λ r. ⌜ seen (now (out .exit)) r ≡ ran (now (t .entry)) («under» (now (out .entry)) s) k («valueOf» (typeOf what)) ⌝ }
+    ensures { λ r. ⌜ seen (now (out .exit)) r ≡ ran (now (t .entry)) (under (now (out .entry)) s) k (valueOf (typeOf what)) ⌝ }
 {
     match what {
         DataType::U32 => spelling::write_one(Item::U32, out, s, t, k),
@@ -77,7 +77,7 @@ pub fn write_value(what: DataType, out: &mut [u8], s: Sink, t: &[u64], k: usize)
 // n values in turn.
 fn write_in_turn(what: DataType, n: usize, out: &mut [u8], s: Sink, t: &[u64], k: usize) -> Put
     requires { ⌜ Fine s ⌝ }
-    ensures { λ r. ⌜ seen (now (out .exit)) r ≡ ran (now (t .entry)) («under» (now (out .entry)) s) k («times» n («valueOf» (typeOf what))) ⌝ }
+    ensures { λ r. ⌜ seen (now (out .exit)) r ≡ ran (now (t .entry)) (under (now (out .entry)) s) k (times n (valueOf (typeOf what))) ⌝ }
 {
     let mut cur = s;
     let mut j = k;
@@ -97,7 +97,7 @@ fn write_in_turn(what: DataType, n: usize, out: &mut [u8], s: Sink, t: &[u64], k
 // n keyframed values: Bools one bit each; bytes as a width and fields of it; the others in turn.
 fn write_values(what: DataType, n: usize, out: &mut [u8], s: Sink, t: &[u64], k: usize) -> Put
     requires { ⌜ Fine s × (n < 2 ^ 32) ⌝ }
-    ensures { λ r. ⌜ seen (now (out .exit)) r ≡ ran (now (t .entry)) («under» (now (out .entry)) s) k («valuesOf» (typeOf what) n) ⌝ }
+    ensures { λ r. ⌜ seen (now (out .exit)) r ≡ ran (now (t .entry)) (under (now (out .entry)) s) k (valuesOf (typeOf what) n) ⌝ }
 {
     match what {
         DataType::Bool => {

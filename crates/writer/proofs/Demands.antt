@@ -5,7 +5,6 @@ use Prim.Native.Nat.{ℕ, _≤_, _<_}
 use mathlib.Core.Bool.{Bool, true, false}
 use mathlib.Core.List.{List, _++_}
 use mathlib.Core.Path.{_≡_, ap, sym, _∙_, subst}
-use native.Mathlib.Omega.{arith}
 use lib.Dec.{leb}
 use borrow.Author.Tests.{le-leb, lt-leb}
 use lib.ListN.{length, take, drop}
@@ -14,6 +13,7 @@ use Rattle.format.specs.Tests.{pick}
 use Rattle.format.specs.Bits.{AllBytes, high}
 use Rattle.format.specs.Reasons.{Result, gives, refuses, readFile, Left, accepted, accepts, refusesWith, into, FileOf, Writes, tooHigh, impossible, tooShort, written}
 use Rattle.format.proofs.Promises.{writes-one}
+use Rattle.format.proofs.Absurd.{clash}
 use Rattle.answers.specs.declared.Answer.{Answer}
 use Rattle.answers.specs.declared.Answer.the-variants.{Accepted, Refused}
 use Rattle.answers.specs.Answers.{answerOf, leaves}
@@ -27,19 +27,19 @@ write-one level t o o₁ o₂ a b p q = leaves-one o₁ o₂ a b (writes-one hig
 
 -- of `read`: the first n numbers are the table of the file
 read-table : (m : List ℕ) (x : Result) (n : ℕ) → into m x .answer ≡ accepted n → x ≡ gives (take n (into m x .lent))
-read-table m (refuses e k) n h = absurd (let z : _≡_ {A = ℕ} 0 1 = cc in omega arith)
+read-table m (refuses e k) n h = clash cc
 read-table m (gives ns) n h = go (leb (length ns) (length m)) h
   where
     go : (c : Bool) → pick c (accepts m ns) (refusesWith m 19 (length ns)) .answer ≡ accepted n
         → gives ns ≡ gives (take n (pick c (accepts m ns) (refusesWith m 19 (length ns)) .lent))
     go true e = let z : length ns ≡ n = cc in ap gives (sym (take-append-seam ns (drop (length ns) m)) ∙ ap (λ (k : ℕ). take k (ns ++ drop (length ns) m)) z)
-    go false e = absurd (let z : _≡_ {A = ℕ} 0 1 = cc in omega arith)
+    go false e = clash cc
 
 -- of `write`: the first n bytes are a file of the table
 write-file : (level : ℕ) (t o : List ℕ) (x : Left) (n : ℕ) → Writes high level t o x → x .answer ≡ accepted n → FileOf high level t (take n (x .lent))
-write-file level t o x n (tooHigh h) e = absurd (let z : _≡_ {A = ℕ} 0 1 = cc in omega arith)
-write-file level t o x n (impossible l h) e = absurd (let z : _≡_ {A = ℕ} 0 1 = cc in omega arith)
-write-file level t o x n (tooShort f u h) e = absurd (let z : _≡_ {A = ℕ} 0 1 = cc in omega arith)
+write-file level t o x n (tooHigh h) e = clash cc
+write-file level t o x n (impossible l h) e = clash cc
+write-file level t o x n (tooShort f u h) e = clash cc
 write-file level t o x n (written f u h) e =
     let z : length f ≡ n = cc in
     subst (FileOf high level t) (sym (take-append-seam f (drop (length f) o)) ∙ ap (λ (k : ℕ). take k (f ++ drop (length f) o)) z) u

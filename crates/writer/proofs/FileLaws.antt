@@ -17,6 +17,7 @@ use Rattle.format.specs.WritingFiles.{Made, made, unmade, spell32, unwalkList, 
 use Rattle.format.specs.Reasons as paper
 use Rattle.format.specs.Reasons.{Left, accepted, refusesWith, FileOf, Writes, tooHigh, tooShort, written}
 use Rattle.format.proofs.RoundTrip.{back, no-file}
+use Rattle.format.proofs.Absurd.{clash}
 use Rattle.table.proofs.EngineLaws.{sets-append}
 use Rattle.sink.specs.Lain.{longest}
 use Rattle.write_heads.proofs.StoreLaws.{sets-comm}
@@ -76,7 +77,7 @@ module _ (level : ℕ) (t : List ℕ) where
       no-list e m = none h (is ∙ go (tags level t) e) m
         where
           lim : (b u : List ℕ) (p j : ℕ) (c : Bool) → fell ≡ pick c (stood u p j) fell → pick c (bytes b) impossible ≡ impossible
-          lim b u p j true w = absurd (let z : _≡_ {A = ℕ} 0 1 = cc in omega arith)
+          lim b u p j true w = clash cc
           lim b u p j false w = refl
 
           go : (m : Made) → fell ≡ over [] 9 1 m → wholeFile (getD t 0 0) m ≡ impossible
@@ -135,7 +136,7 @@ module _ (level : ℕ) (t : List ℕ) where
           laid m v Impossible e′ =
               let w : fell ≡ stood (sets m 9 (s .b)) (9 + length (s .b)) (1 + length (s .xs)) =
               e′ ∙ ap (over m 9 1) (s .is) ∙ rw (le-leb (9 + length (s .b)) longest (omega (arith, s .place, s .small))) in
-              absurd (let z : _≡_ {A = ℕ} 0 1 = cc in omega arith)
+              clash cc
 
           -- and the start before them
           pub file-put : (m v w : List ℕ) (R : Wrote) → n ≤ length m → stoodAs v R ≡ over m 9 1 (tags level t) → w ≡ sets v 0 (start n (getD t 0 0))

@@ -2,7 +2,7 @@
 use denote.Ref.{now}
 use mathlib.Core.Path.{sym, ap, _∙_}
 use native.Mathlib.Omega.{arith}
-use Rattle.bits.specs.Places.{seen}
+use Rattle.bits.specs.Places.{numOf}
 use Rattle.bits.proofs.FieldLaws.{ub-got}
 use Rattle.attributes.proofs.FlagLaws.{two-past, two-none, two-cut, two-both}
 use borrow.Author.Needs.{needs}
@@ -26,7 +26,7 @@ returns-2 c = let a = c .before .before .before .before .before .before .args in
 
 read-ub-requires-2 : tie.Need-read-ub-requires-2
 read-ub-requires-2 c κs = let a = c .before .before .before .before .before .before .args in
-    let g = ub-got (now (a .s)) (a .at .0) 1 (ap seen (sym (c .before .before .e .given .1)) ∙ c .before .before .before .before .read-ub .ensures) in
+    let g = ub-got (now (a .s)) (a .at .0) 1 (ap numOf (sym (c .before .before .e .given .1)) ∙ c .before .before .before .before .read-ub .ensures) in
     ((g .inside, c .before .before .before .before .before .before .pre .1), omega arith, omega arith)
 
 enum-known-a : tie.Need-enum-known-a
@@ -40,12 +40,12 @@ returns-3 c = let a = c .before .before .before .before .before .before .before 
 
 mul-t10 : tie.Need-mul-t10
 mul-t10 c = let a = c .before .before .before .before .before .before .before .before .before .before .args in
-    let g = ub-got (now (a .s)) _ 1 (ap seen (sym (c .before .a .given .1)) ∙ c .before .before .before .read-ub2 .ensures) in
+    let g = ub-got (now (a .s)) _ 1 (ap numOf (sym (c .before .a .given .1)) ∙ c .before .before .before .read-ub2 .ensures) in
     omega (arith, g .value, g .below)
 
 add-t11 : tie.Need-add-t11
 add-t11 c = let a = c .before .before .before .before .before .before .before .before .before .before .args in
-    let g = ub-got (now (a .s)) _ 1 (ap seen (sym (c .before .a .given .1)) ∙ c .before .before .before .read-ub2 .ensures) in
+    let g = ub-got (now (a .s)) _ 1 (ap numOf (sym (c .before .a .given .1)) ∙ c .before .before .before .read-ub2 .ensures) in
     omega (arith, g .value, g .below)
 
 returns-4 : tie.Need-returns-4

@@ -1,6 +1,6 @@
 -- `bit_reader::field_at` meets its contract.
 use mathlib.Core.Path.{sym, ap, _∙_}
-use Rattle.bits.specs.Places.{seen}
+use Rattle.bits.specs.Places.{numOf}
 use Rattle.bit_reader.specs.Fields.{stepOf}
 use borrow.Author.Needs.{needs}
 use Rattle.bit_reader.proofs.field_at.Statement.{statement}
@@ -16,10 +16,10 @@ enum-known-why : tie.Need-enum-known-why
 enum-known-why c = search needs
 
 returns : tie.Need-returns
-returns c = ap (stepOf (c .before .before .before .before .before .args .place)) (ap seen (sym (c .before .v .given .1)) ∙ c .before .before .before .field-of .ensures)
+returns c = ap (stepOf (c .before .before .before .before .before .args .place)) (ap numOf (sym (c .before .v .given .1)) ∙ c .before .before .before .field-of .ensures)
 
 returns-2 : tie.Need-returns-2
-returns-2 c = ap (stepOf (c .before .before .before .before .before .args .place)) (ap seen (sym (c .before .why .given .1)) ∙ c .before .before .before .field-of .ensures)
+returns-2 c = ap (stepOf (c .before .before .before .before .before .args .place)) (ap numOf (sym (c .before .why .given .1)) ∙ c .before .before .before .field-of .ensures)
 
 pub field-at-spec : {M : Type 1} → statement M
 field-at-spec =

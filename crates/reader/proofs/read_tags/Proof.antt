@@ -33,7 +33,7 @@ same-length-2 c = search needs
 
 -- src/lib.rt:43:1
 returns : tie.Need-returns
-returns c = let a = c .before .before .before .before .before .before .before .before .before .before .before .args in tags-read (a .level) (now (a .file)) (a .reads) (now (a .t)) (now (a .g)) (c .before .before .before .before .read-list .ensures)
+returns c = let a = c .before .before .before .before .before .before .before .before .before .before .before .args in tags-read (a .level) (now (a .file)) (a .scope) (now (a .t)) (now (a .g)) (c .before .before .before .before .read-list .ensures)
 
 pub read-tags-spec : {M : Type 1} → statement M
 read-tags-spec =

@@ -1,5 +1,5 @@
 use Prim.Native.Nat.{ℕ, _+_, _-_}
-use Rattle.table.specs.State.{after}
+use Rattle.table.specs.State.{shownOver}
 use denote.Ref.{now}
 use mathlib.Core.Path.{ap, _∙_}
 use native.Mathlib.Omega.{arith}
@@ -76,7 +76,7 @@ same-length-2 c = search needs
 returns-2 : tie.Need-returns-2
 returns-2 c = let a = c .before .before .before .before .before .before .before .before .before .before .before .before .before .before .before .before .before .before .before .before .before .args in let v = valuesOf (a .class) (a .code) (now (a .body)) in
     headed-stored (now (a .t)) (a .k) (a .code) (c .before .before .before .before .before .before .before .before .state .result) v (c .before .before .before .before .before .before .before .before .before .before .before .before .before .before .before .before .before .read-values .result) (c .before .before .before .before .before .before .before .before .before .before .before .before .before .before .before .before .before .read-values .ensures) (c .before .before .before .before .before .before .before .before .before .before .before .before .put .ensures) (c .before .before .before .before .before .before .before .put2 .ensures) (ap (λ (z : ℕ). z - (a .k + 3)) (c .before .before .before .index .ensures)) (c .before .before .put3 .ensures)
-    ∙ ap (λ (s : ℕ). after (now (a .t)) (a .k) (headed (a .code) s v)) (c .before .before .before .before .before .before .before .before .state .ensures)
+    ∙ ap (λ (s : ℕ). shownOver (now (a .t)) (a .k) (headed (a .code) s v)) (c .before .before .before .before .before .before .before .before .state .ensures)
 
 pub show-tag-spec : {M : Type 1} → statement M
 show-tag-spec =

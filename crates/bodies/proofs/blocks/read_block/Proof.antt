@@ -4,7 +4,7 @@ use native.Mathlib.Omega.{arith}
 use Rattle.format.specs.Bits.{high}
 use Rattle.format.specs.Items.{run}
 use Rattle.format.specs.Bodies.{allFlags}
-use Rattle.table.specs.Run.{left}
+use Rattle.table.specs.Run.{runLeaves}
 use Rattle.attributes.specs.Rows.{rowsFrom}
 use Rattle.attributes.proofs.FlagLaws.{flags-read, ended-is}
 use Rattle.bodies.proofs.ContentLaws.{block-rows, block-stop, flags-fit}
@@ -37,7 +37,7 @@ read-contents-requires : tie.Need-read-contents-requires
 read-contents-requires c κs = let a = c .before .before .before .before .before .before .before .before .before .before .args in let n = c .before .before .before .before .before .before .read-flags .kept .1 .1 .1 .0 in (
   c .before .before .before .before .before .before .before .before .before .before .pre .0,
   omega (arith, n),
-  flags-fit (now (a .s)) (rowsFrom (a .rows .start) (a .rows .end)) (flags-read (now (a .s)) _ (a .at .0) (c .before .before .before .before .before .before .before .before .before .before .pre .0) (omega arith) (ap (left _) (sym (c .before .before .before .r .given .1)) ∙ c .before .before .before .before .before .before .read-flags .ensures)) (c .before .before .before .before .before .before .before .before .before .before .pre .1),
+  flags-fit (now (a .s)) (rowsFrom (a .rows .start) (a .rows .end)) (flags-read (now (a .s)) _ (a .at .0) (c .before .before .before .before .before .before .before .before .before .before .pre .0) (omega arith) (ap (runLeaves _) (sym (c .before .before .before .r .given .1)) ∙ c .before .before .before .before .before .before .read-flags .ensures)) (c .before .before .before .before .before .before .before .before .before .before .pre .1),
 )
 
 -- src/blocks.rt:120:19
@@ -52,13 +52,13 @@ same-length c = search needs
 returns : tie.Need-returns
 returns c = let a = c .before .before .before .before .before .before .before .before .before .before .before .before .before .args in
     block-rows (now (a .s)) (now (a .t)) (a .k) (a .at .0) (rowsFrom (a .rows .start) (a .rows .end))
-    (flags-read (now (a .s)) _ (a .at .0) (c .before .before .before .before .before .before .before .before .before .before .before .before .before .pre .0) (omega arith) (ap (left _) (sym (c .before .before .before .before .before .before .r .given .1)) ∙ c .before .before .before .before .before .before .before .before .before .read-flags .ensures)) (c .before .before .read-contents .ensures)
+    (flags-read (now (a .s)) _ (a .at .0) (c .before .before .before .before .before .before .before .before .before .before .before .before .before .pre .0) (omega arith) (ap (runLeaves _) (sym (c .before .before .before .before .before .before .r .given .1)) ∙ c .before .before .before .before .before .before .before .before .before .read-flags .ensures)) (c .before .before .read-contents .ensures)
 
 -- src/blocks.rt:112:1
 returns-2 : tie.Need-returns-2
 returns-2 c = let a = c .before .before .before .before .before .before .before .before .args in
     block-stop (now (a .s)) (now (a .t)) (a .k) (a .at .0) (rowsFrom (a .rows .start) (a .rows .end))
-    (ended-is _ 0 (run high (now (a .s)) (allFlags (rowsFrom (a .rows .start) (a .rows .end))) (a .at .0)) (ap (left _) (sym (c .before .r2 .given .1)) ∙ c .before .before .before .before .read-flags .ensures))
+    (ended-is _ 0 (run high (now (a .s)) (allFlags (rowsFrom (a .rows .start) (a .rows .end))) (a .at .0)) (ap (runLeaves _) (sym (c .before .r2 .given .1)) ∙ c .before .before .before .before .read-flags .ensures))
 
 pub read-block-spec : {M : Type 1} → statement M
 read-block-spec =

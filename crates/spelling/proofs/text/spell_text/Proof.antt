@@ -8,13 +8,13 @@ use lib.ListN.{length, drop}
 use Rattle.format.specs.Bits.{high}
 use Rattle.format.specs.WritingItems.{spellTxt}
 use Rattle.sink.specs.Laying.{mk}
-use Rattle.spelling.specs.Writing.{laid}
+use Rattle.spelling.specs.Writing.{bitsOver}
 use Rattle.spelling.proofs.TextLaws.{text-start, text-zero, text-large, text-next, text-over}
 use Rattle.spelling.proofs.text.spell_text.Statement.{statement}
 use Rattle.spelling.proofs.text.spell_text.Tie as tie
 
 abbrev Inv-loop : tie.InvT-loop
-Inv-loop out₀ at text start n i₀ out i = (length out ≡ length out₀) × (i ≤ length text) × (laid (mk out₀ (at .bit .0) 0) (spellTxt high text) ≡ laid (mk out (at .bit .0 + 8 * i) 0) (spellTxt high (drop i text)))
+Inv-loop out₀ at text start n i₀ out i = (length out ≡ length out₀) × (i ≤ length text) × (bitsOver (mk out₀ (at .bit .0) 0) (spellTxt high text) ≡ bitsOver (mk out (at .bit .0 + 8 * i) 0) (spellTxt high (drop i text)))
 
 abbrev μ-loop : tie.MeasureT-loop
 μ-loop out₀ at text start n i₀ out i = length text - i
