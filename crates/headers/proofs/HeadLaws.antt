@@ -18,7 +18,7 @@ use Rattle.classes.specs.declared.Class.the-variants.{End, Container}
 use Rattle.classes.proofs.ClassLaws.{ends-named, contains-named}
 use Rattle.headers.specs.declared.Head.{Head}
 use Rattle.headers.specs.declared.Head.the-variants.{Tag, Fault}
-use Rattle.headers.specs.Heads.{headOf, passesBy, headBy}
+use Rattle.headers.specs.Heads.{asHead, passesBy, headBy}
 
 -- ---- Numbers.
 
@@ -92,7 +92,7 @@ head-stands r = go (ltb (length r) 2) refl (eqb (le16 r % 64) 63) refl (ltb (len
 
 -- ---- No second answer fits.
 
-pub head-one : (a b : Head) → headOf a ≡ headOf b → a ≡ b
+pub head-one : (a b : Head) → asHead a ≡ asHead b → a ≡ b
 head-one (Tag c l z) (Tag c′ l′ z′) e = cc
 head-one (Tag c l z) (Fault r) e = cc
 head-one (Fault r) (Tag c l z) e = cc
@@ -104,15 +104,15 @@ head-one (Fault r) (Fault r′) e = cc
 pub rest-is : (s : List ℕ) (i size : ℕ) → length (drop size (drop i s)) ≡ length s - i - size
 rest-is s i size = rw (length-drop, length-drop)
 
-pub size-fits : (s : List ℕ) (i : ℕ) {h : Head} {code len size : ℕ} → headOf h ≡ rawHead (drop i s) → h ≡ Tag code len size → size ≤ length s - i
+pub size-fits : (s : List ℕ) (i : ℕ) {h : Head} {code len size : ℕ} → asHead h ≡ rawHead (drop i s) → h ≡ Tag code len size → size ≤ length s - i
 size-fits s i {size = size} at is =
-    let u : (2 ≤ size) × (size ≤ 6) × (size ≤ length (drop i s)) = subst (StandsIf (drop i s)) (sym at ∙ ap headOf is) (head-stands (drop i s)) in
+    let u : (2 ≤ size) × (size ≤ 6) × (size ≤ length (drop i s)) = subst (StandsIf (drop i s)) (sym at ∙ ap asHead is) (head-stands (drop i s)) in
     omega (arith, u .2, length-drop i s)
 
 -- the header that stands at r is code, len and size; rest bytes follow it
-module _ (left : ℕ) (r : List ℕ) {h : Head} {code len size rest : ℕ} (class : Class) (at : headOf h ≡ rawHead r) (is : h ≡ Tag code len size) (follow : length (drop size r) ≡ rest) where
+module _ (left : ℕ) (r : List ℕ) {h : Head} {code len size rest : ℕ} (class : Class) (at : asHead h ≡ rawHead r) (is : h ≡ Tag code len size) (follow : length (drop size r) ≡ rest) where
   stands : rawHead r ≡ head code len size
-  stands = sym at ∙ ap headOf is
+  stands = sym at ∙ ap asHead is
 
   pub head-over : rest < len → noHead 9 ≡ headBy class left r
   head-over h = rw (stands, follow, lt-ltb rest len h)
@@ -134,8 +134,8 @@ module _ (left : ℕ) (r : List ℕ) {h : Head} {code len size rest : ℕ} (clas
     pub head-other : ends class ≡ false → contains class ≡ false → head code len size ≡ headBy class left r
     head-other e f = rw (stands, follow, le-ltb rest len fits, e, f)
 
-pub head-none : (left : ℕ) (r : List ℕ) {h : Head} {e : ℕ} (class : Class) → headOf h ≡ rawHead r → h ≡ Fault e → headOf h ≡ headBy class left r
-head-none left r class at is = ap headOf is ∙ rw (sym at ∙ ap headOf is)
+pub head-none : (left : ℕ) (r : List ℕ) {h : Head} {e : ℕ} (class : Class) → asHead h ≡ rawHead r → h ≡ Fault e → asHead h ≡ headBy class left r
+head-none left r class at is = ap asHead is ∙ rw (sym at ∙ ap asHead is)
 
 -- ---- The definitions' header, by the name of the class of its code, whatever the classes are.
 pub head-by : (class : ℕ → paper.Class) (left : ℕ) (r : List ℕ) → readHead class left r ≡ headBy (named (class (le16 r / 64))) left r

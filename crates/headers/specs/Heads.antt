@@ -10,9 +10,9 @@ use Rattle.classes.specs.declared.Class.{Class}
 use Rattle.headers.specs.declared.Head.{Head}
 use Rattle.headers.specs.declared.Head.the-variants.{Tag, Fault}
 
-abbrev pub headOf : Head → paper.Head
-headOf (Tag code len size) = paper.head code len size
-headOf (Fault e) = paper.noHead e
+abbrev pub asHead : Head → paper.Head
+asHead (Tag code len size) = paper.head code len size
+asHead (Fault e) = paper.noHead e
 
 -- whether a header passes, by the name of its code's class (`passes` of the definitions, for one class)
 abbrev pub passesBy : Class → ℕ → List ℕ → paper.Head → paper.Head

@@ -3,7 +3,7 @@ ghost use mathlib.Core.Path.{_≡_};
 ghost use Prim.Native.Nat.{_+_, _/_, _<_, _≤_, _^_};
 ghost use lib.ListN.{length, drop};
 ghost use Rattle.format.specs.FileAndTags.{le16, le32, rawHead};
-ghost use Rattle.headers.specs.Heads.{headOf, headBy};
+ghost use Rattle.headers.specs.Heads.{asHead, headBy};
 use classes::Class;
 
 // A tag's code, body length and header size; or a reason.
@@ -39,7 +39,7 @@ pub fn le32_at(s: &[u8], i: usize) -> u32
 // The header at i, in a list whose room is s: cut by the room's end (6); long, with a length below 63 (8).
 pub fn raw_head(s: &[u8], i: usize) -> Head
     requires { ⌜ i ≤ length (now s) ⌝ }
-    ensures { λ r. ⌜ headOf r ≡ rawHead (drop i (now (s .entry))) ⌝ }
+    ensures { λ r. ⌜ asHead r ≡ rawHead (drop i (now (s .entry))) ⌝ }
 {
     let rest = s.len() - i;
     if rest < 2 {
@@ -74,7 +74,7 @@ pub fn code_at(s: &[u8], i: usize) -> u32
 // no depth is left (12).
 pub fn read_head(class: Class, left: u32, s: &[u8], i: usize) -> Head
     requires { ⌜ i ≤ length (now s) ⌝ }
-    ensures { λ r. ⌜ headOf r ≡ headBy class left (drop i (now (s .entry))) ⌝ }
+    ensures { λ r. ⌜ asHead r ≡ headBy class left (drop i (now (s .entry))) ⌝ }
 {
     let h = raw_head(s, i);
     let Head::Tag(_, len, size) = h else {

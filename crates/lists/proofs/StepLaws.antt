@@ -16,7 +16,7 @@ use Rattle.table.specs.Run.{runLeaves}
 use Rattle.table.specs.declared.Run.{Run}
 use Rattle.table.specs.declared.Run.the-variants.{Done, Stop}
 use Rattle.classes.specs.declared.Class.{Class}
-use Rattle.headers.specs.Heads.{headOf, headBy}
+use Rattle.headers.specs.Heads.{asHead, headBy}
 use Rattle.headers.specs.declared.Head.{Head}
 use Rattle.headers.specs.declared.Head.the-variants as heads
 use Rattle.headers.proofs.HeadLaws.{FitsBy, fits-by}
@@ -34,15 +34,15 @@ stepped-eq : {t t′ g g′ : List ℕ} {x x′ : Step} → t ≡ t′ → g ≡
 stepped-eq p q r = λ i. record { table = p i; rows = q i; step = r i }
 
 -- the tag at i of the list r at place a; H is its header, by its class
-module _ (class : Class) (depths a : ℕ) (r : List ℕ) (i : ℕ) (t : List ℕ) (k : ℕ) (g : List ℕ) (m : ℕ) (H : paper.Head) {h : Head} (at : headOf h ≡ H) where
+module _ (class : Class) (depths a : ℕ) (r : List ℕ) (i : ℕ) (t : List ℕ) (k : ℕ) (g : List ℕ) (m : ℕ) (H : paper.Head) {h : Head} (at : asHead h ≡ H) where
   -- the header is refused
   pub tag-none : {e : ℕ} → h ≡ heads.Fault e → stepped t g (step.Fault e) ≡ tagAt class depths a r i t k g m H
-  tag-none {e} is = ap (tagAt class depths a r i t k g m) (sym (ap headOf is) ∙ at)
+  tag-none {e} is = ap (tagAt class depths a r i t k g m) (sym (ap asHead is) ∙ at)
 
   -- it stands in the room with its body
   pub tag-stands : {code len size : ℕ} → H ≡ headBy class depths (drop i r) → h ≡ heads.Tag code len size → (i ≤ length r) → i + size + len ≤ length r
   tag-stands e is l =
-      let u : FitsBy (drop i r) (paper.head _ _ _) = subst (FitsBy (drop i r)) (sym e ∙ sym at ∙ ap headOf is) (fits-by class depths (drop i r)) in
+      let u : FitsBy (drop i r) (paper.head _ _ _) = subst (FitsBy (drop i r)) (sym e ∙ sym at ∙ ap asHead is) (fits-by class depths (drop i r)) in
       omega (arith, u .1, length-drop i r)
 
   -- it passes, and the row and the numbers are stored
@@ -54,7 +54,7 @@ module _ (class : Class) (depths a : ℕ) (r : List ℕ) (i : ℕ) (t : List ℕ
         part ∙ rw (n, begin) (ap (take len) (sym (drop-drop size i r)))
 
     head-is : paper.head code len size ≡ H
-    head-is = sym (ap headOf is) ∙ at
+    head-is = sym (ap asHead is) ∙ at
 
     ran-is : runLeaves t′ R ≡ shownOver t k (tagShown class code (take len (drop size (drop i r))))
     ran-is = ran ∙ ap (λ (b : List ℕ). shownOver t k (tagShown class code b)) body-is
