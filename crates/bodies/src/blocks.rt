@@ -57,7 +57,14 @@ fn read_attribute(
 }
 
 // The rows' attributes in order, with the flag numbers that were read for them.
-fn read_contents(rows: Rows, flags: &[u64], body: &[u8], at: BitPlace, table: &mut [u64], from: usize) -> Run
+fn read_contents(
+    rows: Rows,
+    flags: &[u64],
+    body: &[u8],
+    at: BitPlace,
+    table: &mut [u64],
+    from: usize,
+) -> Run
     requires { ⌜ AreRows (rows .start) (rows .end) × (9 ≤ length (now flags)) × Fits (now body) (at .0) (from + 9) ⌝ }
     ensures { λ r. ⌜ runLeaves (now (table .exit)) r ≡ shownOver (now (table .entry)) from (run high (now (body .entry)) (rowsOf (rowsFrom (rows .start) (rows .end)) (take (rows .end - rows .start) (now (flags .entry)))) (at .0)) ⌝ }
 {
@@ -82,7 +89,13 @@ fn read_contents(rows: Rows, flags: &[u64], body: &[u8], at: BitPlace, table: &m
 }
 
 // An attribute block.
-pub(crate) fn read_block(rows: Rows, body: &[u8], at: BitPlace, table: &mut [u64], from: usize) -> Run
+pub(crate) fn read_block(
+    rows: Rows,
+    body: &[u8],
+    at: BitPlace,
+    table: &mut [u64],
+    from: usize,
+) -> Run
     requires { ⌜ AreRows (rows .start) (rows .end) × Fits (now body) (at .0) (from + 9) ⌝ }
     ensures { λ r. ⌜ runLeaves (now (table .exit)) r ≡ shownOver (now (table .entry)) from (readBlock high (now (body .entry)) (rowsFrom (rows .start) (rows .end)) (at .0)) ⌝ }
 {

@@ -49,7 +49,14 @@ pub struct Rows {
 }
 
 // The items from row start on, up to row end.
-fn read_items(start: usize, end: usize, body: &[u8], at: BitPlace, table: &mut [u64], from: usize) -> Run
+fn read_items(
+    start: usize,
+    end: usize,
+    body: &[u8],
+    at: BitPlace,
+    table: &mut [u64],
+    from: usize,
+) -> Run
     requires { ⌜ (start ≤ end) × (end ≤ 18) × Fits (now body) (at .0) from ⌝ }
     ensures { λ r. ⌜ runLeaves (now (table .exit)) r ≡ shownOver (now (table .entry)) from (run high (now (body .entry)) (inOrder (itemsFrom start end)) (at .0)) ⌝ }
 {

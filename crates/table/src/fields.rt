@@ -136,7 +136,14 @@ pub fn read_fields(
 }
 
 // n SB fields of w bits. They show whatever their bits are, so only those are read that there is room for.
-fn read_signed(width: u64, count: usize, body: &[u8], at: BitPlace, table: &mut [u64], from: usize) -> Run
+fn read_signed(
+    width: u64,
+    count: usize,
+    body: &[u8],
+    at: BitPlace,
+    table: &mut [u64],
+    from: usize,
+) -> Run
     requires { ⌜ Fits (now body) (at .0) from × (1 ≤ width) × (width ≤ 32) × (count < 2 ^ 32) ⌝ }
     ensures { λ r. ⌜ runLeaves (now (table .exit)) r ≡ shownOver (now (table .entry)) from (run high (now (body .entry)) (times count (fieldOf Coordinate width)) (at .0)) ⌝ }
 {
@@ -160,7 +167,15 @@ fn read_signed(width: u64, count: usize, body: &[u8], at: BitPlace, table: &mut 
 }
 
 // n fields of w bits, by their kind.
-fn read_run(kind: Field, width: u64, count: usize, body: &[u8], at: BitPlace, table: &mut [u64], from: usize) -> Run
+fn read_run(
+    kind: Field,
+    width: u64,
+    count: usize,
+    body: &[u8],
+    at: BitPlace,
+    table: &mut [u64],
+    from: usize,
+) -> Run
     requires { ⌜ Fits (now body) (at .0) from × (1 ≤ width) × (width ≤ 32) × (count < 2 ^ 32) ⌝ }
     ensures { λ r. ⌜ runLeaves (now (table .exit)) r ≡ shownOver (now (table .entry)) from (run high (now (body .entry)) (times count (fieldOf kind width)) (at .0)) ⌝ }
 {
@@ -172,7 +187,14 @@ fn read_run(kind: Field, width: u64, count: usize, body: &[u8], at: BitPlace, ta
 }
 
 // A width, and n fields of it.
-pub fn read_scaled(kind: Field, count: usize, body: &[u8], at: BitPlace, table: &mut [u64], from: usize) -> Run
+pub fn read_scaled(
+    kind: Field,
+    count: usize,
+    body: &[u8],
+    at: BitPlace,
+    table: &mut [u64],
+    from: usize,
+) -> Run
     requires { ⌜ Fits (now body) (at .0) from × (count < 2 ^ 32) ⌝ }
     ensures { λ r. ⌜ runLeaves (now (table .exit)) r ≡ shownOver (now (table .entry)) from (run high (now (body .entry)) (item ItemOf.width ▹ λ width. times count (fieldOf kind (the width))) (at .0)) ⌝ }
 {

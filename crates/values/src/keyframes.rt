@@ -10,8 +10,8 @@ ghost use Rattle.table.specs.Run.{runLeaves};
 ghost use Rattle.table.specs.Fields.{Fits};
 ghost use Rattle.attributes.specs.Rows.{kindOf, typeOf};
 ghost use Rattle.values.specs.Parts.{scaled, framesOf, keyframesOf};
-use crate::read_in_turn;
 use crate::read_frame_values;
+use crate::read_in_turn;
 use attributes::DataType;
 use attributes::Kind;
 use bits::Aligned;
@@ -44,7 +44,15 @@ fn read_interpolations(
         };
     };
     match kind {
-        Kind::Simple => table::fields::read_fields(Field::Interpolation, 2, frames, body, start, table, from),
+        Kind::Simple => table::fields::read_fields(
+            Field::Interpolation,
+            2,
+            frames,
+            body,
+            start,
+            table,
+            from,
+        ),
         Kind::Value => Announced {
             run: Run::Done(start, from),
             count: 0,

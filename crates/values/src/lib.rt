@@ -81,7 +81,14 @@ pub fn read_value(what: DataType, body: &[u8], at: BitPlace, table: &mut [u64], 
 }
 
 // n values in turn.
-fn read_in_turn(what: DataType, count: usize, body: &[u8], at: BitPlace, table: &mut [u64], from: usize) -> Run
+fn read_in_turn(
+    what: DataType,
+    count: usize,
+    body: &[u8],
+    at: BitPlace,
+    table: &mut [u64],
+    from: usize,
+) -> Run
     requires { ⌜ Fits (now body) (at .0) from ⌝ }
     ensures { λ r. ⌜ runLeaves (now (table .exit)) r ≡ shownOver (now (table .entry)) from (run high (now (body .entry)) (times count (valueOf (typeOf what))) (at .0)) ⌝ }
 {
@@ -101,7 +108,14 @@ fn read_in_turn(what: DataType, count: usize, body: &[u8], at: BitPlace, table: 
 }
 
 // n keyframed values: Bools one bit each; bytes as a width and fields of it; the others in turn.
-fn read_frame_values(what: DataType, count: usize, body: &[u8], at: BitPlace, table: &mut [u64], from: usize) -> Run
+fn read_frame_values(
+    what: DataType,
+    count: usize,
+    body: &[u8],
+    at: BitPlace,
+    table: &mut [u64],
+    from: usize,
+) -> Run
     requires { ⌜ Fits (now body) (at .0) from × (count < 2 ^ 32) ⌝ }
     ensures { λ r. ⌜ runLeaves (now (table .exit)) r ≡ shownOver (now (table .entry)) from (run high (now (body .entry)) (valuesOf (typeOf what) count) (at .0)) ⌝ }
 {
@@ -110,7 +124,14 @@ fn read_frame_values(what: DataType, count: usize, body: &[u8], at: BitPlace, ta
             let fields = table::fields::read_fields(Field::Bit, 1, count, body, at, table, from);
             fields.run
         }
-        DataType::Byte => table::fields::read_scaled(Field::ByteValue, count, body, at, table, from),
+        DataType::Byte => table::fields::read_scaled(
+            Field::ByteValue,
+            count,
+            body,
+            at,
+            table,
+            from,
+        ),
         DataType::U32 => read_in_turn(what, count, body, at, table, from),
         DataType::Time => read_in_turn(what, count, body, at, table, from),
         DataType::Float => read_in_turn(what, count, body, at, table, from),
