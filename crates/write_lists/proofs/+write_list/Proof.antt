@@ -7,6 +7,7 @@ use borrow.Author.Needs.{needs}
 use lib.ListN.{length, getD, drop}
 use Rattle.classes.specs.Classes.{contains}
 use Rattle.classes.proofs.ClassLaws.{class-at}
+use Rattle.format.specs.Possible.{this}
 use Rattle.sink.specs.Lain.{longest}
 use Rattle.write_lists.specs.Stood.{stood, over, stoodAs}
 use Rattle.write_lists.specs.Tags.{begun, shut}
@@ -69,7 +70,7 @@ some-at t c = λ e. omega (arith, c .if3 .left)
 
 -- its own values stand
 begun-at : (t : ℕ) (c : write-list-lts.After-b (calls t) (write-list-at t) write-list.Post write-list-Inv-loop write-list-μ-loop)
-    → stood (c .before .before .before .before .begin-tag .last .1 .1 .0) (c .b .given .0 .0) (c .b .given .0 .1 .0) ≡ over (c .before .before .before .before .before .before .before .before .before .before .before .before .before .before .loop .out) ((c .before .before .before .before .before .before .before .before .before .before .before .before .before .before .loop .place) + 2) (c .before .before .before .before .before .before .before .before .before .before .before .before .before .before .loop .k) (begun (c .before .before .before .before .before .before .before .before .before .at-level .result) (drop (c .before .before .before .before .before .before .before .before .before .before .before .before .before .before .loop .k) (now (c .before .before .before .before .before .before .before .before .before .before .before .before .before .before .before .before .before .before .args .t))))
+    → this (stood (c .before .before .before .before .begin-tag .last .1 .1 .0) (c .b .given .0 .0) (c .b .given .0 .1 .0)) ≡ over (c .before .before .before .before .before .before .before .before .before .before .before .before .before .before .loop .out) ((c .before .before .before .before .before .before .before .before .before .before .before .before .before .before .loop .place) + 2) (c .before .before .before .before .before .before .before .before .before .before .before .before .before .before .loop .k) (begun (c .before .before .before .before .before .before .before .before .before .at-level .result) (drop (c .before .before .before .before .before .before .before .before .before .before .before .before .before .before .loop .k) (now (c .before .before .before .before .before .before .before .before .before .before .before .before .before .before .before .before .before .before .args .t))))
 begun-at t c = ap (stoodAs (c .before .before .before .before .begin-tag .last .1 .1 .0)) (sym (c .b .given .1)) ∙ c .before .before .before .before .begin-tag .ensures
 
 -- and its list
@@ -84,7 +85,7 @@ shut-at t c = c .shut .ensures ∙ held-shut (tag-at t (c .before .before .befor
 
 -- the next place and index
 held-at : (t : ℕ) (c : write-list-lts.After-w (calls t) (write-list-at t) write-list.Post write-list-Inv-loop write-list-μ-loop)
-    → stood (c .before .before .before .before .shut .last .0) (c .w .given .0 .0) (c .w .given .0 .1 .0) ≡ over (c .before .before .before .before .before .before .before .before .before .before .before .before .before .before .before .before .before .before .before .before .before .before .before .before .before .loop .out) (c .before .before .before .before .before .before .before .before .before .before .before .before .before .before .before .before .before .before .before .before .before .before .before .before .before .loop .place) (c .before .before .before .before .before .before .before .before .before .before .before .before .before .before .before .before .before .before .before .before .before .before .before .before .before .loop .k) (shut (getD (now (c .before .before .before .before .before .before .before .before .before .before .before .before .before .before .before .before .before .before .before .before .before .before .before .before .before .before .before .before .before .args .t)) (c .before .before .before .before .before .before .before .before .before .before .before .before .before .before .before .before .before .before .before .before .before .before .before .before .before .loop .k) 0) (inner (c .before .before .before .before .before .before .before .before .before .before .before .before .before .before .before .before .before .before .before .before .before .before .before .before .before .before .before .before .before .args .level) (c .before .before .before .before .before .before .before .before .before .before .before .before .before .before .before .before .before .before .before .before .at-level .result) (c .before .before .before .before .before .before .before .before .before .before .before .before .before .before .before .before .before .before .before .before .before .before .before .before .before .before .before .before .before .args .left) (drop (c .before .before .before .before .before .before .before .before .before .before .before .before .before .before .before .before .before .before .before .before .before .before .before .before .before .loop .k) (now (c .before .before .before .before .before .before .before .before .before .before .before .before .before .before .before .before .before .before .before .before .before .before .before .before .before .before .before .before .before .args .t)))))
+    → this (stood (c .before .before .before .before .shut .last .0) (c .w .given .0 .0) (c .w .given .0 .1 .0)) ≡ over (c .before .before .before .before .before .before .before .before .before .before .before .before .before .before .before .before .before .before .before .before .before .before .before .before .before .loop .out) (c .before .before .before .before .before .before .before .before .before .before .before .before .before .before .before .before .before .before .before .before .before .before .before .before .before .loop .place) (c .before .before .before .before .before .before .before .before .before .before .before .before .before .before .before .before .before .before .before .before .before .before .before .before .before .loop .k) (shut (getD (now (c .before .before .before .before .before .before .before .before .before .before .before .before .before .before .before .before .before .before .before .before .before .before .before .before .before .before .before .before .before .args .t)) (c .before .before .before .before .before .before .before .before .before .before .before .before .before .before .before .before .before .before .before .before .before .before .before .before .before .loop .k) 0) (inner (c .before .before .before .before .before .before .before .before .before .before .before .before .before .before .before .before .before .before .before .before .before .before .before .before .before .before .before .before .before .args .level) (c .before .before .before .before .before .before .before .before .before .before .before .before .before .before .before .before .before .before .before .before .at-level .result) (c .before .before .before .before .before .before .before .before .before .before .before .before .before .before .before .before .before .before .before .before .before .before .before .before .before .before .before .before .before .args .left) (drop (c .before .before .before .before .before .before .before .before .before .before .before .before .before .before .before .before .before .before .before .before .before .before .before .before .before .loop .k) (now (c .before .before .before .before .before .before .before .before .before .before .before .before .before .before .before .before .before .before .before .before .before .before .before .before .before .before .before .before .before .args .t)))))
 held-at t c = ap (stoodAs (c .before .before .before .before .shut .last .0)) (sym (c .w .given .1)) ∙ shut-at t (c .before .before .before .before)
 
 -- the tag is no container
@@ -94,7 +95,7 @@ leaf-at t c = sym (c .before .holds-list .ensures) ∙ c .if2 .left
 
 -- it stands whole
 whole-at : (t : ℕ) (c : write-list-lts.After-w2 (calls t) (write-list-at t) write-list.Post write-list-Inv-loop write-list-μ-loop)
-    → stood (c .before .before .before .before .write-leaf .last .1 .1 .0) (c .w2 .given .0 .0) (c .w2 .given .0 .1 .0) ≡ over (c .before .before .before .before .before .before .before .before .before .before .before .before .before .loop .out) (c .before .before .before .before .before .before .before .before .before .before .before .before .before .loop .place) (c .before .before .before .before .before .before .before .before .before .before .before .before .before .loop .k) (shut (getD (now (c .before .before .before .before .before .before .before .before .before .before .before .before .before .before .before .before .before .args .t)) (c .before .before .before .before .before .before .before .before .before .before .before .before .before .loop .k) 0) (begun (c .before .before .before .before .before .before .before .before .at-level .result) (drop (c .before .before .before .before .before .before .before .before .before .before .before .before .before .loop .k) (now (c .before .before .before .before .before .before .before .before .before .before .before .before .before .before .before .before .before .args .t)))))
+    → this (stood (c .before .before .before .before .write-leaf .last .1 .1 .0) (c .w2 .given .0 .0) (c .w2 .given .0 .1 .0)) ≡ over (c .before .before .before .before .before .before .before .before .before .before .before .before .before .loop .out) (c .before .before .before .before .before .before .before .before .before .before .before .before .before .loop .place) (c .before .before .before .before .before .before .before .before .before .before .before .before .before .loop .k) (shut (getD (now (c .before .before .before .before .before .before .before .before .before .before .before .before .before .before .before .before .before .args .t)) (c .before .before .before .before .before .before .before .before .before .before .before .before .before .loop .k) 0) (begun (c .before .before .before .before .before .before .before .before .at-level .result) (drop (c .before .before .before .before .before .before .before .before .before .before .before .before .before .loop .k) (now (c .before .before .before .before .before .before .before .before .before .before .before .before .before .before .before .before .before .args .t)))))
 whole-at t c = ap (stoodAs (c .before .before .before .before .write-leaf .last .1 .1 .0)) (sym (c .w2 .given .1)) ∙ c .before .before .before .before .write-leaf .ensures
 
 -- ---- what the code leaves to be shown
