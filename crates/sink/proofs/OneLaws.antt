@@ -12,7 +12,7 @@ abbrev output : Lain → List ℕ
 output (lain o p) = o
 
 abbrev answer : Lain → Body
-answer (lain o p) = To p
+answer (lain o p) = To (record { 0 = p })
 
 tells : (u : List ℕ) (a : Body) → Tells output answer No (lainAs u a) u a
 tells u (To p) = (refl, refl)

@@ -23,5 +23,5 @@ lies o a (this b) = pick (leb (a + length b) longest) (this (lain (sets o a b) (
 lies o a cannot = cannot
 
 abbrev pub lainAs : List ℕ → Body → Possible Lain
-lainAs o (To p) = this (lain o p)
+lainAs o (To p) = this (lain o (p .0))
 lainAs o No = cannot
