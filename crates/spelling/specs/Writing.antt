@@ -1,6 +1,7 @@
 -- What the definitions' writing does to an output and a sink; and the code's answers, with the output that they leave, seen so.
 -- What cannot be written leaves an output of which nothing is said.
 use Prim.Native.Nat.{ℕ, _+_, _*_, _≤_}
+use mathlib.Core.Bool.{Bool}
 use mathlib.Core.Path.{_≡_}
 use mathlib.Core.List.{List}
 use lib.Dec.{leb}
