@@ -115,8 +115,8 @@ module _ (f : Format) (vs : List ℕ) where
     front-law = any-end ∙ ap (λ (w : Possible Written). close (writtenOver st 0 w)) (sym (shifted a)) ∙ skip-last
 
     -- as the code has it
-    pub front-done : {x : Possible Lain} {s : Possible Seen} → x ≡ concluded (length vs) s → s ≡ ran vs (mk o (8 * a) 0) 0 f → x ≡ lies o a (packed high (unrun high (front f) vs 0))
-    front-done e d = e ∙ ap (concluded (length vs)) d ∙ sym front-law
+    pub front-done : {x : Possible Lain} {s : Possible Seen} {q : ℕ} → q ≡ 8 * a → x ≡ concluded (length vs) s → s ≡ ran vs (mk o q 0) 0 f → x ≡ lies o a (packed high (unrun high (front f) vs 0))
+    front-done p e d = e ∙ ap (concluded (length vs)) (d ∙ ap (λ (q : ℕ). ran vs (mk o q 0) 0 f) p) ∙ sym front-law
 
 -- past the longest file there is no place
 pub lies-over : (o : List ℕ) (a : ℕ) (b : Possible (List ℕ)) → longest < a → cannot ≡ lies o a b
@@ -143,5 +143,5 @@ module _ (n : ℕ) (o : List ℕ) (R : Put) (s : Sink) (k : ℕ) (e : R ≡ Done
       let d : bit / 8 ≡ byte = omega (arith, skip .whole) in
       rw (e, eq-eqb k n h, p, d)
 
-pub start-fine : (a : ℕ) → a ≤ longest → Holds (8 * a) 0 × (8 * a ≤ limit)
-start-fine a h = (pow-pos (8 * a % 8), omega arith)
+pub start-fine : (a q : ℕ) → q ≡ 8 * a → a ≤ longest → Holds q 0 × (q ≤ limit)
+start-fine a q e h = (pow-pos (q % 8), omega arith)

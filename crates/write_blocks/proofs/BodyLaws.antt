@@ -282,10 +282,10 @@ module _ (l : List ℕ) (a : ℕ) (f : Flags) (some : 0 < f .width) where
   put-over n more end em ee h = rw (lt-leb (a + length (flagBytes (bitsOf f)) + n) longest (omega (arith, size-is)))
 
   -- what waits after the bits
-  pub put-fine : (u w : List ℕ) (s : Sink) → a ≤ longest → f .width ≤ 18 → at w s ≡ lay (mk u (8 * a) 0) (bitsOf f) → Holds (s .place .0) (s .part) × (s .place .0 ≤ 2 ^ 60)
-  put-fine u w s low few e =
-      let p : s .place .0 ≡ 8 * a + length (bitsOf f) = ap (λ (x : State). x .place) e ∙ lay-place (mk u (8 * a) 0) (bitsOf f) in
-      (subst (λ (x : State). Holds (x .place) (x .part)) (sym e) (lay-ok (mk u (8 * a) 0) (bitsOf f) (pow-pos (8 * a % 8))), omega (arith, p, length-dig high (f .width) (f .bits)))
+  pub put-fine : (u w : List ℕ) (s : Sink) {q : ℕ} → q ≡ 8 * a → a ≤ longest → f .width ≤ 18 → at w s ≡ lay (mk u q 0) (bitsOf f) → Holds (s .place .0) (s .part) × (s .place .0 ≤ 2 ^ 60)
+  put-fine u w s {q = q} first low few e =
+      let p : s .place .0 ≡ q + length (bitsOf f) = ap (λ (x : State). x .place) e ∙ lay-place (mk u q 0) (bitsOf f) in
+      (subst (λ (x : State). Holds (x .place) (x .part)) (sym e) (lay-ok (mk u q 0) (bitsOf f) (pow-pos (q % 8))), omega (arith, p, length-dig high (f .width) (f .bits)))
 
   flags-laid : (u w v : List ℕ) (s : Sink) (byte bit : ℕ) → at w s ≡ lay (mk u (8 * a) 0) (bitsOf f) → Skipped (at w s) v byte bit → v ≡ sets u a (flagBytes (bitsOf f))
   flags-laid u w v s byte bit e skip = ap (λ (x : State). x .bytes) (skip .laid ∙ whole)
@@ -302,13 +302,13 @@ module _ (l : List ℕ) (a : ℕ) (f : Flags) (some : 0 < f .width) where
           ∙ sym (lay-append (mk u (8 * a) 0) (bitsOf f) (dig high (skipped (length (bitsOf f))) 0))
           ∙ lay-pack u a ((length (bitsOf f) + 7) / 8) (bitsOf f ++ dig high (skipped (length (bitsOf f))) 0) (flag-whole (bitsOf f))
 
-  pub put-done : (n more end : ℕ) (u w v : List ℕ) (s : Sink) (byte bit : ℕ) → more ≡ (f .width + 7) / 8 - 1 → end ≡ a + 1 + n + more → end ≤ longest
-      → u ≡ sets l (a + 1 + more) (take n (drop (a + 1) l)) → at w s ≡ lay (mk u (8 * a) 0) (bitsOf f) → Skipped (at w s) v byte bit → this (lain v end) ≡ underFlags l a (flagBytes (bitsOf f)) n
-  put-done n more end u w v s byte bit em ee h moved put skip =
+  pub put-done : (n more end : ℕ) (u w v : List ℕ) (s : Sink) (byte bit : ℕ) {q : ℕ} → q ≡ 8 * a → more ≡ (f .width + 7) / 8 - 1 → end ≡ a + 1 + n + more → end ≤ longest
+      → u ≡ sets l (a + 1 + more) (take n (drop (a + 1) l)) → at w s ≡ lay (mk u q 0) (bitsOf f) → Skipped (at w s) v byte bit → this (lain v end) ≡ underFlags l a (flagBytes (bitsOf f)) n
+  put-done n more end u w v s byte bit first em ee h moved put skip =
       let z : a + length (flagBytes (bitsOf f)) + n ≡ end = omega (arith, size-is) in
       let m : a + 1 + more ≡ a + length (flagBytes (bitsOf f)) = omega (arith, size-is) in
       let p : v ≡ sets l a (flagBytes (bitsOf f) ++ take n (drop (a + 1) l)) =
-      flags-laid u w v s byte bit put skip
+      flags-laid u w v s byte bit (put ∙ ap (λ (q : ℕ). lay (mk u q 0) (bitsOf f)) first) skip
       ∙ ap (λ (x : List ℕ). sets x a (flagBytes (bitsOf f))) (moved ∙ ap (λ (i : ℕ). sets l i (take n (drop (a + 1) l))) m)
       ∙ sets-comm l (a + length (flagBytes (bitsOf f))) (take n (drop (a + 1) l)) a (flagBytes (bitsOf f)) (omega arith)
       ∙ sym (sets-append l a (flagBytes (bitsOf f)) (take n (drop (a + 1) l))) in
@@ -320,7 +320,7 @@ both-is (this cs) (this (here st′ j)) bs st k e =
     let p : cs ≡ bs = cc in
     let q : st′ ≡ st = cc in
     let i : j ≡ k = cc in
-    (ap this p, ap₂ this (here q i))
+    (ap this p, ap₂ (λ (x : State) (n : ℕ). this (here x n)) q i)
 both-is (this cs) cannot bs st k e = clash cc
 both-is cannot x bs st k e = clash cc
 
@@ -334,7 +334,10 @@ lies-between o a (this xs) u stop e = go (leb (a + length xs) longest) refl e
     go false q d = clash cc
 
 module _ (ks : List Attribute) (t : List ℕ) (any : anyFlag ks ≡ true) (o : List ℕ) (a : ℕ) (u : List ℕ) (R : Filled)
-    (e : (filled u R ≡ fills ks t (mk o (8 * (a + 1)) 0)) × Ready R) where
+    {q : ℕ} (first : q ≡ 8 * (a + 1)) (from : (filled u R ≡ fills ks t (mk o q 0)) × Ready R) where
+  e : (filled u R ≡ fills ks t (mk o (8 * (a + 1)) 0)) × Ready R
+  e = (from .0 ∙ ap (λ (k : ℕ). fills ks t (mk o k 0)) first, from .1)
+
   pub block-gone : R ≡ No → cannot ≡ lies o a (writeBody high (attributes ks) t)
   block-gone d = sym (block-law ks t any o a ∙ ap (finished (length t) a) (sym (e .0) ∙ ap (filled u) d))
 
@@ -359,7 +362,10 @@ module _ (ks : List Attribute) (t : List ℕ) (any : anyFlag ks ≡ true) (o : L
       pub block-stop : C ≡ BodyNo → cannot ≡ lies o a (writeBody high (attributes ks) t)
       block-stop z = sym (ends ∙ rw z)
 
-      module _ (stop : ℕ) (z : C ≡ To stop) where
+      module _ (end : BytePlace) (z : C ≡ To end) where
+        abbrev stop : ℕ
+        stop = end .0
+
         pub block-room : Held f × (0 < f .width) × (f .width ≤ 18) × (a + 1 ≤ stop) × (stop ≤ longest)
         block-room =
             let some : 0 < length (bitsOf f) = rw (parts .0) at (some-flags ks (flagsIn high ks t) any) in
