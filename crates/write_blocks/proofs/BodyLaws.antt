@@ -25,6 +25,7 @@ use Rattle.format.proofs.ByteLaws.{length-pack}
 use Rattle.format.proofs.Absurd.{clash}
 use Rattle.sink.specs.Lain.{Lain, lain, lies, lainAs, longest}
 use Rattle.sink.specs.Laying.{State, mk, at, lay, Holds, Skipped}
+use Rattle.bits.specs.declared.BytePlace.{BytePlace}
 use Rattle.sink.specs.declared.Body.{Body}
 use Rattle.sink.specs.declared.Body.the-variants.{To, No as BodyNo}
 use Rattle.sink.specs.declared.Sink.{Sink}

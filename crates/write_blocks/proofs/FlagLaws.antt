@@ -45,7 +45,7 @@ flag-no v h = go (eqb (v % 2) 1)
     go : (c : Bool) → spellFlag high v 1 ≡ cannot
     go c = rw (n, m) (done (eqb (v % 2) 1))
       where
-        done : (c : Bool) → pick c cannot cannot ≡ cannot
+        done : (c : Bool) → pick {A = Possible (List Bool)} c cannot cannot ≡ cannot
         done true = refl
         done false = refl
 

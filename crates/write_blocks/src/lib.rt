@@ -186,7 +186,8 @@ pub fn write_block(rows: Rows, values: &[u64], out: &mut [u8], at: BytePlace) ->
     if 16777216 <= at.0 {
         return Body::No;
     }
-    let place = bits::first_bit(BytePlace(at.0 + 1));
+    let from = at.0 + 1;
+    let place = bits::first_bit(BytePlace(from));
     let s = Sink { place, part: 0 };
     let r = write_contents(rows, values, out, s);
     let Filled::With(flags, next, k) = r else {

@@ -135,7 +135,7 @@ module _ (code left : ℕ) (W : List ℕ → Possible Made) where
   tag-deep (s ∷ []) h = refl
   tag-deep (s ∷ n ∷ ns) h = rw (eq-eqb left 0 h) (go (leb n (length ns)))
     where
-      go : (c : Bool) → pick c cannot cannot ≡ cannot
+      go : (c : Bool) → pick {A = Possible Made} c cannot cannot ≡ cannot
       go true = refl
       go false = refl
 

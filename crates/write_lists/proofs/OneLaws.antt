@@ -12,7 +12,7 @@ abbrev output : Stood → List ℕ
 output (stood o a k) = o
 
 abbrev answer : Stood → Wrote
-answer (stood o a k) = Done a k
+answer (stood o a k) = Done (record { 0 = a }) k
 
 tells : (u : List ℕ) (a : Wrote) → Tells output answer Impossible (stoodAs u a) u a
 tells u (Done a k) = (refl, refl)

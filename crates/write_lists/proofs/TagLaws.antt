@@ -17,6 +17,7 @@ use Rattle.tags.specs.Shown.{stateOf}
 use Rattle.table.proofs.EngineLaws.{sets-append}
 use Rattle.sink.specs.declared.Body.{Body}
 use Rattle.sink.specs.declared.Body.the-variants.{To, No}
+use Rattle.bits.specs.declared.BytePlace.{BytePlace}
 use Rattle.sink.specs.Lain.{longest, lain, lies, lainAs}
 use Rattle.write_heads.specs.Heads.{underHead, Closed}
 use Rattle.write_heads.proofs.StoreLaws.{sets-taken, sets-cover}
@@ -33,7 +34,10 @@ over-late o a k cannot h = refl
 over-late o a k (this (made xs b ys)) h = rw (lt-leb (a + length b) longest (omega arith))
 
 -- ---- the header, from the answer of `close`
-module _ (l : List ℕ) (a code stop j : ℕ) {W : Wrote} (told : W ≡ Done stop j) where
+module _ (l : List ℕ) (a code : ℕ) (end : BytePlace) (j : ℕ) {W : Wrote} (told : W ≡ Done end j) where
+  abbrev stop : ℕ
+  stop = end .0
+
   pub shut-from : After a W → (a + 2 ≤ stop) × (stop ≤ longest)
   shut-from h = rw told at h
 
@@ -84,9 +88,9 @@ shut-over o l a k code Impossible (this (made xs b ys)) h e = go (leb (a + 2 + l
     go false q w true =
         rw (lt-leb (a + length (spellHead code (length b) ++ b)) longest (rw length-append (omega (arith, leb-false (a + 2 + length b) longest q, head-two code (length b)))))
 shut-over o l a k code (Done p j) m h e =
-    let s : StoodBy o (a + 2) k l p j m = stood-by o (a + 2) k l p j m e in
-    let n : p - (a + 2) ≡ length (s .b) = omega (arith, s .place) in
-    ap (λ (x : List ℕ). headAt x a code (p - (a + 2)) j) (s .out)
+    let s : StoodBy o (a + 2) k l (p .0) j m = stood-by o (a + 2) k l (p .0) j m e in
+    let n : p .0 - (a + 2) ≡ length (s .b) = omega (arith, s .place) in
+    ap (λ (x : List ℕ). headAt x a code (p .0 - (a + 2)) j) (s .out)
     ∙ ap₂ (λ (x y : ℕ). headAt (sets o (a + 2) (s .b)) a code x y) n (s .index)
     ∙ head-over o a k code (s .xs) (s .b) (s .ys) h (omega (arith, s .place, s .small))
     ∙ sym (ap (λ (x : Possible Made). over o a k (shut code x)) (s .is))
@@ -94,7 +98,7 @@ shut-over o l a k code (Done p j) m h e =
 -- what the header's code asks for
 pub shut-after : (o l : List ℕ) (a k : ℕ) (W : Wrote) (m : Possible Made) → stoodAs l W ≡ over o (a + 2) k m → After a W
 shut-after o l a k Impossible m e = tt
-shut-after o l a k (Done p j) m e = let s = stood-by o (a + 2) k l p j m e in (omega (arith, s .place), s .small)
+shut-after o l a k (Done p j) m e = let s = stood-by o (a + 2) k l (p .0) j m e in (omega (arith, s .place), s .small)
 
 -- a whole tag takes two bytes at least
 pub shut-place : (o u : List ℕ) (a k code p j : ℕ) (m : Possible Made) → this (stood u p j) ≡ over o a k (shut code m) → (a + 2 ≤ p) × (p ≤ longest)
@@ -187,18 +191,18 @@ module _ (class : Class) (t : List ℕ) (k : ℕ) (o : List ℕ) (b : ℕ) where
             ≡ over o b k (bodyOf (code ∷ getD t (k + 1) 0 ∷ getD t (k + 2) 0 ∷ vs) (valuesIn class code v) (drop (getD t (k + 2) 0) (drop (k + 3) t)))
         is = ap (over o b k) begun-is ∙ ap (λ (z : Possible (List ℕ)). over o b k (bodyOf (code ∷ getD t (k + 1) 0 ∷ getD t (k + 2) 0 ∷ vs) z (drop (getD t (k + 2) 0) (drop (k + 3) t)))) body-is
 
-        pub begun-to : {p : ℕ} → R ≡ To p → this (stood u p (k + 3 + getD t (k + 2) 0)) ≡ over o b k (begun class (drop k t))
+        pub begun-to : {end : BytePlace} → R ≡ To end → this (stood u (end .0) (k + 3 + getD t (k + 2) 0)) ≡ over o b k (begun class (drop k t))
         unfolding over lies
-        begun-to {p} d = sym (is ∙ go (valuesIn class code v) (ap (lainAs u) (sym d) ∙ put))
+        begun-to {end} d = sym (is ∙ go (valuesIn class code v) (ap (lainAs u) (sym d) ∙ put))
           where
-            go : (z : Possible (List ℕ)) → this (lain u p) ≡ lies o b z
-                → over o b k (bodyOf (code ∷ getD t (k + 1) 0 ∷ getD t (k + 2) 0 ∷ vs) z (drop (getD t (k + 2) 0) (drop (k + 3) t))) ≡ this (stood u p (k + 3 + getD t (k + 2) 0))
+            go : (z : Possible (List ℕ)) → this (lain u (end .0)) ≡ lies o b z
+                → over o b k (bodyOf (code ∷ getD t (k + 1) 0 ∷ getD t (k + 2) 0 ∷ vs) z (drop (getD t (k + 2) 0) (drop (k + 3) t))) ≡ this (stood u (end .0) (k + 3 + getD t (k + 2) 0))
             go cannot q = clash cc
             go (this bs) q = lim (leb (b + length bs) longest) q
               where
-                lim : (c : Bool) → this (lain u p) ≡ pick c (this (lain (sets o b bs) (b + length bs))) cannot
-                    → pick c (this (stood (sets o b bs) (b + length bs) (k + length (code ∷ getD t (k + 1) 0 ∷ getD t (k + 2) 0 ∷ vs)))) cannot ≡ this (stood u p (k + 3 + getD t (k + 2) 0))
-                lim true w = let x : u ≡ sets o b bs = cc in let y : p ≡ b + length bs = cc in rw (x, y, used)
+                lim : (c : Bool) → this (lain u (end .0)) ≡ pick c (this (lain (sets o b bs) (b + length bs))) cannot
+                    → pick c (this (stood (sets o b bs) (b + length bs) (k + length (code ∷ getD t (k + 1) 0 ∷ getD t (k + 2) 0 ∷ vs)))) cannot ≡ this (stood u (end .0) (k + 3 + getD t (k + 2) 0))
+                lim true w = let x : u ≡ sets o b bs = cc in let y : end .0 ≡ b + length bs = cc in rw (x, y, used)
                 lim false w = clash cc
 
         pub begun-no : R ≡ No → cannot ≡ over o b k (begun class (drop k t))

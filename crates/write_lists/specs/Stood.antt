@@ -21,5 +21,5 @@ over o a k (this (made xs b ys)) = pick (leb (a + length b) longest) (this (stoo
 over o a k cannot = cannot
 
 abbrev pub stoodAs : List ℕ → Wrote → Possible Stood
-stoodAs o (Done a k) = this (stood o a k)
+stoodAs o (Done a k) = this (stood o (a .0) k)
 stoodAs o Impossible = cannot

@@ -61,10 +61,10 @@ abbrev pub headAt : List ℕ → ℕ → ℕ → ℕ → ℕ → Possible Stood
 headAt l a code n j = pick (leb (a + length (spellHead code n) + n) longest) (this (stood (underHead l a code n) (a + length (spellHead code n) + n) j)) cannot
 
 abbrev pub shutAs : List ℕ → ℕ → ℕ → Wrote → Possible Stood
-shutAs l a code (Done p j) = headAt l a code (p - (a + 2)) j
+shutAs l a code (Done p j) = headAt l a code (p .0 - (a + 2)) j
 shutAs l a code Impossible = cannot
 
 -- an answer whose place is two bytes after a or more
 abbrev pub After : ℕ → Wrote → Type 0
-After a (Done p j) = (a + 2 ≤ p) × (p ≤ longest)
+After a (Done p j) = (a + 2 ≤ p .0) × (p .0 ≤ longest)
 After a Impossible = Unit {0}
