@@ -11,6 +11,7 @@ pub mod EngineLaws
 pub mod ListLaws
 pub mod WalkLaws
 pub mod SizeLaws
+pub mod OneLaws
 -- What these rest on: the absurd step, bits, bytes, and the round trips of items, formats, blocks, bodies, headers and lists.
 pub mod Absurd
 pub mod BitLaws

@@ -12,8 +12,8 @@ use Rattle.format.specs.Bits.{AllBytes, Order}
 use Rattle.format.specs.FileAndTags.{classOf, Outcome, whole, fault, le32, file, walkList}
 use Rattle.format.specs.TableOfNumbers.{numbers, table}
 use Rattle.format.specs.Reasons.{startFault, walkFile, gives, refuses, result, readFile}
-use Rattle.format.specs.WritingBodies.{Bytes, bytes, impossible}
-use Rattle.format.specs.WritingFiles.{Made, made, unmade, spell32, unwalkList, wholeFile, writeFile}
+use Rattle.format.specs.Possible.{Possible, this, cannot}
+use Rattle.format.specs.WritingFiles.{Made, made, spell32, unwalkList, wholeFile, writeFile}
 use Rattle.format.proofs.ListTrip.{WholeIf, Again, list-there, Spelt, ListIf, list-back}
 use Rattle.format.proofs.Absurd.{clash}
 
@@ -96,7 +96,7 @@ spell-back l h = omega arith
 module _ (o : Order) (level : ℕ) where
   -- ---- what is read is written again
   abbrev FileIf : List ℕ → Outcome → List ℕ → Type 0
-  FileIf f whole t = writeFile o level t ≡ bytes f
+  FileIf f whole t = writeFile o level t ≡ this f
   FileIf f (fault e n) t = Unit {0}
 
   -- what follows the first nine bytes
@@ -114,11 +114,11 @@ module _ (o : Order) (level : ℕ) where
       go whole u =
           let n : 9 + length r ≡ suc (suc (suc (suc (suc (suc (suc (suc (suc (length r))))))))) = omega arith in
           let p : spell32 (9 + length r) ≡ e ∷ f ∷ g ∷ h ∷ [] = spell-there e f g h (9 + length r) (bs .1 .1 .1 .1 .0) (bs .1 .1 .1 .1 .1 .0) (bs .1 .1 .1 .1 .1 .1 .0) (bs .1 .1 .1 .1 .1 .1 .1 .0) (s .lengths ∙ sym n) in
-          let q : unwalkList o (classOf level) 8 xs ≡ made xs r [] = rw append-nil at (u []) in
+          let q : unwalkList o (classOf level) 8 xs ≡ this (made xs r []) = rw append-nil at (u []) in
           let sg : (0x50 ≡ a) × (0x41 ≡ b) × (0x47 ≡ c) = sign-there a b c (bs .0) (bs .1 .0) (bs .1 .1 .0) (s .signed) in
           let ed : 1 ≡ d = sym (s .version) in
           rw (le-ltb 1023 level (omega (arith, s .low)), lt-ltb i 256 (bs .1 .1 .1 .1 .1 .1 .1 .1 .0), q, le-leb (9 + length r) 16777216 (omega (arith, s .small)))
-          (ap (λ (k : List ℕ). bytes (0x50 ∷ 0x41 ∷ 0x47 ∷ 1 ∷ (k ++ i ∷ r))) p ∙ cc (sg .0, sg .1, sg .2, ed))
+          (ap (λ (k : List ℕ). this (0x50 ∷ 0x41 ∷ 0x47 ∷ 1 ∷ (k ++ i ∷ r))) p ∙ cc (sg .0, sg .1, sg .2, ed))
 
   walk-there : (f : List ℕ) → AllBytes f → FileIf f (walkFile o level f .ended) (table f (walkFile o level f))
   unfolding walkFile
@@ -133,24 +133,24 @@ module _ (o : Order) (level : ℕ) where
       go true e = rw e (good (good-start level f (eqb-true (startFault level f) 0 e)) b)
 
   -- (there) a file that is accepted with the table t is what t is written as
-  pub there : (f t : List ℕ) → AllBytes f → readFile o level f ≡ gives t → writeFile o level t ≡ bytes f
+  pub there : (f t : List ℕ) → AllBytes f → readFile o level f ≡ gives t → writeFile o level t ≡ this f
   unfolding readFile
   there f t b h = go (walkFile o level f .ended) (walk-there f b) h
     where
-      go : (z : Outcome) → FileIf f z (table f (walkFile o level f)) → result (table f (walkFile o level f)) z ≡ gives t → writeFile o level t ≡ bytes f
+      go : (z : Outcome) → FileIf f z (table f (walkFile o level f)) → result (table f (walkFile o level f)) z ≡ gives t → writeFile o level t ≡ this f
       go whole u e = let q : table f (walkFile o level f) ≡ t = cc in rw q at u
       go (fault x y) u e = clash cc
 
   -- ---- what is written is read again
-  abbrev TableIf : List ℕ → Bytes → Type 0
-  TableIf t (bytes f) = AllBytes f × (readFile o level f ≡ gives t)
-  TableIf t impossible = Unit {0}
+  abbrev TableIf : List ℕ → Possible (List ℕ) → Type 0
+  TableIf t (this f) = AllBytes f × (readFile o level f ≡ gives t)
+  TableIf t cannot = Unit {0}
 
-  table-back : (comp : ℕ) (ns : List ℕ) → level ≤ 1023 → comp < 256 → (x : Made) → ListIf o (classOf level) 8 ns x → TableIf (comp ∷ ns) (wholeFile comp x)
+  table-back : (comp : ℕ) (ns : List ℕ) → level ≤ 1023 → comp < 256 → (x : Possible Made) → ListIf o (classOf level) 8 ns x → TableIf (comp ∷ ns) (wholeFile comp x)
   unfolding readFile walkFile
-  table-back comp ns l h unmade u = tt
-  table-back comp ns l h (made xs r (y ∷ ys)) u = tt
-  table-back comp ns l h (made xs r []) u = go (leb (9 + length r) 16777216) refl
+  table-back comp ns l h cannot u = tt
+  table-back comp ns l h (this (made xs r (y ∷ ys))) u = tt
+  table-back comp ns l h (this (made xs r [])) u = go (leb (9 + length r) 16777216) refl
     where
       f : List ℕ
       f = 0x50 ∷ 0x41 ∷ 0x47 ∷ 1 ∷ (spell32 (9 + length r) ++ comp ∷ r)
@@ -158,7 +158,7 @@ module _ (o : Order) (level : ℕ) where
       start : 9 + length r ≤ 16777216 → Start level f
       start s = record { low = l; long = omega arith; signed = refl; version = refl; lengths = spell-back (9 + length r) (omega arith) ∙ omega arith; small = omega arith }
 
-      go : (c : Bool) → leb (9 + length r) 16777216 ≡ c → TableIf (comp ∷ ns) (pick (leb (9 + length r) 16777216) (bytes f) impossible)
+      go : (c : Bool) → leb (9 + length r) 16777216 ≡ c → TableIf (comp ∷ ns) (pick (leb (9 + length r) 16777216) (this f) cannot)
       go false e = rw e tt
       go true e =
           let s : 9 + length r ≤ 16777216 = leb-true (9 + length r) 16777216 e in
@@ -181,21 +181,21 @@ module _ (o : Order) (level : ℕ) where
           (table-back comp ns (omega (arith, ltb-false 1023 level e)) (ltb-true comp 256 e′) (unwalkList o (classOf level) 8 ns) (list-back o (classOf level) (length ns) 8 ns (omega arith)))
 
   -- (back) what the table t is written as is a file, and it is accepted with t
-  pub back : (f t : List ℕ) → writeFile o level t ≡ bytes f → AllBytes f × (readFile o level f ≡ gives t)
+  pub back : (f t : List ℕ) → writeFile o level t ≡ this f → AllBytes f × (readFile o level f ≡ gives t)
   back f t h = subst (TableIf t) h (table-there t)
 
   -- ---- what the writer's two answers mean, by the reader's definition alone
   -- where nothing is written, no file has the table
-  pub no-file : (t : List ℕ) → writeFile o level t ≡ impossible → (f : List ℕ) → AllBytes f → readFile o level f ≡ gives t → ⊥
+  pub no-file : (t : List ℕ) → writeFile o level t ≡ cannot → (f : List ℕ) → AllBytes f → readFile o level f ≡ gives t → ⊥
   no-file t h f b e =
-      let g : writeFile o level t ≡ bytes f = there f t b e in
+      let g : writeFile o level t ≡ this f = there f t b e in
       clash cc
 
   -- no two files have one table
   pub one-file : (t f g : List ℕ) → AllBytes f → AllBytes g → readFile o level f ≡ gives t → readFile o level g ≡ gives t → f ≡ g
   one-file t f g b c e h =
-      let p : writeFile o level t ≡ bytes f = there f t b e in
-      let q : writeFile o level t ≡ bytes g = there g t c h in
+      let p : writeFile o level t ≡ this f = there f t b e in
+      let q : writeFile o level t ≡ this g = there g t c h in
       cc
 
   -- a level that gives a table is one of 0 to 1023

@@ -12,6 +12,7 @@ pub mod Reasons
 -- What is demanded of two levels of one file.
 pub mod Levels
 -- Not to be believed, only used: how the bytes of a table are found. No promise to a caller cites these.
+pub mod Possible
 pub mod WritingItems
 pub mod WritingFormats
 pub mod WritingBodies

@@ -8,6 +8,7 @@ ghost use Rattle.format.specs.WritingItems.{dig};
 ghost use Rattle.sink.specs.Laying.{at as under, lay, Holds, Skipped};
 use bits::BitPlace;
 use bits::BytePlace;
+use bits::Whole;
 
 // The next bit place, and the bits of its byte that were put, as a number.
 pub struct Sink {
@@ -15,15 +16,9 @@ pub struct Sink {
     pub part: u64,
 }
 
-// A whole byte, in both counts.
-pub struct Whole {
-    pub byte: BytePlace,
-    pub bit: BitPlace,
-}
-
 // A body was written up to a byte place; or no file has it.
 pub enum Body {
-    To(usize),
+    To(BytePlace),
     No,
 }
 
@@ -77,19 +72,12 @@ pub fn align(out: &mut [u8], s: Sink) -> Whole
     ensures { λ r. ⌜ Skipped (under (now (out .entry)) s) (now (out .exit)) (r .byte .0) (r .bit .0) ⌝ }
 {
     let p = s.place.0;
-    let i = p / 8;
-    let used = p % 8;
-    if used == 0 {
-        return Whole {
-            byte: BytePlace(i),
-            bit: BitPlace(p),
-        };
-    }
     let a = s.part;
-    let skipped = 8 - used;
-    put_byte(out, i, a * power(skipped));
-    Whole {
-        byte: BytePlace(i + 1),
-        bit: BitPlace(p + skipped),
+    let whole = bits::next_byte(s.place);
+    let skipped = whole.bit.0 - p;
+    if skipped == 0 {
+        return whole;
     }
+    put_byte(out, p / 8, a * power(skipped));
+    whole
 }

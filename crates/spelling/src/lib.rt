@@ -30,7 +30,7 @@ pub enum Put {
 }
 
 // No file is longer than 2^27 bits.
-pub fn ended(s: Sink, k: usize) -> Put
+pub(crate) fn ended(s: Sink, k: usize) -> Put
     ensures { λ r. ⌜ r ≡ finish s k ⌝ }
 {
     let p = s.place.0;
@@ -83,5 +83,6 @@ pub fn conclude(r: Put, n: usize, out: &mut [u8]) -> Body
         return Body::No;
     }
     let end = sink::align(out, s);
-    Body::To(end.byte.0)
+    let stop = end.byte;
+    Body::To(stop)
 }

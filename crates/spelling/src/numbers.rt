@@ -8,9 +8,9 @@ ghost use Rattle.spelling.specs.Writing.{bitsOver, got, OnByte};
 ghost use Rattle.spelling.specs.Spellings.{spellingOf};
 use crate::Spelt;
 use bits::BitPlace;
+use bits::Whole;
 use items::Item;
 use sink::Sink;
-use sink::Whole;
 use sink::put_byte;
 
 // One byte.

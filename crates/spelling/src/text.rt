@@ -11,8 +11,8 @@ use crate::Put;
 use crate::Spelt;
 use crate::ended;
 use bits::BitPlace;
+use bits::Whole;
 use sink::Sink;
-use sink::Whole;
 use sink::put_byte;
 
 // The bytes of a String, 1 to 255 each, and the zero byte that ends it.

@@ -18,6 +18,7 @@ use attributes::Content;
 use attributes::Kind;
 use attributes::Rows;
 use bits::BitPlace;
+use bits::BytePlace;
 use sink::Body;
 use sink::Sink;
 use spelling::Put;
@@ -158,39 +159,36 @@ fn write_contents(rows: Rows, t: &[u64], out: &mut [u8], s: Sink) -> Filled
 }
 
 // Puts flags before contents that stand one byte after a place, up to stop; where the flags take more than that byte, the contents move up.
-fn put_flags(flags: Flags, out: &mut [u8], at: usize, stop: usize) -> Body
-    requires { ⌜ Held flags × (0 < flags .width) × (flags .width ≤ 18) × (at + 1 ≤ stop) × (stop ≤ longest) ⌝ }
-    ensures { λ r. ⌜ lainAs (now (out .exit)) r ≡ underFlags (now (out .entry)) at (flagBytes (bitsOf flags)) (stop - (at + 1)) ⌝ }
+fn put_flags(flags: Flags, out: &mut [u8], at: BytePlace, stop: BytePlace) -> Body
+    requires { ⌜ Held flags × (0 < flags .width) × (flags .width ≤ 18) × (at .0 + 1 ≤ stop .0) × (stop .0 ≤ longest) ⌝ }
+    ensures { λ r. ⌜ lainAs (now (out .exit)) r ≡ underFlags (now (out .entry)) (at .0) (flagBytes (bitsOf flags)) (stop .0 - (at .0 + 1)) ⌝ }
 {
     let width = flags.width;
-    let from = at + 1;
+    let from = at.0 + 1;
     let more = (width + 7) / 8 - 1;
-    let end = stop + more;
+    let end = stop.0 + more;
     if 16777216 < end {
         return Body::No;
     }
-    write_heads::move_up(out, from, stop - from, more);
-    let s = Sink {
-        place: BitPlace(8 * at),
-        part: 0,
-    };
+    write_heads::move_up(out, BytePlace(from), stop.0 - from, more);
+    let place = bits::first_bit(at);
+    let s = Sink { place, part: 0 };
     let next = sink::put_bits(out, s, flags.bits, width);
     sink::align(out, next);
-    Body::To(end)
+    Body::To(BytePlace(end))
 }
 
 // An attribute block, from a byte place on; one that has flags. No file is longer than 16,777,216 bytes.
-pub fn write_block(rows: Rows, values: &[u64], out: &mut [u8], at: usize) -> Body
+pub fn write_block(rows: Rows, values: &[u64], out: &mut [u8], at: BytePlace) -> Body
     requires { ⌜ AreRows (rows .start) (rows .end) × (anyFlag (rowsFrom (rows .start) (rows .end)) ≡ true) ⌝ }
-    ensures { λ r. ⌜ lainAs (now (out .exit)) r ≡ lies (now (out .entry)) at (writeBody high (attributesBody (rowsFrom (rows .start) (rows .end))) (now (values .entry))) ⌝ }
+    ensures { λ r. ⌜ lainAs (now (out .exit)) r ≡ lies (now (out .entry)) (at .0) (writeBody high (attributesBody (rowsFrom (rows .start) (rows .end))) (now (values .entry))) ⌝ }
 {
-    if 16777216 <= at {
+    if 16777216 <= at.0 {
         return Body::No;
     }
-    let s = Sink {
-        place: BitPlace(8 * (at + 1)),
-        part: 0,
-    };
+    let from = at.0 + 1;
+    let place = bits::first_bit(BytePlace(from));
+    let s = Sink { place, part: 0 };
     let r = write_contents(rows, values, out, s);
     let Filled::With(flags, next, k) = r else {
         return Body::No;

@@ -10,12 +10,13 @@ ghost use Rattle.classes.specs.Classes.{contains, ends};
 ghost use Rattle.sink.specs.Lain.{longest, lies, lainAs};
 ghost use Rattle.write_lists.specs.Stood.{over, stoodAs};
 ghost use Rattle.write_lists.specs.Tags.{asBytes, LaidAs, valuesIn, begun, shut as shutBy, shutAs, After};
+use bits::BytePlace;
 use classes::Class;
 use sink::Body;
 
 // The next byte place and the index of the next number; or no file has the tags.
 pub enum Wrote {
-    Done(usize, usize),
+    Done(BytePlace, usize),
     Impossible,
 }
 
@@ -53,31 +54,33 @@ fn are_bytes(values: &[u64]) -> bool
 }
 
 // The values of an opaque tag are its bytes.
-fn copy_bytes(values: &[u64], out: &mut [u8], at: usize) -> Body
-    requires { ⌜ at ≤ longest ⌝ }
-    ensures { λ r. ⌜ lainAs (now (out .exit)) r ≡ lies (now (out .entry)) at (asBytes (now (values .entry))) ⌝ }
+fn copy_bytes(values: &[u64], out: &mut [u8], at: BytePlace) -> Body
+    requires { ⌜ at .0 ≤ longest ⌝ }
+    ensures { λ r. ⌜ lainAs (now (out .exit)) r ≡ lies (now (out .entry)) (at .0) (asBytes (now (values .entry))) ⌝ }
 {
     let n = values.len();
-    if 16777216 - at < n {
+    let from = at.0;
+    if 16777216 - from < n {
         return Body::No;
     }
-    let m = table::room_for(out.len(), at, n);
+    let m = table::room_for(out.len(), from, n);
     if 0 < m {
-        let to = at + m;
-        if !lay_bytes(&values[0..m], &mut out[at..to]) {
+        let to = from + m;
+        if !lay_bytes(&values[0..m], &mut out[from..to]) {
             return Body::No;
         }
     }
     if are_bytes(&values[m..]) {
-        return Body::To(at + n);
+        let stop = from + n;
+        return Body::To(BytePlace(stop));
     }
     Body::No
 }
 
 // The values of a tag, by its class.
-fn write_values(class: Class, code: u32, values: &[u64], out: &mut [u8], at: usize) -> Body
-    requires { ⌜ at ≤ longest ⌝ }
-    ensures { λ r. ⌜ lainAs (now (out .exit)) r ≡ lies (now (out .entry)) at (valuesIn class code (now (values .entry))) ⌝ }
+fn write_tag_values(class: Class, code: u32, values: &[u64], out: &mut [u8], at: BytePlace) -> Body
+    requires { ⌜ at .0 ≤ longest ⌝ }
+    ensures { λ r. ⌜ lainAs (now (out .exit)) r ≡ lies (now (out .entry)) (at .0) (valuesIn class code (now (values .entry))) ⌝ }
 {
     match class {
         Class::Opaque => copy_bytes(values, out, at),
@@ -92,11 +95,19 @@ fn write_values(class: Class, code: u32, values: &[u64], out: &mut [u8], at: usi
     }
 }
 
-// The tag at index k without its header, and a container without its list too.
-fn begin_tag(class: Class, code: u32, out: &mut [u8], at: usize, t: &[u64], k: usize) -> Wrote
-    requires { ⌜ (at ≤ longest + 2) × (k < length (now t)) × (code ≡ getD (now t) k 0) ⌝ }
-    ensures { λ r. ⌜ stoodAs (now (out .exit)) r ≡ over (now (out .entry)) at k (begun class (drop k (now (t .entry)))) ⌝ }
+// The tag at index k without its header, two bytes after its place; and a container without its list too.
+fn begin_tag(
+    class: Class,
+    code: u32,
+    out: &mut [u8],
+    place: BytePlace,
+    t: &[u64],
+    k: usize,
+) -> Wrote
+    requires { ⌜ (place .0 ≤ longest) × (k < length (now t)) × (code ≡ getD (now t) k 0) ⌝ }
+    ensures { λ r. ⌜ stoodAs (now (out .exit)) r ≡ over (now (out .entry)) (place .0 + 2) k (begun class (drop k (now (t .entry)))) ⌝ }
 {
+    let at = place.0 + 2;
     if 16777216 < at {
         return Wrote::Impossible;
     }
@@ -114,7 +125,7 @@ fn begin_tag(class: Class, code: u32, out: &mut [u8], at: usize, t: &[u64], k: u
     }
     let from = k + 3;
     let to = from + count as usize;
-    let body = write_values(class, code, &t[from..to], out, at);
+    let body = write_tag_values(class, code, &t[from..to], out, BytePlace(at));
     let Body::To(stop) = body else {
         return Wrote::Impossible;
     };
@@ -122,26 +133,33 @@ fn begin_tag(class: Class, code: u32, out: &mut [u8], at: usize, t: &[u64], k: u
 }
 
 // The header of the tag at a place, before what was put two bytes after it.
-fn shut(out: &mut [u8], place: usize, code: u32, w: Wrote) -> Wrote
-    requires { ⌜ After place w × (code < 1024) ⌝ }
-    ensures { λ r. ⌜ stoodAs (now (out .exit)) r ≡ shutAs (now (out .entry)) place code w ⌝ }
+fn shut(out: &mut [u8], place: BytePlace, code: u32, w: Wrote) -> Wrote
+    requires { ⌜ After (place .0) w × (code < 1024) ⌝ }
+    ensures { λ r. ⌜ stoodAs (now (out .exit)) r ≡ shutAs (now (out .entry)) (place .0) code w ⌝ }
 {
     let Wrote::Done(stop, j) = w else {
         return w;
     };
     let next = write_heads::close(out, place, code, stop);
-    if 16777216 < next {
+    if 16777216 < next.0 {
         return Wrote::Impossible;
     }
     Wrote::Done(next, j)
 }
 
 // A whole tag that is no container.
-fn write_leaf(class: Class, code: u32, out: &mut [u8], place: usize, t: &[u64], k: usize) -> Wrote
-    requires { ⌜ (place ≤ longest) × (k < length (now t)) × (code ≡ getD (now t) k 0) × (code < 1024) ⌝ }
-    ensures { λ r. ⌜ stoodAs (now (out .exit)) r ≡ over (now (out .entry)) place k (shutBy code (begun class (drop k (now (t .entry))))) ⌝ }
+fn write_leaf(
+    class: Class,
+    code: u32,
+    out: &mut [u8],
+    place: BytePlace,
+    t: &[u64],
+    k: usize,
+) -> Wrote
+    requires { ⌜ (place .0 ≤ longest) × (k < length (now t)) × (code ≡ getD (now t) k 0) × (code < 1024) ⌝ }
+    ensures { λ r. ⌜ stoodAs (now (out .exit)) r ≡ over (now (out .entry)) (place .0) k (shutBy code (begun class (drop k (now (t .entry))))) ⌝ }
 {
-    let w = begin_tag(class, code, out, place + 2, t, k);
+    let w = begin_tag(class, code, out, place, t, k);
     shut(out, place, code, w)
 }
 
@@ -172,9 +190,16 @@ fn ends_list(class: Class) -> bool
 }
 
 // The tag list whose numbers start at an index; `left` depths may lie below it. It calls itself for the list in a container.
-pub fn write_list(level: u32, left: u32, out: &mut [u8], at: usize, t: &[u64], from: usize) -> Wrote
-    requires { ⌜ (at ≤ longest) × (from ≤ length (now t)) ⌝ }
-    ensures { λ r. ⌜ stoodAs (now (out .exit)) r ≡ over (now (out .entry)) at from (unwalkList high (classOf level) left (drop from (now (t .entry)))) ⌝ }
+pub fn write_list(
+    level: u32,
+    left: u32,
+    out: &mut [u8],
+    at: BytePlace,
+    t: &[u64],
+    from: usize,
+) -> Wrote
+    requires { ⌜ (at .0 ≤ longest) × (from ≤ length (now t)) ⌝ }
+    ensures { λ r. ⌜ stoodAs (now (out .exit)) r ≡ over (now (out .entry)) (at .0) from (unwalkList high (classOf level) left (drop from (now (t .entry)))) ⌝ }
 {
     let classes = classes::all();
     let mut place = at;
@@ -191,7 +216,7 @@ pub fn write_list(level: u32, left: u32, out: &mut [u8], at: usize, t: &[u64], f
             if left == 0 {
                 return Wrote::Impossible;
             }
-            let b = begin_tag(class, code, out, place + 2, t, k);
+            let b = begin_tag(class, code, out, place, t, k);
             let Wrote::Done(p, j) = b else {
                 return b;
             };

@@ -8,8 +8,8 @@ ghost use Rattle.values.specs.Parts.{scaled, framesOf, keyframesOf};
 ghost use Rattle.sink.specs.Laying.{at as under};
 ghost use Rattle.spelling.specs.Writing.{seen, ran, Fine};
 ghost use Rattle.write_values.specs.Easing.{Eases};
+use crate::write_frame_values;
 use crate::write_in_turn;
-use crate::write_values;
 use attributes::DataType;
 use attributes::Kind;
 use items::Item;
@@ -67,7 +67,7 @@ fn write_values_part(what: DataType, n: usize, out: &mut [u8], s: Sink, t: &[u64
     ensures { λ r. ⌜ seen (now (out .exit)) r ≡ ran (now (t .entry)) (under (now (out .entry)) s) k (aligned ▸ valuesOf (typeOf what) n) ⌝ }
 {
     let start = spelling::skip(out, s);
-    write_values(what, n, out, start, t, k)
+    write_frame_values(what, n, out, start, t, k)
 }
 
 // The easing part: a width, which stands always, and n signed fields of it.

@@ -95,7 +95,7 @@ fn write_in_turn(what: DataType, n: usize, out: &mut [u8], s: Sink, t: &[u64], k
 }
 
 // n keyframed values: Bools one bit each; bytes as a width and fields of it; the others in turn.
-fn write_values(what: DataType, n: usize, out: &mut [u8], s: Sink, t: &[u64], k: usize) -> Put
+fn write_frame_values(what: DataType, n: usize, out: &mut [u8], s: Sink, t: &[u64], k: usize) -> Put
     requires { ⌜ Fine s × (n < 2 ^ 32) ⌝ }
     ensures { λ r. ⌜ seen (now (out .exit)) r ≡ ran (now (t .entry)) (under (now (out .entry)) s) k (valuesOf (typeOf what) n) ⌝ }
 {

@@ -25,7 +25,7 @@ same-length : tie.Need-same-length
 same-length c = search needs
 
 returns-3 : tie.Need-returns-3
-returns-3 c = end-done (c .before .before .before .before .before .before .before .before .before .args .n) (now (c .before .before .before .before .before .before .before .before .before .args .out)) (c .before .before .before .before .before .before .before .before .before .args .r) (c .before .before .before .before .before .before .r .given .0 .0) (c .before .before .before .before .before .before .r .given .0 .1 .0) (c .before .before .before .before .before .before .r .given .1) (c .before .before .before .before .if1 .left) (c .before .before .align .ensures)
+returns-3 c = end-done (c .before .before .before .before .before .before .before .before .before .before .args .n) (now (c .before .before .before .before .before .before .before .before .before .before .args .out)) (c .before .before .before .before .before .before .before .before .before .before .args .r) (c .before .before .before .before .before .before .before .r .given .0 .0) (c .before .before .before .before .before .before .before .r .given .0 .1 .0) (c .before .before .before .before .before .before .before .r .given .1) (c .before .before .before .before .before .if1 .left) (c .before .before .before .align .ensures)
 
 pub conclude-spec : {M : Type 1} → statement M
 conclude-spec =

@@ -1,12 +1,12 @@
--- `write_values::write_values` meets its contract.
+-- `write_values::write_frame_values` meets its contract.
 use denote.Ref.{now}
 use Rattle.sink.specs.Laying.{at}
 use mathlib.Core.Path.{refl}
 use Rattle.attributes.specs.declared.DataType.the-variants.{U32, Time, Float, Ratio, Bool, Byte, BlendMode, TrackMatteType, MaskMode, Path}
 use Rattle.write_values.proofs.ValueLaws.{values-of, in-turn-of}
 use borrow.Author.Needs.{needs}
-use Rattle.write_values.proofs.write_values.Statement.{statement}
-use Rattle.write_values.proofs.write_values.Tie as tie
+use Rattle.write_values.proofs.write_frame_values.Statement.{statement}
+use Rattle.write_values.proofs.write_frame_values.Tie as tie
 
 enum-told : tie.Need-enum-told
 enum-told c = search needs
@@ -128,8 +128,8 @@ same-length-10 c = search needs
 returns-10 : tie.Need-returns-10
 returns-10 c = let a = c .before .before .before .before .before .before .before .before .args in in-turn-of (now (a .t)) (at (now (a .out)) (a .s)) (a .k) (a .n) Path refl (c .before .before .before .before .enum-told10 .given .1) (c .before .before .write-in-turn8 .ensures)
 
-pub write-values-spec : {M : Type 1} → statement M
-write-values-spec =
+pub write-frame-values-spec : {M : Type 1} → statement M
+write-frame-values-spec =
     tie.close
     (tie.spec
     enum-told
