@@ -15,18 +15,18 @@ sub-skipped c = search needs
 returns : tie.Need-returns
 returns c =
     let w = c .before .before .next-byte .ensures in
-    skip-none (now (c .before .before .before .before .args .out)) (c .before .before .before .before .args .s .place .0) (c .before .before .before .before .args .s .part) (c .before .before .before .before .pre .0) (w .0) (w .1) (c .if1 .taken)
+    skip-none (now (c .before .before .before .before .args .out)) (c .before .before .before .before .args .sink .place .0) (c .before .before .before .before .args .sink .part) (c .before .before .before .before .pre .0) (w .0) (w .1) (c .if1 .taken)
 
 power-requires : tie.Need-power-requires
 power-requires c κs = search needs
 
 mul-put-byte : tie.Need-mul-put-byte
 mul-put-byte c =
-    omega (arith, waiting-lt (c .before .before .before .before .before .before .args .s .place .0) (c .before .before .before .before .before .before .args .s .part) (c .power .result) (c .before .before .before .before .next-byte .result .bit .0) (c .before .before .before .before .before .before .pre .0) (c .before .before .before .before .next-byte .ensures .0) (c .before .before .if1 .left) (c .power .ensures .0))
+    omega (arith, waiting-lt (c .before .before .before .before .before .before .args .sink .place .0) (c .before .before .before .before .before .before .args .sink .part) (c .power .result) (c .before .before .before .before .next-byte .result .bit .0) (c .before .before .before .before .before .before .pre .0) (c .before .before .before .before .next-byte .ensures .0) (c .before .before .if1 .left) (c .power .ensures .0))
 
 put-byte-requires : tie.Need-put-byte-requires
 put-byte-requires c κs =
-    waiting-lt (c .before .before .before .before .before .before .args .s .place .0) (c .before .before .before .before .before .before .args .s .part) (c .power .result) (c .before .before .before .before .next-byte .result .bit .0) (c .before .before .before .before .before .before .pre .0) (c .before .before .before .before .next-byte .ensures .0) (c .before .before .if1 .left) (c .power .ensures .0)
+    waiting-lt (c .before .before .before .before .before .before .args .sink .place .0) (c .before .before .before .before .before .before .args .sink .part) (c .power .result) (c .before .before .before .before .next-byte .result .bit .0) (c .before .before .before .before .before .before .pre .0) (c .before .before .before .before .next-byte .ensures .0) (c .before .before .if1 .left) (c .power .ensures .0)
 
 same-length : tie.Need-same-length
 same-length c = search needs
@@ -34,7 +34,7 @@ same-length c = search needs
 returns-2 : tie.Need-returns-2
 returns-2 c =
     let w = c .before .before .before .before .before .before .before .next-byte .ensures in
-    skip-some (now (c .before .before .before .before .before .before .before .before .before .args .out)) (c .before .before .before .before .before .before .before .before .before .args .s .place .0) (c .before .before .before .before .before .before .before .before .before .args .s .part) (c .before .before .before .power .result) (c .before .before .before .before .before .before .before .before .before .pre .0) (w .0) (w .1) (c .before .before .before .before .before .if1 .left) (c .before .before .before .power .ensures .0) (c .before .before .put-byte .ensures)
+    skip-some (now (c .before .before .before .before .before .before .before .before .before .args .out)) (c .before .before .before .before .before .before .before .before .before .args .sink .place .0) (c .before .before .before .before .before .before .before .before .before .args .sink .part) (c .before .before .before .power .result) (c .before .before .before .before .before .before .before .before .before .pre .0) (w .0) (w .1) (c .before .before .before .before .before .if1 .left) (c .before .before .before .power .ensures .0) (c .before .before .put-byte .ensures)
 
 pub align-spec : {M : Type 1} → statement M
 align-spec =

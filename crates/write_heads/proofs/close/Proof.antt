@@ -14,8 +14,8 @@ use Rattle.write_heads.proofs.put32.Reads as put32-reads
 add-from : tie.Need-add-from
 add-from c = search needs
 
-sub-n : tie.Need-sub-n
-sub-n c = search needs
+sub-length : tie.Need-sub-length
+sub-length c = search needs
 
 mul-number : tie.Need-mul-number
 mul-number c = search needs
@@ -58,7 +58,7 @@ close-spec =
     tie.close
     (tie.spec
     add-from
-    sub-n
+    sub-length
     mul-number
     add-put16
     put16-requires
