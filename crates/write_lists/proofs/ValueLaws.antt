@@ -119,7 +119,7 @@ module _ (o : List ℕ) (b : ℕ) (vs : List ℕ) where
 
   pub end-none : (code : ℕ) → b ≤ longest → length vs ≡ 0 → this (lain o b) ≡ lies o b (valuesIn End code vs)
   unfolding lies
-  end-none code h e = rw (eq-eqb (length vs) 0 e, le-leb (b + 0) longest (omega arith)) (ap (lain o) (sym (add-zero b)))
+  end-none code h e = rw (eq-eqb (length vs) 0 e, le-leb (b + 0) longest (omega arith)) (ap (λ (x : ℕ). this (lain o x)) (sym (add-zero b)))
 
   pub end-some : (code : ℕ) → (length vs ≡ 0 → ⊥) → cannot ≡ lies o b (valuesIn End code vs)
   unfolding lies

@@ -129,7 +129,7 @@ module _ (level : ℕ) (t : List ℕ) where
           laid : (m v : List ℕ) (R : Wrote) → stoodAs v R ≡ over m 9 1 (tags level t) → v ≡ sets m 9 (s .b)
           unfolding over
           laid m v (Done n′ k′) e′ =
-              let s′ = stood-by m 9 1 v n′ k′ (tags level t) e′ in
+              let s′ = stood-by m 9 1 v (n′ .0) k′ (tags level t) e′ in
               let z : this (made (s′ .xs) (s′ .b) (s′ .ys)) ≡ this (made (s .xs) (s .b) (s .ys)) = sym (s′ .is) ∙ s .is in
               let same : s′ .b ≡ s .b = cc in
               s′ .out ∙ ap (sets m 9) same

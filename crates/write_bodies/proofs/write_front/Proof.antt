@@ -1,5 +1,4 @@
 -- `write_bodies::write_front` meets its contract.
-use Prim.Native.Nat.{_*_}
 use denote.Ref.{now}
 use Rattle.fixed.specs.Fixed.{fixedOf}
 use Rattle.spelling.proofs.EndLaws.{lies-over, start-fine, front-fine, front-done}

@@ -46,10 +46,10 @@ abbrev calls : ℕ → write-list-lts.Claims
 calls t = (all-reads.Asked, all-reads.Learnt, at-level-reads.Asked, at-level-reads.Learnt, holds-list-reads.Asked, holds-list-reads.Learnt, begin-tag-reads.Asked, begin-tag-reads.Learnt, write-list-below t, write-list.Post, shut-reads.Asked, shut-reads.Learnt, write-leaf-reads.Asked, write-leaf-reads.Learnt, ends-list-reads.Asked, ends-list-reads.Learnt)
 
 abbrev write-list-Inv-loop : write-list-lts.InvT-loop
-write-list-Inv-loop level left out₀ at t from classes place₀ k₀ out place k = (length out ≡ length out₀) × (place .0 ≤ longest) × (k ≤ length t) × (rest level t left out₀ (place₀ .0) k₀ ≡ rest level t left out (place .0) k)
+write-list-Inv-loop level left out₀ t from classes place₀ k₀ out place k = (length out ≡ length out₀) × (place .0 ≤ longest) × (k ≤ length t) × (rest level t left out₀ (place₀ .0) k₀ ≡ rest level t left out (place .0) k)
 
 abbrev write-list-μ-loop : write-list-lts.MeasureT-loop
-write-list-μ-loop level left out₀ at t from classes place₀ k₀ out place k = longest - place .0
+write-list-μ-loop level left out₀ t from classes place₀ k₀ out place k = longest - place .0
 
 -- ---- what is known at the places of a turn
 

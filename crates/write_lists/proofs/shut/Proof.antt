@@ -24,13 +24,13 @@ same-length : tie.Need-same-length
 same-length c = search needs
 
 returns-2 : tie.Need-returns-2
-returns-2 c = shut-late (now (c .before .before .before .before .before .before .before .before .before .args .out)) (c .before .before .before .before .before .before .before .before .before .args .place .0) (c .before .before .before .before .before .before .before .before .before .args .code) _ _ (c .before .before .before .before .before .before .w .given .1) (c .before .before .before .close .ensures) (omega (arith, c .if1 .taken))
+returns-2 c = shut-late (now (c .before .before .before .before .before .before .before .before .before .before .args .out)) (c .before .before .before .before .before .before .before .before .before .before .args .place .0) (c .before .before .before .before .before .before .before .before .before .before .args .code) _ _ (c .before .before .before .before .before .before .before .w .given .1) (c .before .before .before .before .close .ensures) (omega (arith, c .if1 .taken))
 
 same-length-2 : tie.Need-same-length-2
 same-length-2 c = search needs
 
 returns-3 : tie.Need-returns-3
-returns-3 c = shut-done (now (c .before .before .before .before .before .before .before .before .before .args .out)) (c .before .before .before .before .before .before .before .before .before .args .place .0) (c .before .before .before .before .before .before .before .before .before .args .code) _ _ (c .before .before .before .before .before .before .w .given .1) (c .before .before .before .close .ensures) (omega (arith, c .if1 .left))
+returns-3 c = shut-done (now (c .before .before .before .before .before .before .before .before .before .before .args .out)) (c .before .before .before .before .before .before .before .before .before .before .args .place .0) (c .before .before .before .before .before .before .before .before .before .before .args .code) _ _ (c .before .before .before .before .before .before .before .w .given .1) (c .before .before .before .before .close .ensures) (omega (arith, c .if1 .left))
 
 pub shut-spec : {M : Type 1} → statement M
 shut-spec =
