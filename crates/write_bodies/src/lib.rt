@@ -21,8 +21,8 @@ pub fn write_front(code: u32, values: &[u64], out: &mut [u8], at: BytePlace) -> 
         return Body::No;
     }
     let place = bits::first_bit(at);
-    let s = Sink { place, part: 0 };
-    let r = write_fixed::write_fixed(code, out, s, values, 0);
+    let sink = Sink { place, part: 0 };
+    let r = write_fixed::write_fixed(code, out, sink, values, 0);
     spelling::conclude(r, values.len(), out)
 }
 

@@ -36,11 +36,11 @@ returns-2 c = let a = c .before .before .before .before .before .before .before 
 conclude-requires : tie.Need-conclude-requires
 conclude-requires c κs = let a = c .before .before .before .before .before .before .before .before .before .before .before .before .before .before .args in block-fine (rowsFrom (a .rows .start) (a .rows .end)) (now (a .values)) (c .before .before .before .before .before .before .before .before .before .before .before .before .before .before .pre .1) (now (a .out)) (a .at .0) (c .before .before .before .before .before .before .write-contents .last .1 .1 .0) (c .before .before .before .before .before .before .write-contents .result) (c .before .before .before .before .before .before .before .before .first-bit .ensures) (c .before .before .before .before .before .before .write-contents .ensures) (c .before .before .r .given .0 .0) (c .before .before .r .given .0 .1 .0) (c .before .before .r .given .0 .1 .1 .0) (c .before .before .r .given .1)
 
-enum-known-c : tie.Need-enum-known-c
-enum-known-c c = search needs
+enum-known-concluded : tie.Need-enum-known-concluded
+enum-known-concluded c = search needs
 
 put-flags-requires : tie.Need-put-flags-requires
-put-flags-requires c κs = let a = c .before .before .before .before .before .before .before .before .before .before .before .before .before .before .before .before .before .before .before .before .before .args in block-room (rowsFrom (a .rows .start) (a .rows .end)) (now (a .values)) (c .before .before .before .before .before .before .before .before .before .before .before .before .before .before .before .before .before .before .before .before .before .pre .1) (now (a .out)) (a .at .0) (c .before .before .before .before .before .before .before .before .before .before .before .before .before .write-contents .last .1 .1 .0) (c .before .before .before .before .before .before .before .before .before .before .before .before .before .write-contents .result) (c .before .before .before .before .before .before .before .before .before .before .before .before .before .before .before .first-bit .ensures) (c .before .before .before .before .before .before .before .before .before .before .before .before .before .write-contents .ensures) (c .before .before .before .before .before .before .before .before .before .r .given .0 .0) (c .before .before .before .before .before .before .before .before .before .r .given .0 .1 .0) (c .before .before .before .before .before .before .before .before .before .r .given .0 .1 .1 .0) (c .before .before .before .before .before .before .before .before .before .r .given .1) (c .before .before .before .before .before .before .conclude .last .1 .1 .0) (c .before .before .before .before .before .before .conclude .result) (c .before .before .before .before .before .before .conclude .ensures) (c .before .before .c .given .0 .0) (c .before .before .c .given .1)
+put-flags-requires c κs = let a = c .before .before .before .before .before .before .before .before .before .before .before .before .before .before .before .before .before .before .before .before .before .args in block-room (rowsFrom (a .rows .start) (a .rows .end)) (now (a .values)) (c .before .before .before .before .before .before .before .before .before .before .before .before .before .before .before .before .before .before .before .before .before .pre .1) (now (a .out)) (a .at .0) (c .before .before .before .before .before .before .before .before .before .before .before .before .before .write-contents .last .1 .1 .0) (c .before .before .before .before .before .before .before .before .before .before .before .before .before .write-contents .result) (c .before .before .before .before .before .before .before .before .before .before .before .before .before .before .before .first-bit .ensures) (c .before .before .before .before .before .before .before .before .before .before .before .before .before .write-contents .ensures) (c .before .before .before .before .before .before .before .before .before .r .given .0 .0) (c .before .before .before .before .before .before .before .before .before .r .given .0 .1 .0) (c .before .before .before .before .before .before .before .before .before .r .given .0 .1 .1 .0) (c .before .before .before .before .before .before .before .before .before .r .given .1) (c .before .before .before .before .before .before .conclude .last .1 .1 .0) (c .before .before .before .before .before .before .conclude .result) (c .before .before .before .before .before .before .conclude .ensures) (c .before .before .concluded .given .0 .0) (c .before .before .concluded .given .1)
 
 enum-told-2 : tie.Need-enum-told-2
 enum-told-2 c = search needs
@@ -49,7 +49,7 @@ same-length-2 : tie.Need-same-length-2
 same-length-2 c = search needs
 
 returns-3 : tie.Need-returns-3
-returns-3 c = let a = c .before .before .before .before .before .before .before .before .before .before .before .before .before .before .before .before .before .before .before .before .before .before .before .before .args in block-done (rowsFrom (a .rows .start) (a .rows .end)) (now (a .values)) (c .before .before .before .before .before .before .before .before .before .before .before .before .before .before .before .before .before .before .before .before .before .before .before .before .pre .1) (now (a .out)) (a .at .0) (c .before .before .before .before .before .before .before .before .before .before .before .before .before .before .before .before .write-contents .last .1 .1 .0) (c .before .before .before .before .before .before .before .before .before .before .before .before .before .before .before .before .write-contents .result) (c .before .before .before .before .before .before .before .before .before .before .before .before .before .before .before .before .before .before .first-bit .ensures) (c .before .before .before .before .before .before .before .before .before .before .before .before .before .before .before .before .write-contents .ensures) (c .before .before .before .before .before .before .before .before .before .before .before .before .r .given .0 .0) (c .before .before .before .before .before .before .before .before .before .before .before .before .r .given .0 .1 .0) (c .before .before .before .before .before .before .before .before .before .before .before .before .r .given .0 .1 .1 .0) (c .before .before .before .before .before .before .before .before .before .before .before .before .r .given .1) (c .before .before .before .before .before .before .before .before .before .conclude .last .1 .1 .0) (c .before .before .before .before .before .before .before .before .before .conclude .result) (c .before .before .before .before .before .before .before .before .before .conclude .ensures) (c .before .before .before .before .before .c .given .0 .0) (c .before .before .before .before .before .c .given .1) (c .before .before .put-flags .ensures)
+returns-3 c = let a = c .before .before .before .before .before .before .before .before .before .before .before .before .before .before .before .before .before .before .before .before .before .before .before .before .args in block-done (rowsFrom (a .rows .start) (a .rows .end)) (now (a .values)) (c .before .before .before .before .before .before .before .before .before .before .before .before .before .before .before .before .before .before .before .before .before .before .before .before .pre .1) (now (a .out)) (a .at .0) (c .before .before .before .before .before .before .before .before .before .before .before .before .before .before .before .before .write-contents .last .1 .1 .0) (c .before .before .before .before .before .before .before .before .before .before .before .before .before .before .before .before .write-contents .result) (c .before .before .before .before .before .before .before .before .before .before .before .before .before .before .before .before .before .before .first-bit .ensures) (c .before .before .before .before .before .before .before .before .before .before .before .before .before .before .before .before .write-contents .ensures) (c .before .before .before .before .before .before .before .before .before .before .before .before .r .given .0 .0) (c .before .before .before .before .before .before .before .before .before .before .before .before .r .given .0 .1 .0) (c .before .before .before .before .before .before .before .before .before .before .before .before .r .given .0 .1 .1 .0) (c .before .before .before .before .before .before .before .before .before .before .before .before .r .given .1) (c .before .before .before .before .before .before .before .before .before .conclude .last .1 .1 .0) (c .before .before .before .before .before .before .before .before .before .conclude .result) (c .before .before .before .before .before .before .before .before .before .conclude .ensures) (c .before .before .before .before .before .concluded .given .0 .0) (c .before .before .before .before .before .concluded .given .1) (c .before .before .put-flags .ensures)
 
 same-length-3 : tie.Need-same-length-3
 same-length-3 c = search needs
@@ -70,7 +70,7 @@ write-block-spec =
     same-length
     returns-2
     conclude-requires
-    enum-known-c
+    enum-known-concluded
     put-flags-requires
     enum-told-2
     same-length-2
