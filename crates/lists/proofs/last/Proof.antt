@@ -6,19 +6,15 @@ use Rattle.lists.proofs.last.Reads as reads
 use Rattle.lists.proofs.last.Lts as lts
 use Rattle.lists.proofs.blame.Reads as blame-reads
 
--- src/lib.rt:55:38
 add-blame : tie.Need-add-blame
 add-blame c = search needs
 
--- src/lib.rt:55:27
 blame-requires : tie.Need-blame-requires
 blame-requires c κs = search needs
 
--- src/lib.rt:48:1
 returns : tie.Need-returns
 returns c = let a = c .before .args in last-whole (a .own) (a .a) (a .stop) (a .room) (a .k) (a .m) (c .if1 .taken)
 
--- src/lib.rt:48:1
 returns-2 : tie.Need-returns-2
 returns-2 c = let a = c .before .before .args in last-more (a .own) (a .a) (a .stop) (a .room) (a .k) (a .m) (c .before .if1 .left) (c .blame .ensures)
 

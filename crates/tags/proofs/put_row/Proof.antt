@@ -6,23 +6,18 @@ use Rattle.tags.proofs.put_row.Tie as tie
 use Rattle.tags.proofs.put_row.Reads as reads
 use Rattle.tags.proofs.put_row.Lts as lts
 
--- src/lib.rt:104:9
 mul-g : tie.Need-mul-g
 mul-g c = search needs
 
--- src/lib.rt:104:9
 slice-write-g : tie.Need-slice-write-g
 slice-write-g c = search needs
 
--- src/lib.rt:100:1
 same-length : tie.Need-same-length
 same-length c = search needs
 
--- src/lib.rt:100:1
 returns : tie.Need-returns
 returns c = search needs
 
--- src/lib.rt:100:1
 returns-2 : tie.Need-returns-2
 returns-2 c = sym (set-out _ _ _ (c .if1 .left))
 

@@ -15,52 +15,40 @@ use Rattle.tags.proofs.read_front.Lts as lts
 use Rattle.bits.proofs.align.Reads as align-reads
 use Rattle.fixed.proofs.read_fixed.Reads as read-fixed-reads
 
--- src/lib.rt:39:9
 read-fixed-requires : tie.Need-read-fixed-requires
 read-fixed-requires c κs = search needs
 
--- src/lib.rt:40:19
 enum-known-r : tie.Need-enum-known-r
 enum-known-r c = search needs
 
--- src/lib.rt:41:9
 enum-told : tie.Need-enum-told
 enum-told c = search needs
 
--- src/lib.rt:41:9
 same-length : tie.Need-same-length
 same-length c = search needs
 
--- src/lib.rt:41:9
 returns : tie.Need-returns
 returns c = let a = c .before .before .before .before .before .before .before .before .args in run-stop (now (a .body)) (now (a .t)) (a .k) (fixedOf (a .code)) 0 (c .before .before .before .before .read-fixed .ensures) (λ xs. aligned) (c .enum-told .given .1)
 
--- src/lib.rt:43:9
 align-requires : tie.Need-align-requires
 align-requires c κs = let a = c .before .before .before .before .before .before .before .before .before .args in run-fits (now (a .body)) (now (a .t)) (a .k) (fixedOf (a .code)) 0 (c .before .before .before .before .before .read-fixed .ensures) (c .before .r .given .1) (fair-fixed (a .code)) ((omega arith, c .before .before .before .before .before .before .before .before .before .pre .0), omega (arith, c .before .before .before .before .before .before .before .before .before .pre .1)) .0
 
--- src/lib.rt:44:27
 enum-known-a : tie.Need-enum-known-a
 enum-known-a c = search needs
 
--- src/lib.rt:45:9
 enum-told-2 : tie.Need-enum-told-2
 enum-told-2 c = search needs
 
--- src/lib.rt:45:9
 same-length-2 : tie.Need-same-length-2
 same-length-2 c = search needs
 
--- src/lib.rt:45:9
 returns-2 : tie.Need-returns-2
 returns-2 c = let a = c .before .before .before .before .before .before .before .before .before .before .before .before .args in run-done (now (a .body)) (now (a .t)) (a .k) (fixedOf (a .code)) 0 (c .before .before .before .before .before .before .before .before .read-fixed .ensures) (λ xs. aligned) (c .before .before .before .before .r .given .1)
     (one-stopped _ _ (align-never (now (a .body)) _ (sym (c .before .before .align .ensures) ∙ c .enum-told2 .given .1)))
 
--- src/lib.rt:35:1
 same-length-3 : tie.Need-same-length-3
 same-length-3 c = search needs
 
--- src/lib.rt:35:1
 returns-3 : tie.Need-returns-3
 returns-3 c = let a = c .before .before .before .before .before .before .before .before .before .before .before .before .before .args in run-done (now (a .body)) (now (a .t)) (a .k) (fixedOf (a .code)) 0 (c .before .before .before .before .before .before .before .before .before .read-fixed .ensures) (λ xs. aligned) (c .before .before .before .before .before .r .given .1)
     (none-left _ _ (align-none (now (a .body)) _ (sym (c .before .before .before .align .ensures) ∙ c .before .a .given .1)))
