@@ -19,7 +19,7 @@ enum-known-r c = search needs
 add-t8 : tie.Need-add-t8
 add-t8 c =
     let a = c .before .before .before .before .before .args in
-    let g = ub-got (now (a .s)) (a .at .0) 5 (ap numOf (sym (c .before .r .given .1)) ∙ c .before .before .before .read-ub .ensures) in
+    let g = ub-got (now (a .bytes)) (a .at .0) 5 (ap numOf (sym (c .before .r .given .1)) ∙ c .before .before .before .read-ub .ensures) in
     omega arith
 
 enum-known-r-2 : tie.Need-enum-known-r-2
