@@ -28,7 +28,7 @@ cast-result : tie.Need-cast-result
 cast-result c = search needs
 
 returns : tie.Need-returns
-returns c = let a = c .before .before .before .args in (code-of (now (a .s)) (a .i) _ _ _ refl (c .before .byte-at .ensures .0) (c .byte-at2 .ensures .0) refl, omega (arith, c .before .byte-at .ensures .1, c .byte-at2 .ensures .1))
+returns c = let a = c .before .before .before .args in (code-of (now (a .room)) (a .at .0) _ _ _ refl (c .before .byte-at .ensures .0) (c .byte-at2 .ensures .0) refl, omega (arith, c .before .byte-at .ensures .1, c .byte-at2 .ensures .1))
 
 pub code-at-spec : {M : Type 1} → statement M
 code-at-spec =
