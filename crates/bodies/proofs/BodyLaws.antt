@@ -52,11 +52,12 @@ module _ (b t : List ℕ) (k : ℕ) (y : Body) {u : List ℕ} {j : ℕ} where
         rw (z, a, append-nil) (state-eq (ap (λ (s : State). s .table) h) (ap (λ (s : State). s .count) h) refl)
 
     module _ {n : ℕ} (a : readAlign high b q ≡ shows [] n) where
-      pub body-whole : n ≡ 8 * length b → state u j (At n) ≡ shownOver t k (readBody high y b)
+      -- at the byte i, which is the body's end
+      pub body-whole : {i : ℕ} → n ≡ 8 * i → i ≡ length b → state u j (At (8 * i)) ≡ shownOver t k (readBody high y b)
       unfolding shownOver readBody
-      body-whole e =
+      body-whole {i} d e =
           let z : readPart high b y 0 .ended ≡ At q = ap (λ (s : State). s .ended) (sym h) in
-          rw (z, a, append-nil, eq-eqb n (8 * length b) e) (state-eq (ap (λ (s : State). s .table) h) (ap (λ (s : State). s .count) h) refl)
+          rw (z, a, append-nil, eq-eqb n (8 * length b) (omega arith)) (state-eq (ap (λ (s : State). s .table) h) (ap (λ (s : State). s .count) h) (ap At (sym d)))
 
       pub body-left : (n ≡ 8 * length b → ⊥) → state u j (Fault 18) ≡ shownOver t k (readBody high y b)
       unfolding shownOver readBody
