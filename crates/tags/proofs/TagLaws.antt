@@ -2,13 +2,22 @@
 use Prim.Native.Nat.{ℕ, suc, _+_, _-_, _*_, _≤_, min}
 use mathlib.Core.List.{List, [], _∷_}
 use mathlib.Core.Path.{_≡_, refl, ap, sym, _∙_}
+use mathlib.Core.Bool.{Bool, true, false}
 use native.Mathlib.Omega.{arith}
 use lib.ListN.{length, set, length-set}
 use lib.Seq.{sets, length-sets}
+use lib.Dec.{eqb}
+use borrow.Author.Tests.{eqb-true}
 use Rattle.format.specs.Bits.{high}
-use Rattle.format.specs.Reading.{At, Reading, shows}
+use Rattle.format.specs.Tests.{pick}
+use Rattle.format.specs.Reading.{Ending, At, Fault, Reading, shows}
 use Rattle.format.specs.Items.{run}
-use Rattle.format.specs.Bodies.{aligned}
+use Rattle.format.specs.Bodies.{aligned, Body, toEnd, usedUp, readBody}
+use Rattle.format.specs.FileAndTags.{front}
+use Rattle.format.proofs.WalkLaws.{run-le}
+use Rattle.format.proofs.Absurd.{clash}
+use Rattle.fixed.specs.Fixed.{fixedOf}
+use Rattle.bodies.specs.Leaf.{leafBody}
 use Rattle.table.specs.State.{State, shownOver}
 use Rattle.bits.specs.Places.{alignedAt}
 use Rattle.bits.specs.declared.BitPlace.{BitPlace}
@@ -23,6 +32,7 @@ use Rattle.table.proofs.RunLaws.{align-none}
 use Rattle.bodies.specs.Shown.{shownIndex, shownLeaves}
 use Rattle.bodies.specs.declared.Shown.{Shown}
 use Rattle.classes.specs.declared.Class.{Class}
+use Rattle.classes.specs.declared.Class.the-variants.{Opaque, End, Container, Fixed, Attributes}
 use Rattle.tags.specs.Shown.{valuesOf, headed}
 
 -- ---- bytes, one by one: all are stored, or there is no more room
@@ -41,6 +51,26 @@ list-starts body t k p e = none-left t k (align-none body p e ∙ ap (shows []) 
 -- ---- the class that a `match` tells
 pub values-of : (body t : List ℕ) (k code : ℕ) {class : Class} {x : State} (told : Class) → class ≡ told → x ≡ shownOver t k (valuesOf told code body) → x ≡ shownOver t k (valuesOf class code body)
 values-of body t k code told e f = f ∙ ap (λ (z : Class). shownOver t k (valuesOf z code body)) (sym e)
+
+-- ---- values end in the body
+body-le : (y : Body) (b : List ℕ) (p : ℕ) → readBody high y b .ended ≡ At p → p ≤ 8 * length b
+unfolding readBody
+body-le y b p = go (toEnd high b y .shown) (toEnd high b y .ended)
+  where
+    test : (q : ℕ) (c : Bool) → eqb q (8 * length b) ≡ c → pick c (At q) (Fault 18) ≡ At p → p ≤ 8 * length b
+    test q true e h = let z : q ≡ p = cc in omega (arith, eqb-true q (8 * length b) e)
+    test q false e h = clash cc
+
+    go : (xs : List ℕ) (z : Ending) → usedUp (8 * length b) xs z .ended ≡ At p → p ≤ 8 * length b
+    go xs (At q) h = test q (eqb q (8 * length b)) refl h
+    go xs (Fault e) h = clash cc
+
+pub values-le : (class : Class) (code : ℕ) (body : List ℕ) (p : ℕ) → valuesOf class code body .ended ≡ At p → p ≤ 8 * length body
+values-le Opaque code body p e = let z : 0 ≡ p = cc in omega arith
+values-le End code body p e = let z : 0 ≡ p = cc in omega arith
+values-le Container code body p e = run-le high body (front (fixedOf code)) 0 p (omega arith) e .1
+values-le Fixed code body p e = body-le (leafBody code) body p e
+values-le Attributes code body p e = body-le (leafBody code) body p e
 
 -- ---- an index never falls
 pub index-le : (t : List ℕ) (k : ℕ) (r : Reading) {u : List ℕ} (R : Shown) → shownLeaves u R ≡ shownOver t k r → k ≤ shownIndex R
