@@ -9,7 +9,7 @@ use borrow.Author.Tests.{ltb-true, ltb-false, leb-true, eqb-true, lt-ltb, le-ltb
 use native.Mathlib.Omega.{arith}
 use Rattle.format.specs.Tests.{pick, _and_}
 use Rattle.format.specs.Bits.{AllBytes, Order}
-use Rattle.format.specs.FileAndTags.{classOf, Outcome, whole, fault, le32, file, walkList}
+use Rattle.format.specs.FileAndTags.{signatureRight, classOf, Outcome, whole, fault, le32, file, walkList}
 use Rattle.format.specs.TableOfNumbers.{numbers, table}
 use Rattle.format.specs.Reasons.{startFault, walkFile, gives, refuses, result, readFile}
 use Rattle.format.specs.Possible.{Possible, this, cannot}
@@ -32,17 +32,27 @@ split9 P k (a ∷ b ∷ c ∷ d ∷ e ∷ f ∷ g ∷ h₁ ∷ i ∷ r) h = k a 
 record Start (level : ℕ) (f : List ℕ) : Type 0 where
   low : level ≤ 1023
   long : 9 ≤ length f
-  signed : getD f 0 0 + 256 * getD f 1 0 + 65536 * getD f 2 0 ≡ 4669776
+  signed : (getD f 0 0 ≡ 0x50) × (getD f 1 0 ≡ 0x41) × (getD f 2 0 ≡ 0x47)
   version : getD f 3 0 ≡ 1
   lengths : le32 (drop 4 f) ≡ length f
   small : length f ≤ 16777216
 
+signed-so : (f : List ℕ) → signatureRight f ≡ true → (getD f 0 0 ≡ 0x50) × (getD f 1 0 ≡ 0x41) × (getD f 2 0 ≡ 0x47)
+signed-so f = go (eqb (getD f 0 0) 0x50) refl (eqb (getD f 1 0) 0x41) refl (eqb (getD f 2 0) 0x47) refl
+  where
+    go : (a : Bool) → eqb (getD f 0 0) 0x50 ≡ a → (b : Bool) → eqb (getD f 1 0) 0x41 ≡ b → (c : Bool) → eqb (getD f 2 0) 0x47 ≡ c → (a and b and c) ≡ true
+        → (getD f 0 0 ≡ 0x50) × (getD f 1 0 ≡ 0x41) × (getD f 2 0 ≡ 0x47)
+    go true p true q true r h = (eqb-true _ 0x50 p, eqb-true _ 0x41 q, eqb-true _ 0x47 r)
+    go true p true q false r h = clash cc
+    go true p false q c r h = clash cc
+    go false p b q c r h = clash cc
+
 good-start : (level : ℕ) (f : List ℕ) → startFault level f ≡ 0 → Start level f
 unfolding startFault
-good-start level f h = go (ltb 1023 level) refl (ltb (length f) 9) refl (eqb (getD f 0 0 + 256 * getD f 1 0 + 65536 * getD f 2 0) 4669776) refl
+good-start level f h = go (ltb 1023 level) refl (ltb (length f) 9) refl (signatureRight f) refl
     (eqb (getD f 3 0) 1) refl (eqb (le32 (drop 4 f)) (length f)) refl (leb (length f) 16777216) refl h
   where
-    go : (a : Bool) → ltb 1023 level ≡ a → (b : Bool) → ltb (length f) 9 ≡ b → (c : Bool) → eqb (getD f 0 0 + 256 * getD f 1 0 + 65536 * getD f 2 0) 4669776 ≡ c
+    go : (a : Bool) → ltb 1023 level ≡ a → (b : Bool) → ltb (length f) 9 ≡ b → (c : Bool) → signatureRight f ≡ c
         → (d : Bool) → eqb (getD f 3 0) 1 ≡ d → (e : Bool) → eqb (le32 (drop 4 f)) (length f) ≡ e → (g : Bool) → leb (length f) 16777216 ≡ g
         → _≡_ {A = ℕ} (pick a 1 (pick b 2 (pick c (pick d (pick (e and g) 0 5) 4) 3))) 0 → Start level f
     go true p b q c r d s e t g u h = absurd (omega arith)
@@ -54,7 +64,7 @@ good-start level f h = go (ltb 1023 level) refl (ltb (length f) 9) refl (eqb (ge
     go false p false q true r true s true t true u h = record {
       low = omega (arith, ltb-false 1023 level p);
       long = ltb-false (length f) 9 q;
-      signed = eqb-true _ 4669776 r;
+      signed = signed-so f r;
       version = eqb-true _ 1 s;
       lengths = eqb-true _ _ t;
       small = leb-true _ _ u;
@@ -66,7 +76,9 @@ start-good level f s =
     rw (
       le-ltb 1023 level (omega (arith, s .low)),
       le-ltb (length f) 9 (s .long),
-      eq-eqb (getD f 0 0 + 256 * getD f 1 0 + 65536 * getD f 2 0) 4669776 (s .signed),
+      eq-eqb (getD f 0 0) 0x50 (s .signed .0),
+      eq-eqb (getD f 1 0) 0x41 (s .signed .1),
+      eq-eqb (getD f 2 0) 0x47 (s .signed .2),
       eq-eqb (getD f 3 0) 1 (s .version),
       eq-eqb (le32 (drop 4 f)) (length f) (s .lengths),
       le-leb (length f) 16777216 (s .small),
@@ -81,14 +93,6 @@ spell-there a b c d l ha hb hc hd e =
     let l2 : l / 65536 % 256 ≡ c = rw m2 (omega arith) in
     let l3 : l / 16777216 ≡ d = omega arith in
     rw (l0, l1, l2, l3)
-
-sign-there : (a b c : ℕ) → a < 256 → b < 256 → c < 256 → a + 256 * b + 65536 * c ≡ 4669776 → (0x50 ≡ a) × (0x41 ≡ b) × (0x47 ≡ c)
-sign-there a b c ha hb hc e =
-    let m0 : (a + 256 * b + 65536 * c) % 256 ≡ a = omega arith in
-    let m2 : (a + 256 * b + 65536 * c) / 65536 ≡ c = omega arith in
-    let x : 0x50 ≡ a = rw e at m0 in
-    let z : 0x47 ≡ c = rw e at m2 in
-    (x, omega arith, z)
 
 spell-back : (l : ℕ) → l < 2 ^ 32 → le32 (spell32 l) ≡ l
 spell-back l h = omega arith
@@ -115,10 +119,8 @@ module _ (o : Order) (level : ℕ) where
           let n : 9 + length r ≡ suc (suc (suc (suc (suc (suc (suc (suc (suc (length r))))))))) = omega arith in
           let p : spell32 (9 + length r) ≡ e ∷ f ∷ g ∷ h ∷ [] = spell-there e f g h (9 + length r) (bs .1 .1 .1 .1 .0) (bs .1 .1 .1 .1 .1 .0) (bs .1 .1 .1 .1 .1 .1 .0) (bs .1 .1 .1 .1 .1 .1 .1 .0) (s .lengths ∙ sym n) in
           let q : unwalkList o (classOf level) 8 xs ≡ this (made xs r []) = rw append-nil at (u []) in
-          let sg : (0x50 ≡ a) × (0x41 ≡ b) × (0x47 ≡ c) = sign-there a b c (bs .0) (bs .1 .0) (bs .1 .1 .0) (s .signed) in
-          let ed : 1 ≡ d = sym (s .version) in
           rw (le-ltb 1023 level (omega (arith, s .low)), lt-ltb i 256 (bs .1 .1 .1 .1 .1 .1 .1 .1 .0), q, le-leb (9 + length r) 16777216 (omega (arith, s .small)))
-          (ap (λ (k : List ℕ). this (0x50 ∷ 0x41 ∷ 0x47 ∷ 1 ∷ (k ++ i ∷ r))) p ∙ cc (sg .0, sg .1, sg .2, ed))
+          (ap (λ (k : List ℕ). this (0x50 ∷ 0x41 ∷ 0x47 ∷ 1 ∷ (k ++ i ∷ r))) p ∙ cc (s .signed .0, s .signed .1, s .signed .2, s .version))
 
   walk-there : (f : List ℕ) → AllBytes f → FileIf f (walkFile o level f .ended) (table f (walkFile o level f))
   unfolding walkFile
@@ -156,7 +158,7 @@ module _ (o : Order) (level : ℕ) where
       f = 0x50 ∷ 0x41 ∷ 0x47 ∷ 1 ∷ (spell32 (9 + length r) ++ comp ∷ r)
 
       start : 9 + length r ≤ 16777216 → Start level f
-      start s = record { low = l; long = omega arith; signed = refl; version = refl; lengths = spell-back (9 + length r) (omega arith) ∙ omega arith; small = omega arith }
+      start s = record { low = l; long = omega arith; signed = (refl, refl, refl); version = refl; lengths = spell-back (9 + length r) (omega arith) ∙ omega arith; small = omega arith }
 
       go : (c : Bool) → leb (9 + length r) 16777216 ≡ c → TableIf (comp ∷ ns) (pick (leb (9 + length r) 16777216) (this f) cannot)
       go false e = rw e tt

@@ -9,7 +9,7 @@ use Rattle.format.specs.Tests.{pick, _and_}
 use Rattle.format.specs.Bits.{Order}
 use Rattle.format.specs.Reading.{Ending, At, Fault}
 use Rattle.format.specs.Formats.{Format, _▸_}
-use Rattle.format.specs.Items.{u32, byte, run}
+use Rattle.format.specs.Items.{u32, byte, run, toByte}
 use Rattle.format.specs.Bodies.{fontTables, compositionAttributes, solidColor, imageReference, compositionReference, layerAttributes, textPathOption, maskBlock, aligned, Body, fixed, attributes, readBody}
 
 -- ---- Header, 9 bytes: "PAG", version byte (1), length of the whole file as a little-endian 32-bit number, compression byte (reserved: any
@@ -23,7 +23,7 @@ abbrev pub le32 : List ℕ → ℕ
 le32 r = le16 r + 65536 * (getD r 2 0 + 256 * getD r 3 0)
 
 abbrev pub signatureRight : List ℕ → Bool
-signatureRight f = eqb (getD f 0 0 + 256 * getD f 1 0 + 65536 * getD f 2 0) (0x50 + 256 * 0x41 + 65536 * 0x47)
+signatureRight f = eqb (getD f 0 0) 0x50 and eqb (getD f 1 0) 0x41 and eqb (getD f 2 0) 0x47
 
 abbrev pub versionRight : List ℕ → Bool
 versionRight f = eqb (getD f 3 0) 1
@@ -189,7 +189,7 @@ front f = f ▸ aligned
 
 -- the container at place a, whose own numbers are xs; its list, read by R, has the rest of the body, which stands at s
 abbrev pub opened : (Owner → ℕ → List ℕ → Walk) → ℕ → ℕ → List ℕ → List ℕ → Ending → TagInside
-opened R a s body xs (At p) = record { state = 1; values = xs; walk = R (inside a) (s + p / 8) (drop (p / 8) body) }
+opened R a s body xs (At p) = record { state = 1; values = xs; walk = R (inside a) (s + toByte p) (drop (toByte p) body) }
 opened R a s body xs (Fault e) = record { state = 1; values = xs; walk = broken e a }
 
 -- by class: the tag at place a, with its body at s
