@@ -23,7 +23,7 @@ abbrev pub le32 : List ℕ → ℕ
 le32 r = le16 r + 65536 * (getD r 2 0 + 256 * getD r 3 0)
 
 abbrev pub signatureRight : List ℕ → Bool
-signatureRight f = eqb (getD f 0 0 + 256 * getD f 1 0 + 65536 * getD f 2 0) (0x50 + 256 * 0x41 + 65536 * 0x47)
+signatureRight f = eqb (getD f 0 0) 0x50 and eqb (getD f 1 0) 0x41 and eqb (getD f 2 0) 0x47
 
 abbrev pub versionRight : List ℕ → Bool
 versionRight f = eqb (getD f 3 0) 1

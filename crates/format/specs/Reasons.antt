@@ -94,9 +94,14 @@ into m (refuses e n) = refusesWith m e n
 
 -- ---- The writer tries 1, 20, 21; the whole lent table slice is the table.
 
+-- a file is a list of bytes. Every `&[u8]` is one: its elements are bytes by their type. (A list in a contract has numbers of any size, and the
+-- logic gives their bound where the code looks at an element, so the theorems that speak of lists say it.)
+abbrev pub IsFile : List ℕ → Type 0
+IsFile f = AllBytes f
+
 -- f is a file that this level reads as exactly the table t
 pub record FileOf (o : Order) (level : ℕ) (t f : List ℕ) : Type 0 where
-  pub bytes : AllBytes f
+  pub bytes : IsFile f
   pub reads : readFile o level f ≡ gives t
 
 -- what `write` may leave, by the reader's definition alone: for the table t and the lent output m
