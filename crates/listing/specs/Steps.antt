@@ -110,5 +110,5 @@ state b k c = record { lent = b; used = k; to = c }
 abbrev pub partLeaves : List ℕ → Part → State
 partLeaves b p = state b (p .used) (p .to)
 
-unfoldable pub after : List ℕ → ℕ → Step → State
-after b k s = state (sets b k (s .text)) (k + length (s .text)) (s .to)
+unfoldable pub textOver : List ℕ → ℕ → Step → State
+textOver b k s = state (sets b k (s .text)) (k + length (s .text)) (s .to)
