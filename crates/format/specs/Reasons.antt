@@ -94,8 +94,8 @@ into m (refuses e n) = refusesWith m e n
 
 -- ---- The writer tries 1, 20, 21; the whole lent table slice is the table.
 
--- a file is a list of bytes. Every `&[u8]` is one: its elements are bytes by their type. (A list in a contract has numbers of any size, and the
--- logic gives their bound where the code looks at an element, so the theorems that speak of lists say it.)
+-- a file is a list of bytes. Every `&[u8]` is one, as `is_file` of crate answers shows: in a contract its list is one of numbers, and that they are
+-- below 256 is known where code looks at one of them
 abbrev pub IsFile : List ℕ → Type 0
 IsFile f = AllBytes f
 
