@@ -14,12 +14,12 @@ use Rattle.format.proofs.CallLaws.{Filled, filled, Why, faulty, full, kept}
 use Rattle.format.proofs.Absurd.{clash}
 use Rattle.listing.specs.declared.Part.{Part}
 use Rattle.listing.specs.Listing.{listing, refusal, tooLong, answered, printed}
-use Rattle.listing.specs.Steps.{Laid, laid, State, partLeaves, tableListing}
+use Rattle.listing.specs.Steps.{Laid, laid, AfterPart, partLeaves, tableListing}
 use Rattle.listing.proofs.Listed.{listed}
 
 -- ---- no second answer fits
-pub left-one : (b c : List ℕ) (p q : Part) → partLeaves b p ≡ partLeaves c q → (b ≡ c) × (p ≡ q)
-left-one b c p q e = (ap (λ (s : State). s .lent) e, λ i. record { used = e i .used; to = e i .to })
+pub part-one : (b c : List ℕ) (p q : Part) → partLeaves b p ≡ partLeaves c q → (b ≡ c) × (p ≡ q)
+part-one b c p q e = (ap (λ (s : AfterPart). s .lent) e, λ i. record { used = e i .used; to = e i .to })
 
 pub laid-one : (b c : List ℕ) (j k : ℕ) → laid b j ≡ laid c k → (b ≡ c) × (j ≡ k)
 laid-one b c j k e = (ap (λ (s : Laid). s .lent) e, ap (λ (s : Laid). s .next) e)

@@ -35,12 +35,12 @@ pub fn read_input(fd: i32, file: &mut [u8]) -> Input
 {
     let mut count = 0;
     while count < file.len() {
-        let more = read_more(fd, file, count);
-        let Input::Bytes(total) = more else {
-            return more;
+        let input = read_more(fd, file, count);
+        let Input::Bytes(total) = input else {
+            return input;
         };
         if total <= count {
-            return more;
+            return input;
         }
         count = total;
     }

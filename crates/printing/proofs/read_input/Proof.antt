@@ -23,8 +23,8 @@ loop-holds c = (refl, omega arith)
 read-more-requires : tie.Need-read-more-requires Inv-loop μ-loop
 read-more-requires c κs = omega (arith, c .before .before .loop .inv)
 
-enum-known-more : tie.Need-enum-known-more Inv-loop μ-loop
-enum-known-more c = search needs
+enum-known-input : tie.Need-enum-known-input Inv-loop μ-loop
+enum-known-input c = search needs
 
 enum-told : tie.Need-enum-told Inv-loop μ-loop
 enum-told c = search needs
@@ -39,13 +39,13 @@ same-length-2 : tie.Need-same-length-2 Inv-loop μ-loop
 same-length-2 c = c .before .before .before .before .before .before .read-more .kept .1 .0 ∙ c .before .before .before .before .before .before .before .before .before .loop .inv .0
 
 returns-2 : tie.Need-returns-2 Inv-loop μ-loop
-returns-2 c = omega (arith, within-bytes (length (c .before .before .before .before .before .before .before .before .before .loop .file)) (c .before .before .before .before .before .before .read-more .ensures) (c .before .before .more .given .1), c .before .before .before .before .before .before .before .before .before .loop .inv)
+returns-2 c = omega (arith, within-bytes (length (c .before .before .before .before .before .before .before .before .before .loop .file)) (c .before .before .before .before .before .before .read-more .ensures) (c .before .before .input .given .1), c .before .before .before .before .before .before .before .before .before .loop .inv)
 
 loop-less : tie.Need-loop-less Inv-loop μ-loop
 loop-less c = omega (arith, c .before .before .before .before .before .before .before .before .before .loop .inv, leb-false, c .if1 .left, c .before .before .before .before .before .before .before .before .loop-test .taken)
 
 loop-again : tie.Need-loop-again Inv-loop μ-loop
-loop-again c = (c .before .before .before .before .before .before .read-more .kept .1 .0 ∙ c .before .before .before .before .before .before .before .before .before .loop .inv .0, omega (arith, within-bytes (length (c .before .before .before .before .before .before .before .before .before .loop .file)) (c .before .before .before .before .before .before .read-more .ensures) (c .before .before .more .given .1), c .before .before .before .before .before .before .before .before .before .loop .inv))
+loop-again c = (c .before .before .before .before .before .before .read-more .kept .1 .0 ∙ c .before .before .before .before .before .before .before .before .before .loop .inv .0, omega (arith, within-bytes (length (c .before .before .before .before .before .before .before .before .before .loop .file)) (c .before .before .before .before .before .before .read-more .ensures) (c .before .before .input .given .1), c .before .before .before .before .before .before .before .before .before .loop .inv))
 
 same-length-3 : tie.Need-same-length-3 Inv-loop μ-loop
 same-length-3 c = c .before .loop .inv .0
@@ -61,7 +61,7 @@ read-input-spec =
     μ-loop
     loop-holds
     read-more-requires
-    enum-known-more
+    enum-known-input
     enum-told
     same-length
     returns
