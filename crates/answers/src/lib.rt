@@ -6,7 +6,8 @@ pub enum Answer {
     Refused(u32, u64),
 }
 
-// Every slice of bytes is a file: what the theorems of `write` after `read` suppose of the list of a `&[u8]`. Nothing has to be done for it.
+// Every slice of bytes is a file: what the theorems of `write` after `read` suppose of the list of a `&[u8]`. That its numbers are below 256 is
+// known where code looks at one of them, so this looks at the first.
 pub fn is_file(bytes: &[u8])
     ensures { λ _. ⌜ IsFile (now (bytes .entry)) ⌝ }
 {
