@@ -7,14 +7,14 @@ use native.Mathlib.Nat.{zero-add}
 use native.Mathlib.Omega.{arith}
 use lib.ListN.{length, getD, drop, set, length-set}
 use lib.Seq.{sets, sets-eq, length-sets}
-use lib.Dec.{ltb, leb, eqb}
-use borrow.Author.Tests.{lt-ltb, le-ltb, lt-leb, le-leb, leb-true, eq-eqb, ne-eqb, eqb-true}
+use lib.Dec.{leb, eqb}
+use borrow.Author.Tests.{lt-ltb, le-ltb, lt-leb, le-leb, eq-eqb, ne-eqb}
 use Rattle.format.specs.Tests.{pick, _and_}
 use Rattle.format.specs.Bits.{high}
-use Rattle.format.specs.FileAndTags.{le32, signatureRight, versionRight, classOf, Outcome, whole, fault, Walk, broken, file, walkList}
+use Rattle.format.specs.FileAndTags.{le32, signatureRight, classOf, Outcome, whole, fault, Walk, file, walkList}
 use Rattle.format.specs.TableOfNumbers.{numbers, table, tagTable}
 use Rattle.format.specs.Reasons.{startFault, walkFile, gives, refuses, result, readFile, readTags, into}
-use Rattle.format.proofs.LevelLaws.{long-file}
+use Rattle.format.proofs.StartLaws.{signature-is, is-signature, good-start, whole-start}
 use Rattle.format.proofs.Absurd.{clash}
 use Rattle.answers.specs.Answers.{leaves}
 use Rattle.answers.specs.declared.Answer.the-variants.{Accepted, Refused}
@@ -40,20 +40,31 @@ module _ (level : ℕ) (f : List ℕ) where
     start-2 h = rw (le-ltb 1023 level known, lt-ltb (length f) 9 h)
 
     -- the numbers that the code looks at
-    module _ (long : 9 ≤ length f) {a b c : ℕ} (a-is : a ≡ getD f 0 0) (b-is : b ≡ getD f 1 0) (c-is : c ≡ getD f 2 0) where
+    module _ (long : 9 ≤ length f) {a b c : ℕ} (a-is : (a ≡ getD f 0 0) × (a < 256)) (b-is : (b ≡ getD f 1 0) × (b < 256)) (c-is : (c ≡ getD f 2 0) × (c < 256)) where
+      -- the code looks at the three bytes of the signature as one number
+      unsigned : (a + 256 * b + 65536 * c ≡ 0x474150 → ⊥) → signatureRight f ≡ false
+      unsigned h = go (signatureRight f) refl
+        where
+          go : (t : Bool) → signatureRight f ≡ t → t ≡ false
+          go false e = refl
+          go true e = let s = signature-is f e in absurd (h (omega (arith, s .0, s .1, s .2, a-is .0, b-is .0, c-is .0)))
+
+      is-signed : a + 256 * b + 65536 * c ≡ 0x474150 → signatureRight f ≡ true
+      is-signed e = is-signature f (sym (a-is .0) ∙ omega (arith, a-is .1, b-is .1, c-is .1), sym (b-is .0) ∙ omega (arith, a-is .1, b-is .1, c-is .1), sym (c-is .0) ∙ omega (arith, a-is .1, b-is .1, c-is .1))
+
       pub start-3 : (a + 256 * b + 65536 * c ≡ 0x474150 → ⊥) → 3 ≡ startFault level f
       unfolding startFault
-      start-3 h = rw (le-ltb 1023 level known, le-ltb (length f) 9 long, ← a-is, ← b-is, ← c-is, ne-eqb (a + 256 * b + 65536 * c) 0x474150 h)
+      start-3 h = rw (le-ltb 1023 level known, le-ltb (length f) 9 long, unsigned h)
 
       module _ (signed : a + 256 * b + 65536 * c ≡ 0x474150) {v : ℕ} (v-is : v ≡ getD f 3 0) where
         pub start-4 : (v ≡ 1 → ⊥) → 4 ≡ startFault level f
         unfolding startFault
-        start-4 h = rw (le-ltb 1023 level known, le-ltb (length f) 9 long, ← a-is, ← b-is, ← c-is, eq-eqb (a + 256 * b + 65536 * c) 0x474150 signed, ← v-is, ne-eqb v 1 h)
+        start-4 h = rw (le-ltb 1023 level known, le-ltb (length f) 9 long, is-signed signed, ← v-is, ne-eqb v 1 h)
 
         module _ (first : v ≡ 1) {n : ℕ} (n-is : n ≡ le32 (drop 4 f)) where
           start-5-or-0 : pick (eqb n (length f) and leb (length f) 16777216) 0 5 ≡ startFault level f
           unfolding startFault
-          start-5-or-0 = rw (le-ltb 1023 level known, le-ltb (length f) 9 long, ← a-is, ← b-is, ← c-is, eq-eqb (a + 256 * b + 65536 * c) 0x474150 signed, ← v-is, eq-eqb v 1 first, ← n-is)
+          start-5-or-0 = rw (le-ltb 1023 level known, le-ltb (length f) 9 long, is-signed signed, ← v-is, eq-eqb v 1 first, ← n-is)
 
           pub start-5 : (n ≡ length f → ⊥) → 5 ≡ startFault level f
           start-5 h = rw (ne-eqb n (length f) h) at start-5-or-0
@@ -64,19 +75,9 @@ module _ (level : ℕ) (f : List ℕ) where
           pub start-0 : n ≡ length f → length f ≤ 16777216 → 0 ≡ startFault level f
           start-0 e h = rw (eq-eqb n (length f) e, le-leb (length f) 16777216 h) at start-5-or-0
 
-  -- a file that passes them
+  -- a file that passes them: what `read_tags` requires of it
   pub fair-file : startFault level f ≡ 0 → (9 ≤ length f) × (length f ≤ 16777216)
-  unfolding startFault
-  fair-file e = (long-file level f e, short (ltb 1023 level) (ltb (length f) 9) (signatureRight f) (versionRight f) (eqb (le32 (drop 4 f)) (length f)) (leb (length f) 16777216) refl e)
-    where
-      short : (a b c d n m : Bool) → leb (length f) 16777216 ≡ m → _≡_ {A = ℕ} (pick a 1 (pick b 2 (pick c (pick d (pick (n and m) 0 5) 4) 3))) 0 → length f ≤ 16777216
-      short true b c d n m h e = absurd (omega arith)
-      short false true c d n m h e = absurd (omega arith)
-      short false false false d n m h e = absurd (omega arith)
-      short false false true false n m h e = absurd (omega arith)
-      short false false true true false m h e = absurd (omega arith)
-      short false false true true true false h e = absurd (omega arith)
-      short false false true true true true h e = leb-true (length f) 16777216 h
+  fair-file e = let s = good-start level f e in (s .long, s .limit)
 
   walk-is : startFault level f ≡ 0 → walkFile high level f ≡ walkList high (classOf level) 8 file 9 (drop 9 f)
   unfolding walkFile
@@ -116,16 +117,13 @@ module _ (level : ℕ) (f : List ℕ) where
     pub start : startFault level f ≡ 0
 
   pub survey-found : {k m : ℕ} → Next k m ≡ surveyed w → Found k m
-  unfolding walkFile
-  survey-found {k} {m} q = record { ended = go (w .ended) q .0; numbers-are = go (w .ended) q .1; rows-are = go (w .ended) q .2; start = from (eqb (startFault level f) 0) refl q }
+  survey-found {k} {m} q =
+      let u : (w .ended ≡ whole) × (k ≡ length (table f w)) × (m ≡ length (tagTable (w .tags))) = go (w .ended) q in
+      record { ended = u .0; numbers-are = u .1; rows-are = u .2; start = whole-start level f high (u .0) }
     where
       go : (z : Outcome) → Next k m ≡ walkedOf (1 + length (numbers (w .tags))) (length (tagTable (w .tags))) z → (z ≡ whole) × (k ≡ length (table f w)) × (m ≡ length (tagTable (w .tags)))
       go whole q = (refl, (let z : k ≡ 1 + length (numbers (w .tags)) = cc in omega arith), cc)
       go (fault e n) q = clash cc
-
-      from : (c : Bool) → eqb (startFault level f) 0 ≡ c → Next k m ≡ surveyed (pick c (walkList high (classOf level) 8 file 9 (drop 9 f)) (broken (startFault level f) 0)) → startFault level f ≡ 0
-      from true e q = eqb-true (startFault level f) 0 e
-      from false e q = clash cc
 
 -- ---- what a call leaves: the lent memory m, and the numbers ns for it
 module _ (m ns : List ℕ) where

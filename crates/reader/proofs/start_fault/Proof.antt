@@ -37,13 +37,13 @@ add-signature-2 : tie.Need-add-signature-2
 add-signature-2 c = search needs
 
 returns-3 : tie.Need-returns-3
-returns-3 c = let a = c .before .before .before .before .before .before .before .args in start-3 (a .level) (now (a .file)) (omega (arith, c .before .before .before .before .before .if1 .left)) (omega (arith, c .before .before .before .before .if2 .left)) (c .before .before .before .byte-at .ensures .0) (c .before .before .byte-at2 .ensures .0) (c .before .byte-at3 .ensures .0) (c .if3 .taken)
+returns-3 c = let a = c .before .before .before .before .before .before .before .args in start-3 (a .level) (now (a .file)) (omega (arith, c .before .before .before .before .before .if1 .left)) (omega (arith, c .before .before .before .before .if2 .left)) (c .before .before .before .byte-at .ensures) (c .before .before .byte-at2 .ensures) (c .before .byte-at3 .ensures) (c .if3 .taken)
 
 byte-at-requires-4 : tie.Need-byte-at-requires-4
 byte-at-requires-4 c κs = search needs
 
 returns-4 : tie.Need-returns-4
-returns-4 c = let a = c .before .before .before .before .before .before .before .before .before .args in start-4 (a .level) (now (a .file)) (omega (arith, c .before .before .before .before .before .before .before .if1 .left)) (omega (arith, c .before .before .before .before .before .before .if2 .left)) (c .before .before .before .before .before .byte-at .ensures .0) (c .before .before .before .before .byte-at2 .ensures .0) (c .before .before .before .byte-at3 .ensures .0) (c .before .before .if3 .left) (c .before .byte-at4 .ensures .0) (c .if4 .taken)
+returns-4 c = let a = c .before .before .before .before .before .before .before .before .before .args in start-4 (a .level) (now (a .file)) (omega (arith, c .before .before .before .before .before .before .before .if1 .left)) (omega (arith, c .before .before .before .before .before .before .if2 .left)) (c .before .before .before .before .before .byte-at .ensures) (c .before .before .before .before .byte-at2 .ensures) (c .before .before .before .byte-at3 .ensures) (c .before .before .if3 .left) (c .before .byte-at4 .ensures .0) (c .if4 .taken)
 
 le32-at-requires : tie.Need-le32-at-requires
 le32-at-requires c κs = search needs
@@ -52,13 +52,13 @@ cast-if5 : tie.Need-cast-if5
 cast-if5 c = search needs
 
 returns-5 : tie.Need-returns-5
-returns-5 c = let a = c .before .before .before .before .before .before .before .before .before .before .before .args in start-5 (a .level) (now (a .file)) (omega (arith, c .before .before .before .before .before .before .before .before .before .if1 .left)) (omega (arith, c .before .before .before .before .before .before .before .before .if2 .left)) (c .before .before .before .before .before .before .before .byte-at .ensures .0) (c .before .before .before .before .before .before .byte-at2 .ensures .0) (c .before .before .before .before .before .byte-at3 .ensures .0) (c .before .before .before .before .if3 .left) (c .before .before .before .byte-at4 .ensures .0) (c .before .before .if4 .left) (c .before .le32-at .ensures) (c .if5 .taken)
+returns-5 c = let a = c .before .before .before .before .before .before .before .before .before .before .before .args in start-5 (a .level) (now (a .file)) (omega (arith, c .before .before .before .before .before .before .before .before .before .if1 .left)) (omega (arith, c .before .before .before .before .before .before .before .before .if2 .left)) (c .before .before .before .before .before .before .before .byte-at .ensures) (c .before .before .before .before .before .before .byte-at2 .ensures) (c .before .before .before .before .before .byte-at3 .ensures) (c .before .before .before .before .if3 .left) (c .before .before .before .byte-at4 .ensures .0) (c .before .before .if4 .left) (c .before .le32-at .ensures) (c .if5 .taken)
 
 returns-6 : tie.Need-returns-6
-returns-6 c = let a = c .before .before .before .before .before .before .before .before .before .before .before .before .args in start-5-long (a .level) (now (a .file)) (omega (arith, c .before .before .before .before .before .before .before .before .before .before .if1 .left)) (omega (arith, c .before .before .before .before .before .before .before .before .before .if2 .left)) (c .before .before .before .before .before .before .before .before .byte-at .ensures .0) (c .before .before .before .before .before .before .before .byte-at2 .ensures .0) (c .before .before .before .before .before .before .byte-at3 .ensures .0) (c .before .before .before .before .before .if3 .left) (c .before .before .before .before .byte-at4 .ensures .0) (c .before .before .before .if4 .left) (c .before .before .le32-at .ensures) (c .before .if5 .left) (c .if6 .taken)
+returns-6 c = let a = c .before .before .before .before .before .before .before .before .before .before .before .before .args in start-5-long (a .level) (now (a .file)) (omega (arith, c .before .before .before .before .before .before .before .before .before .before .if1 .left)) (omega (arith, c .before .before .before .before .before .before .before .before .before .if2 .left)) (c .before .before .before .before .before .before .before .before .byte-at .ensures) (c .before .before .before .before .before .before .before .byte-at2 .ensures) (c .before .before .before .before .before .before .byte-at3 .ensures) (c .before .before .before .before .before .if3 .left) (c .before .before .before .before .byte-at4 .ensures .0) (c .before .before .before .if4 .left) (c .before .before .le32-at .ensures) (c .before .if5 .left) (c .if6 .taken)
 
 returns-7 : tie.Need-returns-7
-returns-7 c = let a = c .before .before .before .before .before .before .before .before .before .before .before .before .args in start-0 (a .level) (now (a .file)) (omega (arith, c .before .before .before .before .before .before .before .before .before .before .if1 .left)) (omega (arith, c .before .before .before .before .before .before .before .before .before .if2 .left)) (c .before .before .before .before .before .before .before .before .byte-at .ensures .0) (c .before .before .before .before .before .before .before .byte-at2 .ensures .0) (c .before .before .before .before .before .before .byte-at3 .ensures .0) (c .before .before .before .before .before .if3 .left) (c .before .before .before .before .byte-at4 .ensures .0) (c .before .before .before .if4 .left) (c .before .before .le32-at .ensures) (c .before .if5 .left) (c .if6 .left)
+returns-7 c = let a = c .before .before .before .before .before .before .before .before .before .before .before .before .args in start-0 (a .level) (now (a .file)) (omega (arith, c .before .before .before .before .before .before .before .before .before .before .if1 .left)) (omega (arith, c .before .before .before .before .before .before .before .before .before .if2 .left)) (c .before .before .before .before .before .before .before .before .byte-at .ensures) (c .before .before .before .before .before .before .before .byte-at2 .ensures) (c .before .before .before .before .before .before .byte-at3 .ensures) (c .before .before .before .before .before .if3 .left) (c .before .before .before .before .byte-at4 .ensures .0) (c .before .before .before .if4 .left) (c .before .before .le32-at .ensures) (c .before .if5 .left) (c .if6 .left)
 
 pub start-fault-spec : {M : Type 1} → statement M
 start-fault-spec =
