@@ -34,7 +34,8 @@ def contract_after(text, at):
     line_end = text.find('\n', at)
     if text[at:line_end].rstrip().endswith('{') or text[at:line_end].rstrip().endswith('}'):
         return ''
-    return text[line_end:re.compile(r'\n\s*\{[ \t]*\n').search(text, line_end).start()]
+    body = re.compile(r'\n\s*\{[ \t]*\n').search(text, line_end)
+    return text[line_end:body.start() if body else len(text)]
 
 
 def functions(crate):
@@ -43,7 +44,7 @@ def functions(crate):
     for path in sorted(glob.glob('crates/%s/src/*.rt' % crate)):
         text = re.sub(r'//[^\n]*', '', read(path))
         module = os.path.basename(path)[:-3]
-        for m in re.finditer(r'^[ \t]*(pub\s+)?(?:extern\s+"C"\s+)?fn\s+(\w+)[^(]*(?=\()', text, re.M):
+        for m in re.finditer(r'^[ \t]*(?:(pub)\s+|pub\(crate\)\s+)?(?:extern\s+"C"\s+)?fn\s+(\w+)[^(]*(?=\()', text, re.M):
             contract = contract_after(text, m.end())
             found.append(Function(crate, '' if module in ('lib', 'main') else module, m.group(2), bool(m.group(1)), contract))
     return found
