@@ -47,7 +47,7 @@ def table_record(level, table):
         line = 'table %d refused %d %d kept' % (level, answer[1], answer[2])
     else:
         assert pag_reference.read(level, answer[1])[:2] == ('table', list(table))
-        line = 'table %d write %d read %d same' % (level, len(answer[1]), len(table))
+        line = 'table %d write %d kept read %d same kept' % (level, len(answer[1]), len(table))
     return head(TABLE, level, 8 * len(table)) + b''.join(n.to_bytes(8, 'little') for n in table), line
 
 

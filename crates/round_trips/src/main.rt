@@ -242,13 +242,18 @@ fn load(body: &[u8], table: &mut [u64]) -> usize
 // What was written of a table, read: the same numbers.
 fn read_back(level: u32, file: &[u8], table: &[u64]) {
     let mut again = [0u64; ROOM];
+    fill_numbers(&mut again);
     match reader::read(level, file, &mut again) {
-        Answer::Refused(reason, number) => say_refusal(reason, number),
+        Answer::Refused(reason, number) => {
+            say_refusal(reason, number);
+            say_kept(are_filled(&again));
+        }
         Answer::Accepted(n) => {
             say(b" read");
             say_number(n);
             let m = least(n as usize, ROOM);
             say_same(same_numbers(table, &again[0..m]));
+            say_kept(are_filled(&again[m..]));
         }
     }
 }
@@ -266,6 +271,7 @@ fn try_table(level: u32, table: &[u64], out: &mut [u8]) {
             say(b" write");
             say_number(n);
             let m = least(n as usize, out.len());
+            say_kept(is_filled(&out[m..]));
             read_back(level, &out[0..m], table);
         }
     }
