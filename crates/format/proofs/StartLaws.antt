@@ -38,14 +38,11 @@ holds false h e = absurd (omega arith)
 
 module _ (f : List ℕ) where
   -- the three bytes of the signature
-  pub signature-is : signatureRight f ≡ true → (getD f 0 0 ≡ 0x50) × (getD f 1 0 ≡ 0x41) × (getD f 2 0 ≡ 0x47)
+  signature-is : signatureRight f ≡ true → (getD f 0 0 ≡ 0x50) × (getD f 1 0 ≡ 0x41) × (getD f 2 0 ≡ 0x47)
   signature-is e =
       let a : (eqb (getD f 0 0) 0x50 ≡ true) × ((eqb (getD f 1 0) 0x41 and eqb (getD f 2 0) 0x47) ≡ true) = both (eqb (getD f 0 0) 0x50) _ e in
       let b : (eqb (getD f 1 0) 0x41 ≡ true) × (eqb (getD f 2 0) 0x47 ≡ true) = both (eqb (getD f 1 0) 0x41) _ (a .1) in
       (eqb-true (getD f 0 0) 0x50 (a .0), eqb-true (getD f 1 0) 0x41 (b .0), eqb-true (getD f 2 0) 0x47 (b .1))
-
-  pub is-signature : (getD f 0 0 ≡ 0x50) × (getD f 1 0 ≡ 0x41) × (getD f 2 0 ≡ 0x47) → signatureRight f ≡ true
-  is-signature s = rw (eq-eqb (getD f 0 0) 0x50 (s .0), eq-eqb (getD f 1 0) 0x41 (s .1), eq-eqb (getD f 2 0) 0x47 (s .2))
 
 -- ---- it is what the reasons 1 to 5 leave
 module _ (level : ℕ) (f : List ℕ) where
