@@ -11,7 +11,7 @@ use lib.Dec.{ltb, leb, eqb}
 use borrow.Author.Tests.{lt-ltb, le-ltb, lt-leb, le-leb, leb-true, eq-eqb, ne-eqb, eqb-true}
 use Rattle.format.specs.Tests.{pick, _and_}
 use Rattle.format.specs.Bits.{high}
-use Rattle.format.specs.FileAndTags.{le32, signatureRight, versionRight, classOf, Outcome, whole, fault, Walk, broken, file, walkList}
+use Rattle.format.specs.FileAndTags.{le32, signatureRight, versionRight, lengthRight, classOf, Outcome, whole, fault, Walk, broken, file, walkList}
 use Rattle.format.specs.TableOfNumbers.{numbers, table, tagTable}
 use Rattle.format.specs.Reasons.{startFault, walkFile, gives, refuses, result, readFile, readTags, into}
 use Rattle.format.proofs.LevelLaws.{long-file}
@@ -21,7 +21,8 @@ use Rattle.answers.specs.declared.Answer.the-variants.{Accepted, Refused}
 use Rattle.classes.specs.Classes.{classBy}
 use Rattle.classes.specs.declared.Scope.{Scope}
 use Rattle.classes.specs.declared.Scope.the-variants.{Lists}
-use Rattle.lists.specs.Lists.{Listed, listed, walkedOf, walkOver, Bounds}
+use Rattle.bits.specs.declared.BytePlace.{BytePlace}
+use Rattle.lists.specs.Lists.{byteAt, Listed, listed, walkedOf, walkOver, Bounds}
 use Rattle.lists.specs.declared.Walked.{Walked}
 use Rattle.lists.specs.declared.Walked.the-variants.{Next, Fault}
 use Rattle.lists.proofs.ListLaws.{piece, piece-rest, length-piece}
@@ -39,30 +40,42 @@ module _ (level : ℕ) (f : List ℕ) where
     unfolding startFault
     start-2 h = rw (le-ltb 1023 level known, lt-ltb (length f) 9 h)
 
-    -- the numbers that the code looks at
-    module _ (long : 9 ≤ length f) {a b c : ℕ} (a-is : a ≡ getD f 0 0) (b-is : b ≡ getD f 1 0) (c-is : c ≡ getD f 2 0) where
-      pub start-3 : (a + 256 * b + 65536 * c ≡ 0x474150 → ⊥) → 3 ≡ startFault level f
+    -- the numbers that the code looks at, one after the other
+    module _ (long : 9 ≤ length f) {a : ℕ} (a-is : a ≡ getD f 0 0) where
+      pub start-3-first : (a ≡ 0x50 → ⊥) → 3 ≡ startFault level f
       unfolding startFault
-      start-3 h = rw (le-ltb 1023 level known, le-ltb (length f) 9 long, ← a-is, ← b-is, ← c-is, ne-eqb (a + 256 * b + 65536 * c) 0x474150 h)
+      start-3-first h = rw (le-ltb 1023 level known, le-ltb (length f) 9 long, ← a-is, ne-eqb a 0x50 h)
 
-      module _ (signed : a + 256 * b + 65536 * c ≡ 0x474150) {v : ℕ} (v-is : v ≡ getD f 3 0) where
-        pub start-4 : (v ≡ 1 → ⊥) → 4 ≡ startFault level f
+      module _ (p-is : a ≡ 0x50) {b : ℕ} (b-is : b ≡ getD f 1 0) where
+        pub start-3-second : (b ≡ 0x41 → ⊥) → 3 ≡ startFault level f
         unfolding startFault
-        start-4 h = rw (le-ltb 1023 level known, le-ltb (length f) 9 long, ← a-is, ← b-is, ← c-is, eq-eqb (a + 256 * b + 65536 * c) 0x474150 signed, ← v-is, ne-eqb v 1 h)
+        start-3-second h = rw (le-ltb 1023 level known, le-ltb (length f) 9 long, ← a-is, eq-eqb a 0x50 p-is, ← b-is, ne-eqb b 0x41 h)
 
-        module _ (first : v ≡ 1) {n : ℕ} (n-is : n ≡ le32 (drop 4 f)) where
-          start-5-or-0 : pick (eqb n (length f) and leb (length f) 16777216) 0 5 ≡ startFault level f
+        module _ (q-is : b ≡ 0x41) {c : ℕ} (c-is : c ≡ getD f 2 0) where
+          -- the signature is judged
+          signed : pick (eqb c 0x47) (pick (versionRight f) (pick (lengthRight f) 0 5) 4) 3 ≡ startFault level f
           unfolding startFault
-          start-5-or-0 = rw (le-ltb 1023 level known, le-ltb (length f) 9 long, ← a-is, ← b-is, ← c-is, eq-eqb (a + 256 * b + 65536 * c) 0x474150 signed, ← v-is, eq-eqb v 1 first, ← n-is)
+          signed = rw (le-ltb 1023 level known, le-ltb (length f) 9 long, ← a-is, eq-eqb a 0x50 p-is, ← b-is, eq-eqb b 0x41 q-is, ← c-is)
 
-          pub start-5 : (n ≡ length f → ⊥) → 5 ≡ startFault level f
-          start-5 h = rw (ne-eqb n (length f) h) at start-5-or-0
+          pub start-3 : (c ≡ 0x47 → ⊥) → 3 ≡ startFault level f
+          start-3 h = rw (ne-eqb c 0x47 h) at signed
 
-          pub start-5-long : n ≡ length f → 16777216 < length f → 5 ≡ startFault level f
-          start-5-long e h = rw (eq-eqb n (length f) e, lt-leb (length f) 16777216 h) at start-5-or-0
+          module _ (g-is : c ≡ 0x47) {v : ℕ} (v-is : v ≡ getD f 3 0) where
+            pub start-4 : (v ≡ 1 → ⊥) → 4 ≡ startFault level f
+            start-4 h = rw (eq-eqb c 0x47 g-is, ← v-is, ne-eqb v 1 h) at signed
 
-          pub start-0 : n ≡ length f → length f ≤ 16777216 → 0 ≡ startFault level f
-          start-0 e h = rw (eq-eqb n (length f) e, le-leb (length f) 16777216 h) at start-5-or-0
+            module _ (first : v ≡ 1) {n : ℕ} (n-is : n ≡ le32 (drop 4 f)) where
+              start-5-or-0 : pick (eqb n (length f) and leb (length f) 16777216) 0 5 ≡ startFault level f
+              start-5-or-0 = rw (eq-eqb c 0x47 g-is, ← v-is, eq-eqb v 1 first, ← n-is) at signed
+
+              pub start-5 : (n ≡ length f → ⊥) → 5 ≡ startFault level f
+              start-5 h = rw (ne-eqb n (length f) h) at start-5-or-0
+
+              pub start-5-long : n ≡ length f → 16777216 < length f → 5 ≡ startFault level f
+              start-5-long e h = rw (eq-eqb n (length f) e, lt-leb (length f) 16777216 h) at start-5-or-0
+
+              pub start-0 : n ≡ length f → length f ≤ 16777216 → 0 ≡ startFault level f
+              start-0 e h = rw (eq-eqb n (length f) e, le-leb (length f) 16777216 h) at start-5-or-0
 
   -- a file that passes them
   pub fair-file : startFault level f ≡ 0 → (9 ≤ length f) × (length f ≤ 16777216)
@@ -83,7 +96,7 @@ module _ (level : ℕ) (f : List ℕ) where
   walk-is e = rw (eq-eqb (startFault level f) 0 e)
 
   -- ---- the run that counts
-  pub survey-start : {e : ℕ} → e ≡ startFault level f → (e ≡ 0 → ⊥) → Fault e 0 ≡ surveyed (walkFile high level f)
+  pub survey-start : {e : ℕ} → e ≡ startFault level f → (e ≡ 0 → ⊥) → Fault e (byteAt 0) ≡ surveyed (walkFile high level f)
   unfolding walkFile
   survey-start {e} q h = rw (← q, ne-eqb e 0 h)
 
@@ -101,10 +114,10 @@ module _ (level : ℕ) (f : List ℕ) where
   w = walkFile high level f
 
   -- it found a refusal
-  pub survey-refused : {e n : ℕ} → Fault e n ≡ surveyed w → (ns : List ℕ) → refuses e n ≡ result ns (w .ended)
+  pub survey-refused : {e : ℕ} {n : BytePlace} → Fault e n ≡ surveyed w → (ns : List ℕ) → refuses e (n .0) ≡ result ns (w .ended)
   survey-refused {e} {n} q ns = go (w .ended) q
     where
-      go : (z : Outcome) → Fault e n ≡ walkedOf (1 + length (numbers (w .tags))) (length (tagTable (w .tags))) z → refuses e n ≡ result ns z
+      go : (z : Outcome) → Fault e n ≡ walkedOf (1 + length (numbers (w .tags))) (length (tagTable (w .tags))) z → refuses e (n .0) ≡ result ns z
       go whole q = cc
       go (fault e′ n′) q = cc
 
@@ -141,7 +154,7 @@ module _ (m ns : List ℕ) where
 
 module _ (level : ℕ) (f m : List ℕ) where
   -- ---- `read`
-  pub read-refused : {e n : ℕ} → Fault e n ≡ surveyed (walkFile high level f) → leaves m (Refused e n) ≡ into m (readFile high level f)
+  pub read-refused : {e : ℕ} {n : BytePlace} → Fault e n ≡ surveyed (walkFile high level f) → leaves m (Refused e (n .0)) ≡ into m (readFile high level f)
   unfolding readFile
   read-refused q = ap (into m) (survey-refused level f q (table f (walkFile high level f)))
 
@@ -165,7 +178,7 @@ module _ (level : ℕ) (f m : List ℕ) where
       ap (λ (l : Listed). length (l .table)) e ∙ length-sets (set m 0 c) 1 (numbers (walkList high (classOf level) 8 file 9 (drop 9 f) .tags)) ∙ length-set m 0 c
 
   -- ---- `tags`
-  pub tags-refused : {e n : ℕ} → Fault e n ≡ surveyed (walkFile high level f) → leaves m (Refused e n) ≡ into m (readTags high level f)
+  pub tags-refused : {e : ℕ} {n : BytePlace} → Fault e n ≡ surveyed (walkFile high level f) → leaves m (Refused e (n .0)) ≡ into m (readTags high level f)
   unfolding readTags
   tags-refused q = ap (into m) (survey-refused level f q (tagTable (walkFile high level f .tags)))
 

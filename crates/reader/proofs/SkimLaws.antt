@@ -1,12 +1,12 @@
 -- A walk of the lists alone, with every other body opaque, gives the tag table of the walk that reads all, where that accepts: `skim-rows`.
-use Prim.Native.Nat.{ℕ, zero, suc, pred, _+_, _-_, _/_}
+use Prim.Native.Nat.{ℕ, zero, suc, pred, _+_, _-_}
 use mathlib.Core.List.{List, [], _∷_, _++_}
 use mathlib.Core.Path.{_≡_, refl, ap, subst, sym}
 use mathlib.Core.Bool.{Bool, true, false}
 use lib.ListN.{length, take, drop}
 use Rattle.format.specs.Bits.{high}
 use Rattle.format.specs.Reading.{Ending, At, Fault}
-use Rattle.format.specs.Items.{run}
+use Rattle.format.specs.Items.{run, toByte}
 use Rattle.format.specs.Bodies.{readBody}
 use Rattle.format.specs.FileAndTags.{Class, opaque, end, container, known, classOf, isEnd, Tag, Outcome, whole, fault, Walk, noTags, chain, Head, head, noHead, rawHead, passes, readHead, Owner, inside, TagInside, endAt, front, opened, within, afterTag, tagThen, oneTag, walk, walkList}
 use Rattle.format.specs.TableOfNumbers.{tagTable}
@@ -57,7 +57,7 @@ alike-within R S u (known y) a s body = go (readBody high y body .ended)
 alike-within R S u (container f) a s body = go (run high body (front f) 0 .shown) (run high body (front f) 0 .ended)
   where
     go : (xs : List ℕ) (z : Ending) → Alike (opened R a s body xs z .walk) (opened S a s body xs z .walk) (opened R a s body xs z .walk .ended)
-    go xs (At p) = u (inside a) (s + p / 8) (drop (p / 8) body)
+    go xs (At p) = u (inside a) (s + toByte p) (drop (toByte p) body)
     go xs (Fault e) = tt
 
 module _ (level : ℕ) where

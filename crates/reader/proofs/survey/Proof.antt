@@ -15,14 +15,14 @@ start-fault-requires c κs = search needs
 returns : tie.Need-returns
 returns c = let a = c .before .before .before .args in survey-start (a .level) (now (a .file)) (c .before .start-fault .ensures) (c .if1 .taken)
 
-array-borrow-prefix-t : tie.Need-array-borrow-prefix-t
-array-borrow-prefix-t c = search needs
+array-borrow-prefix-table : tie.Need-array-borrow-prefix-table
+array-borrow-prefix-table c = search needs
 
 slice-aggregate-read-tags : tie.Need-slice-aggregate-read-tags
 slice-aggregate-read-tags c = search needs
 
-array-borrow-prefix-g : tie.Need-array-borrow-prefix-g
-array-borrow-prefix-g c = search needs
+array-borrow-prefix-rows : tie.Need-array-borrow-prefix-rows
+array-borrow-prefix-rows c = search needs
 
 slice-aggregate-read-tags-2 : tie.Need-slice-aggregate-read-tags-2
 slice-aggregate-read-tags-2 c = search needs
@@ -39,9 +39,9 @@ survey-spec =
     (tie.spec
     start-fault-requires
     returns
-    array-borrow-prefix-t
+    array-borrow-prefix-table
     slice-aggregate-read-tags
-    array-borrow-prefix-g
+    array-borrow-prefix-rows
     slice-aggregate-read-tags-2
     read-tags-requires
     returns-2)
