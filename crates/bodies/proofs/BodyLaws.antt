@@ -11,6 +11,7 @@ use Rattle.format.specs.Reading.{At, Fault, shows, stop}
 use Rattle.format.specs.Items.{readAlign, run}
 use Rattle.format.specs.Bodies.{Attribute, Body, readBlock, readPart, readBody}
 use Rattle.format.specs.WritingBodies.{writePart}
+use Rattle.format.proofs.Absurd.{clash}
 use Rattle.format.proofs.BodyLaws.{trip-part}
 use Rattle.format.proofs.Trip.{There, has-le}
 use Rattle.table.specs.State.{State, shownOver}
@@ -18,6 +19,9 @@ use Rattle.table.proofs.EngineLaws.{state, state-eq}
 use Rattle.attributes.specs.Rows.{attributesOf}
 use Rattle.fixed.specs.Fixed.{fixedOf}
 use Rattle.bodies.specs.Leaf.{isBlock, leafBody}
+use Rattle.bodies.specs.Shown.{shownLeaves}
+use Rattle.bodies.specs.declared.Shown.{Shown}
+use Rattle.bodies.specs.declared.Shown.the-variants.{Done, Stop}
 
 -- ---- the items, by the code
 module _ (b t : List ℕ) (k code : ℕ) {x : State} where
@@ -64,3 +68,16 @@ module _ (b t : List ℕ) (k : ℕ) (y : Body) {u : List ℕ} {j : ℕ} where
       body-left e =
           let z : readPart high b y 0 .ended ≡ At q = ap (λ (s : State). s .ended) (sym h) in
           rw (z, a, append-nil, ne-eqb n (8 * length b) e) (state-eq (ap (λ (s : State). s .table) h) (ap (λ (s : State). s .count) h) refl)
+
+-- ---- no second answer fits a promise on the values of a tag: what was left, seen as a state, tells the table and the answer
+pub one-shown : (t u : List ℕ) (a b : Shown) → shownLeaves t a ≡ shownLeaves u b → (t ≡ u) × (a ≡ b)
+one-shown t u a b e = (ap (λ (s : State). s .table) e, go a b (ap (λ (s : State). s .count) e) (ap (λ (s : State). s .ended) e))
+  where
+    go : (a b : Shown) → shownLeaves t a .count ≡ shownLeaves u b .count → shownLeaves t a .ended ≡ shownLeaves u b .ended → a ≡ b
+    go (Done p k) (Done q j) c z =
+        let m : 8 * p .0 ≡ 8 * q .0 = cc in
+        let d : p .0 ≡ q .0 = omega arith in
+        λ i. Done (record { 0 = d i }) (c i)
+    go (Done p k) (Stop r j) c z = clash cc
+    go (Stop r k) (Done q j) c z = clash cc
+    go (Stop r k) (Stop z′ j) c z = let d : r ≡ z′ = cc in λ i. Stop (d i) (c i)

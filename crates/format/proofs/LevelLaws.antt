@@ -20,6 +20,7 @@ use Rattle.format.specs.FileAndTags.{Class, opaque, end, container, know
 use Rattle.format.specs.Reasons.{startFault, walkFile}
 use Rattle.format.specs.Levels.{endOf, veil, hideFrom, hide, InHidden, here, later, Refuses, alike, apart, Levels}
 use Rattle.format.proofs.WalkLaws.{run-le, RawFits, raw-fits, Between, between-wider, FaultIn, Before, before-later, Placed, placed-within, placed-after, placed}
+use Rattle.format.proofs.StartLaws.{good-start}
 use Rattle.format.proofs.Absurd.{clash}
 
 -- ---- a part of the file, at its place
@@ -360,15 +361,6 @@ going-class lo hi code h = go (ltb hi code)
     go true = refl
     go false = later-codes code (omega arith)
 
-pub long-file : (level : ℕ) (f : List ℕ) → startFault level f ≡ 0 → 9 ≤ length f
-unfolding startFault
-long-file level f = go (ltb 1023 level) (ltb (length f) 9) refl _
-  where
-    go : (c d : Bool) → ltb (length f) 9 ≡ d → (n : ℕ) → _≡_ {A = ℕ} (pick c 1 (pick d 2 n)) 0 → 9 ≤ length f
-    go true d e n h = absurd (omega arith)
-    go false true e n h = absurd (omega arith)
-    go false false e n h = ltb-false (length f) 9 e
-
 same-start : (lo hi : ℕ) (f : List ℕ) → lo ≤ hi → hi ≤ 1023 → startFault hi f ≡ startFault lo f
 unfolding startFault
 same-start lo hi f l m = rw (le-ltb 1023 hi m, le-ltb 1023 lo (omega arith))
@@ -393,7 +385,7 @@ module _ (o : Order) (lo hi : ℕ) (f : List ℕ) (l : lo ≤ hi) (m : hi ≤ 10
           (length (drop 9 f)) 8 file 9 (drop 9 f) tt (room n))
 
       go : (c : Bool) → eqb (startFault lo f) 0 ≡ c → Kin lo f 0 (pick c H (broken (startFault lo f) 0)) (pick c L (broken (startFault lo f) 0)) (pick c H (broken (startFault lo f) 0) .ended)
-      go true e = good (long-file lo f (eqb-true (startFault lo f) 0 e))
+      go true e = good (good-start lo f (eqb-true (startFault lo f) 0 e) .long)
       go false e = inl refl
 
   pub levels : Levels o lo hi f

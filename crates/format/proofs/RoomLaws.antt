@@ -21,7 +21,7 @@ use Rattle.format.specs.WritingBodies.{writePart}
 use Rattle.format.proofs.BlockLaws.{as-many}
 use Rattle.format.proofs.BodyLaws.{trip-part}
 use Rattle.format.proofs.EngineLaws.{numbers-append}
-use Rattle.format.proofs.LevelLaws.{long-file}
+use Rattle.format.proofs.StartLaws.{good-start}
 use Rattle.format.proofs.SizeLaws.{FairEnd, FairReading, Fair, fair-item, fair-nothing, fair-echo, fair-more, fair-then, fair-seq, fair-times, fair-byte, fair-content, fair-only}
 use Rattle.format.proofs.Trip.{There, has-le}
 use Rattle.format.proofs.WalkLaws.{run-le, Fits, head-fits}
@@ -269,7 +269,7 @@ module _ (o : Order) where
 
       go : (c : Bool) → eqb (startFault level f) 0 ≡ c → FileRoom f (pick c w (broken (startFault level f) 0)) (pick c w (broken (startFault level f) 0) .ended)
       go false e = tt
-      go true e = good (long-file level f (eqb-true (startFault level f) 0 e)) (w .ended)
+      go true e = good (good-start level f (eqb-true (startFault level f) 0 e) .long) (w .ended)
 
   -- the table of a file of n bytes has at most 8 × n numbers
   pub table-room : (level : ℕ) (f t : List ℕ) → readFile o level f ≡ gives t → length t ≤ 8 * length f

@@ -158,8 +158,11 @@ color = times 3 byte
 abbrev pub count : ℕ → ℕ → Format
 count lo hi = only (λ ns. leb lo (the ns) and leb (the ns) hi) 17 u32
 
+abbrev pub byVerb : List ℕ
+byVerb = 0 ∷ 2 ∷ 2 ∷ 1 ∷ 1 ∷ 4 ∷ 4 ∷ 6 ∷ []
+
 abbrev pub coordinatesOf : ℕ → ℕ
-coordinatesOf verb = getD (0 ∷ 2 ∷ 2 ∷ 1 ∷ 1 ∷ 4 ∷ 4 ∷ 6 ∷ []) verb 0
+coordinatesOf verb = getD byVerb verb 0
 
 abbrev pub coordinates : List ℕ → ℕ
 coordinates [] = 0

@@ -10,7 +10,7 @@ use borrow.Author.Tests.{le-leb, leb-true}
 use Rattle.format.specs.Tests.{pick, _and_}
 use Rattle.format.proofs.Absurd.{clash}
 use Rattle.listing.specs.declared.Cursor.{Cursor}
-use Rattle.listing.specs.Steps.{Step, start, step, more, textFrom, tableListing, stay, joined, fill, partOf, State, state, after}
+use Rattle.listing.specs.Steps.{Step, start, step, more, textFrom, tableListing, stay, joined, fill, partOf, AfterPart, afterPart, textOver}
 use Rattle.listing.proofs.StepLaws.{step-further, more-none, more-number, part-none}
 
 module _ (n : ℕ) (t g : List ℕ) where
@@ -105,15 +105,15 @@ module _ (n : ℕ) (t g : List ℕ) where
       go (suc k) e = rw (h, le-leb 128 room i) (omega (arith, step-further n t g c, fill-not-back k (room - length (step n t g c .text)) (step n t g c .to)))
 
   -- for code: a part that used bytes has fewer numbers left
-  pub part-less : (b : List ℕ) (room : ℕ) (c : Cursor) {u : List ℕ} {j : ℕ} {d : Cursor} → state u j d ≡ after b 0 (partOf room n t g c) → 0 < j → length t - d .number < length t - c .number
-  unfolding after
+  pub part-less : (b : List ℕ) (room : ℕ) (c : Cursor) {u : List ℕ} {j : ℕ} {d : Cursor} → afterPart u j d ≡ textOver b 0 (partOf room n t g c) → 0 < j → length t - d .number < length t - c .number
+  unfolding textOver
   part-less b room c {u} {j} {d} e h = go (more t g c) refl (leb 128 room) refl
     where
       same : d .number ≡ partOf room n t g c .to .number
-      same = ap (λ (s : State). s .to .number) e
+      same = ap (λ (s : AfterPart). s .to .number) e
 
       nothing : partOf room n t g c ≡ stay c → length t - d .number < length t - c .number
-      nothing z = absurd (omega (arith, ap (λ (s : State). s .used) e, ap (λ (s : Step). length (s .text)) z))
+      nothing z = absurd (omega (arith, ap (λ (s : AfterPart). s .used) e, ap (λ (s : Step). length (s .text)) z))
 
       go : (a : Bool) → more t g c ≡ a → (r : Bool) → leb 128 room ≡ r → length t - d .number < length t - c .number
       go true p true q = omega (arith, same, part-further room c p (leb-true 128 room q), more-number t g c p)

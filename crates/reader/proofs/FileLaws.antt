@@ -7,14 +7,14 @@ use native.Mathlib.Nat.{zero-add}
 use native.Mathlib.Omega.{arith}
 use lib.ListN.{length, getD, drop, set, length-set}
 use lib.Seq.{sets, sets-eq, length-sets}
-use lib.Dec.{ltb, leb, eqb}
-use borrow.Author.Tests.{lt-ltb, le-ltb, lt-leb, le-leb, leb-true, eq-eqb, ne-eqb, eqb-true}
+use lib.Dec.{leb, eqb}
+use borrow.Author.Tests.{lt-ltb, le-ltb, lt-leb, le-leb, eq-eqb, ne-eqb}
 use Rattle.format.specs.Tests.{pick, _and_}
 use Rattle.format.specs.Bits.{high}
-use Rattle.format.specs.FileAndTags.{le32, signatureRight, versionRight, lengthRight, classOf, Outcome, whole, fault, Walk, broken, file, walkList}
+use Rattle.format.specs.FileAndTags.{le32, versionRight, lengthRight, classOf, Outcome, whole, fault, Walk, file, walkList}
 use Rattle.format.specs.TableOfNumbers.{numbers, table, tagTable}
 use Rattle.format.specs.Reasons.{startFault, walkFile, gives, refuses, result, readFile, readTags, into}
-use Rattle.format.proofs.LevelLaws.{long-file}
+use Rattle.format.proofs.StartLaws.{good-start, whole-start}
 use Rattle.format.proofs.Absurd.{clash}
 use Rattle.answers.specs.Answers.{leaves}
 use Rattle.answers.specs.declared.Answer.the-variants.{Accepted, Refused}
@@ -77,19 +77,9 @@ module _ (level : ℕ) (f : List ℕ) where
               pub start-0 : n ≡ length f → length f ≤ 16777216 → 0 ≡ startFault level f
               start-0 e h = rw (eq-eqb n (length f) e, le-leb (length f) 16777216 h) at start-5-or-0
 
-  -- a file that passes them
+  -- a file that passes them: what `read_tags` requires of it
   pub fair-file : startFault level f ≡ 0 → (9 ≤ length f) × (length f ≤ 16777216)
-  unfolding startFault
-  fair-file e = (long-file level f e, short (ltb 1023 level) (ltb (length f) 9) (signatureRight f) (versionRight f) (eqb (le32 (drop 4 f)) (length f)) (leb (length f) 16777216) refl e)
-    where
-      short : (a b c d n m : Bool) → leb (length f) 16777216 ≡ m → _≡_ {A = ℕ} (pick a 1 (pick b 2 (pick c (pick d (pick (n and m) 0 5) 4) 3))) 0 → length f ≤ 16777216
-      short true b c d n m h e = absurd (omega arith)
-      short false true c d n m h e = absurd (omega arith)
-      short false false false d n m h e = absurd (omega arith)
-      short false false true false n m h e = absurd (omega arith)
-      short false false true true false m h e = absurd (omega arith)
-      short false false true true true false h e = absurd (omega arith)
-      short false false true true true true h e = leb-true (length f) 16777216 h
+  fair-file e = let s = good-start level f e in (s .long, s .limit)
 
   walk-is : startFault level f ≡ 0 → walkFile high level f ≡ walkList high (classOf level) 8 file 9 (drop 9 f)
   unfolding walkFile
@@ -129,16 +119,13 @@ module _ (level : ℕ) (f : List ℕ) where
     pub start : startFault level f ≡ 0
 
   pub survey-found : {k m : ℕ} → Next k m ≡ surveyed w → Found k m
-  unfolding walkFile
-  survey-found {k} {m} q = record { ended = go (w .ended) q .0; numbers-are = go (w .ended) q .1; rows-are = go (w .ended) q .2; start = from (eqb (startFault level f) 0) refl q }
+  survey-found {k} {m} q =
+      let u : (w .ended ≡ whole) × (k ≡ length (table f w)) × (m ≡ length (tagTable (w .tags))) = go (w .ended) q in
+      record { ended = u .0; numbers-are = u .1; rows-are = u .2; start = whole-start level f high (u .0) }
     where
       go : (z : Outcome) → Next k m ≡ walkedOf (1 + length (numbers (w .tags))) (length (tagTable (w .tags))) z → (z ≡ whole) × (k ≡ length (table f w)) × (m ≡ length (tagTable (w .tags)))
       go whole q = (refl, (let z : k ≡ 1 + length (numbers (w .tags)) = cc in omega arith), cc)
       go (fault e n) q = clash cc
-
-      from : (c : Bool) → eqb (startFault level f) 0 ≡ c → Next k m ≡ surveyed (pick c (walkList high (classOf level) 8 file 9 (drop 9 f)) (broken (startFault level f) 0)) → startFault level f ≡ 0
-      from true e q = eqb-true (startFault level f) 0 e
-      from false e q = clash cc
 
 -- ---- what a call leaves: the lent memory m, and the numbers ns for it
 module _ (m ns : List ℕ) where

@@ -169,29 +169,33 @@ pub flow-done : (o : List ℕ) (p a w v m : ℕ) {st : State} → Holds p a → 
 flow-done o p a w v m h l e d = sym (flow-start o p a w v h l ∙ rw (← e) d)
 
 -- ---- the skip to a whole byte
-pub waiting-lt : (p a m : ℕ) → Holds p a → (p % 8 ≡ 0 → ⊥) → m ≡ 2 ^ (8 - p % 8) → a * m < 256
-waiting-lt p a m h n e =
+pub waiting-lt : (p a m q : ℕ) → Holds p a → q ≡ p + skipped p → (q - p ≡ 0 → ⊥) → m ≡ 2 ^ (q - p) → a * m < 256
+waiting-lt p a m q h d n e =
+    let v : q - p ≡ 8 - p % 8 = omega (arith, d, n) in
     let c : p % 8 + (8 - p % 8) ≡ 8 = omega arith in
     let s : a * 2 ^ (8 - p % 8) + 0 < 2 ^ (p % 8) * 2 ^ (8 - p % 8) = digits-lt h (pow-pos (8 - p % 8)) in
     let t : 2 ^ (p % 8) * 2 ^ (8 - p % 8) ≡ 256 = sym (pow-add 2 (p % 8) (8 - p % 8)) ∙ ap (λ (k : ℕ). 2 ^ k) c in
-    rw e (omega arith)
+    rw (e, v) (omega arith)
 
-pub skip-none : (o : List ℕ) (p a : ℕ) → Holds p a → p % 8 ≡ 0 → Skipped (mk o p a) o (p / 8) p
+pub skip-none : (o : List ℕ) (p a : ℕ) {i q : ℕ} → Holds p a → q ≡ p + skipped p → q ≡ 8 * i → q - p ≡ 0 → Skipped (mk o p a) o i q
 unfolding lay dig
-skip-none o p a h e =
-    let s : skipped p ≡ 0 = omega arith in
-    let z : a ≡ 0 = omega (arith, rw (e, pow-zero) at h) in
-    record { whole = omega arith; laid = rw (s, z) }
+skip-none o p a {q = q} h d w e =
+    let s : skipped p ≡ 0 = omega (arith, d, e) in
+    let f : p % 8 ≡ 0 = omega (arith, s) in
+    let z : a ≡ 0 = omega (arith, rw (f, pow-zero) at h) in
+    let t : q ≡ p = omega (arith, d, e) in
+    record { whole = w; laid = rw (s, z, t) }
 
-pub skip-some : (o : List ℕ) (p a m : ℕ) {u : List ℕ} → Holds p a → (p % 8 ≡ 0 → ⊥) → m ≡ 2 ^ (8 - p % 8) → u ≡ set o (p / 8) (a * m)
-    → Skipped (mk o p a) u (p / 8 + 1) (p + (8 - p % 8))
-skip-some o p a m h n e d =
-    let k : skipped p ≡ suc (7 - p % 8) = omega arith in
-    let w : 8 - p % 8 ≡ suc (7 - p % 8) = omega arith in
+pub skip-some : (o : List ℕ) (p a m : ℕ) {u : List ℕ} {i q : ℕ} → Holds p a → q ≡ p + skipped p → q ≡ 8 * i → (q - p ≡ 0 → ⊥) → m ≡ 2 ^ (q - p) → u ≡ set o (p / 8) (a * m)
+    → Skipped (mk o p a) u i q
+skip-some o p a m {q = q} h b w n e d =
+    let k : skipped p ≡ suc (7 - p % 8) = omega (arith, b, n) in
+    let v : q - p ≡ suc (7 - p % 8) = omega (arith, b, k) in
+    let t : q ≡ p + suc (7 - p % 8) = omega (arith, b, k) in
     record {
-      whole = omega arith;
+      whole = w;
       laid =
-          rw (d, e, k, w)
+          rw (d, e, v, k, t)
           (sym (lay-full o (7 - p % 8) p a 0 (omega arith) (pow-pos (suc (7 - p % 8))) ∙ mk-eq (ap (set o (p / 8)) (add-zero (a * 2 ^ suc (7 - p % 8)))) refl refl));
     }
 

@@ -12,7 +12,8 @@ use borrow.Author.Tests.{lt-ltb, le-ltb, le-leb, lt-leb, eq-eqb, ne-eqb, leb-tru
 use Rattle.format.specs.Tests.{pick}
 use Rattle.format.specs.Bits.{high}
 use Rattle.format.specs.Items.{skipped, string}
-use Rattle.format.specs.WritingItems.{dig, Bits, spelt, none, before, cannot, put, takeText, spellTxt, textByte, writeItem}
+use Rattle.format.specs.Possible.{Possible, this, cannot}
+use Rattle.format.specs.WritingItems.{dig, before, put, takeText, spellTxt, textByte, writeItem}
 use Rattle.format.specs.WritingFormats.{adjoin, unrun}
 use Rattle.format.proofs.BitLaws.{length-dig}
 use Rattle.format.proofs.Absurd.{clash}
@@ -21,7 +22,7 @@ use Rattle.sink.specs.declared.Sink.{Sink}
 use Rattle.sink.proofs.LayingLaws.{lay-append, lay-byte, lay-place}
 use Rattle.spelling.specs.declared.Spelt.{Spelt}
 use Rattle.spelling.specs.declared.Spelt.the-variants.{In, No}
-use Rattle.spelling.specs.Writing.{sunk, unsunk, bitsOver, got, gone, ends, writtenOver, ran}
+use Rattle.spelling.specs.Writing.{bitsOver, got, ends, writtenOver, ran}
 use Rattle.spelling.proofs.RunLaws.{ends-out}
 use Rattle.spelling.proofs.NumberLaws.{byte-then}
 
@@ -31,11 +32,11 @@ text-start o p vs = let e : p + 8 * 0 ≡ p = omega arith in rw e
 
 module _ (o : List ℕ) (start p : ℕ) (e : p ≡ 8 * start) (vs : List ℕ) (i : ℕ) where
   module _ (l : i < length vs) where
-    pub text-zero : getD vs i 0 ≡ 0 → bitsOver (mk o (p + 8 * i) 0) (spellTxt high (drop i vs)) ≡ unsunk
+    pub text-zero : getD vs i 0 ≡ 0 → bitsOver (mk o (p + 8 * i) 0) (spellTxt high (drop i vs)) ≡ cannot
     unfolding spellTxt
     text-zero h = rw (drop-cons vs i 0 l, eq-eqb (getD vs i 0) 0 h)
 
-    pub text-large : (getD vs i 0 ≡ 0 → ⊥) → 255 < getD vs i 0 → bitsOver (mk o (p + 8 * i) 0) (spellTxt high (drop i vs)) ≡ unsunk
+    pub text-large : (getD vs i 0 ≡ 0 → ⊥) → 255 < getD vs i 0 → bitsOver (mk o (p + 8 * i) 0) (spellTxt high (drop i vs)) ≡ cannot
     unfolding spellTxt
     text-large n h = rw (drop-cons vs i 0 l, ne-eqb (getD vs i 0) 0 n, le-ltb (getD vs i 0) 256 (omega arith))
 
@@ -48,22 +49,22 @@ module _ (o : List ℕ) (start p : ℕ) (e : p ≡ 8 * start) (vs : List ℕ) (i
         (byte-then o (start + i) (p + 8 * i) (getD vs i 0) (spellTxt high (drop (suc i) vs)) (omega arith) (omega arith) d)
 
   pub text-over : {u : List ℕ} → length vs ≡ i → u ≡ set o (start + length vs) 0
-      → sunk (mk u (p + 8 * length vs + 8) 0) ≡ bitsOver (mk o (p + 8 * i) 0) (spellTxt high (drop i vs))
+      → this (mk u (p + 8 * length vs + 8) 0) ≡ bitsOver (mk o (p + 8 * i) 0) (spellTxt high (drop i vs))
   unfolding spellTxt
   text-over {u} n d =
       rw (← n, drop-length)
-      (ap sunk (sym (lay-byte o (start + length vs) 0 (omega arith) (omega arith) d)))
+      (ap this (sym (lay-byte o (start + length vs) 0 (omega arith) (omega arith) d)))
 
 -- ---- the whole
-length-text : (xs : List ℕ) (bs : List Bool) → spellTxt high xs ≡ spelt bs → length bs ≡ 8 * suc (length xs)
+length-text : (xs : List ℕ) (bs : List Bool) → spellTxt high xs ≡ this bs → length bs ≡ 8 * suc (length xs)
 unfolding spellTxt
 length-text [] bs e = let z : dig high 8 0 ≡ bs = cc in rw (← z) (length-dig high 8 0)
 length-text (x ∷ xs) bs e = go (textByte x) refl (spellTxt high xs) (λ cs r. length-text xs cs r) e
   where
-    go : (c : Bool) → textByte x ≡ c → (b : Bits) → ((cs : List Bool) → b ≡ spelt cs → length cs ≡ 8 * suc (length xs)) → pick c (before (dig high 8 x) b) none ≡ spelt bs → length bs ≡ 8 * suc (suc (length xs))
+    go : (c : Bool) → textByte x ≡ c → (b : Possible (List Bool)) → ((cs : List Bool) → b ≡ this cs → length cs ≡ 8 * suc (length xs)) → pick c (before (dig high 8 x) b) cannot ≡ this bs → length bs ≡ 8 * suc (suc (length xs))
     go false q b r h = clash cc
-    go true q none r h = clash cc
-    go true q (spelt cs) r h =
+    go true q cannot r h = clash cc
+    go true q (this cs) r h =
         let z : dig high 8 x ++ cs ≡ bs = cc in
         omega (arith, ap length z, length-append (dig high 8 x) cs, length-dig high 8 x, r cs refl)
 
@@ -76,11 +77,11 @@ module _ (t : List ℕ) (st : State) (k : ℕ) where
   unfolding ran unrun writeItem skip
   string-is = refl
 
-  pub string-none : length t ≤ k → ran t st k string ≡ gone
+  pub string-none : length t ≤ k → ran t st k string ≡ cannot
   unfolding writtenOver
   string-none h = string-is ∙ go (drop k t) (omega (arith, length-drop k t))
     where
-      go : (ns : List ℕ) → length ns ≡ 0 → writtenOver st k (adjoin [] skip (takeText high ns)) ≡ gone
+      go : (ns : List ℕ) → length ns ≡ 0 → writtenOver st k (adjoin [] skip (takeText high ns)) ≡ cannot
       go [] e = refl
       go (x ∷ ns) e = absurd (omega arith)
 
@@ -95,7 +96,7 @@ module _ (t : List ℕ) (st : State) (k : ℕ) where
     unfolding n ns
     some = string-is ∙ rw (drop-cons t k 0 l)
 
-    pub string-cut : length t - (k + 1) < getD t k 0 → ran t st k string ≡ gone
+    pub string-cut : length t - (k + 1) < getD t k 0 → ran t st k string ≡ cannot
     unfolding n ns writtenOver
     string-cut h = some ∙ rw (lt-leb (getD t k 0) (length (drop (suc k) t)) (rw length-drop (omega arith)))
 
@@ -103,17 +104,17 @@ module _ (t : List ℕ) (st : State) (k : ℕ) where
     unfolding n ns
     spelling h = some ∙ rw (le-leb (getD t k 0) (length (drop (suc k) t)) (rw length-drop (omega arith)))
 
-    pub string-long : 16777216 < getD t k 0 → ran t st k string ≡ gone
+    pub string-long : 16777216 < getD t k 0 → ran t st k string ≡ cannot
     unfolding n ns writtenOver
     string-long h = go (leb (getD t k 0) (length t - (k + 1))) refl
       where
-        text : (b : Bits) → spellTxt high (take n ns) ≡ b → n ≤ length t - (k + 1) → writtenOver st k (adjoin [] skip (put (n ∷ take n ns) b (drop n ns))) ≡ gone
-        text none e m = refl
-        text (spelt bs) e m =
+        text : (b : Possible (List Bool)) → spellTxt high (take n ns) ≡ b → n ≤ length t - (k + 1) → writtenOver st k (adjoin [] skip (put (n ∷ take n ns) b (drop n ns))) ≡ cannot
+        text cannot e m = refl
+        text (this bs) e m =
             ends-out (lay st (skip ++ bs)) _
             (omega (arith, lay-place st (skip ++ bs), length-append skip bs, length-text (take n ns) bs e, length-take-le n ns (rw length-drop (omega arith))))
 
-        go : (c : Bool) → leb (getD t k 0) (length t - (k + 1)) ≡ c → ran t st k string ≡ gone
+        go : (c : Bool) → leb (getD t k 0) (length t - (k + 1)) ≡ c → ran t st k string ≡ cannot
         go true e = spelling (leb-true (getD t k 0) (length t - (k + 1)) e) ∙ text (spellTxt high (take n ns)) refl (leb-true (getD t k 0) (length t - (k + 1)) e)
         go false e = some ∙ (let f : leb (getD t k 0) (length (drop (suc k) t)) ≡ false = rw length-drop (let z : length t - suc k ≡ length t - (k + 1) = omega arith in rw z e) in rw f)
 
@@ -129,13 +130,13 @@ module _ (t : List ℕ) (st : State) (k : ℕ) where
       unfolding skip
       laid-text = text ∙ ap₂ (λ (s : State) (xs : List ℕ). bitsOver s (spellTxt high xs)) (skipped-to .laid) same
 
-      pub string-no : R ≡ No → ran t st k string ≡ gone
+      pub string-no : R ≡ No → ran t st k string ≡ cannot
       unfolding writtenOver
       string-no e = spelling (omega arith) ∙ go (spellTxt high (take n ns)) (ap (got u′) (sym e) ∙ laid-text)
         where
-          go : (b : Bits) → unsunk ≡ bitsOver (lay st skip) b → writtenOver st k (adjoin [] skip (put (n ∷ take n ns) b (drop n ns))) ≡ gone
-          go none q = refl
-          go (spelt bs) q = clash cc
+          go : (b : Possible (List Bool)) → cannot ≡ bitsOver (lay st skip) b → writtenOver st k (adjoin [] skip (put (n ∷ take n ns) b (drop n ns))) ≡ cannot
+          go cannot q = refl
+          go (this bs) q = clash cc
 
       pub string-in : (s : Sink) → R ≡ In s → ran t st k string ≡ ends (at u′ s) to
       unfolding writtenOver n ns
@@ -144,8 +145,8 @@ module _ (t : List ℕ) (st : State) (k : ℕ) where
           index : k + suc (length (take n ns)) ≡ to
           index = omega (arith, length-take-le n ns (rw length-drop (omega arith)))
 
-          go : (b : Bits) → sunk (at u′ s) ≡ bitsOver (lay st skip) b → writtenOver st k (adjoin [] skip (put (n ∷ take n ns) b (drop n ns))) ≡ ends (at u′ s) to
-          go none q = clash cc
-          go (spelt bs) q =
+          go : (b : Possible (List Bool)) → this (at u′ s) ≡ bitsOver (lay st skip) b → writtenOver st k (adjoin [] skip (put (n ∷ take n ns) b (drop n ns))) ≡ ends (at u′ s) to
+          go cannot q = clash cc
+          go (this bs) q =
               let z : lay (lay st skip) bs ≡ at u′ s = cc in
               ap₂ ends (lay-append st skip bs ∙ z) index
