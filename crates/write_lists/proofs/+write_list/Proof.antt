@@ -56,7 +56,7 @@ write-list-μ-loop level depths out₀ table from classes place₀ index₀ out 
 -- the tag of this turn
 tag-at : (t : ℕ) (c : write-list-lts.After-at-level (calls t) (write-list-at t) write-list.Post write-list-Inv-loop write-list-μ-loop)
     → Tag (c .before .before .before .before .before .before .before .before .before .args .level) (now (c .before .before .before .before .before .before .before .before .before .args .table)) (c .before .before .before .before .before .loop .index) (getD (now (c .before .before .before .before .before .before .before .before .before .args .table)) (c .before .before .before .before .before .loop .index) 0) (c .at-level .result)
-tag-at t c = record { there = c .before .before .before .before .loop-test .taken; is = refl; low = omega (arith, c .before .before .if1 .depths); classed = c .at-level .ensures ∙ class-at _ (c .before .before .before .before .before .before .all .ensures) _ _ _ _ _ refl refl (omega (arith, c .before .before .if1 .depths)) }
+tag-at t c = record { there = c .before .before .before .before .loop-test .taken; is = refl; low = omega (arith, c .before .before .if1 .left); classed = c .at-level .ensures ∙ class-at _ (c .before .before .before .before .before .before .all .ensures) _ _ _ _ _ refl refl (omega (arith, c .before .before .if1 .left)) }
 
 -- it is a container
 holds-at : (t : ℕ) (c : write-list-lts.Then2 (calls t) (write-list-at t) write-list.Post write-list-Inv-loop write-list-μ-loop)
@@ -66,10 +66,10 @@ holds-at t c = sym (c .before .holds-list .ensures) ∙ c .if2 .taken
 -- and a depth is left
 some-at : (t : ℕ) (c : write-list-lts.Else3 (calls t) (write-list-at t) write-list.Post write-list-Inv-loop write-list-μ-loop)
     → (c .before .before .before .before .before .before .before .before .before .before .before .before .args .depths) ≡ 0 → ⊥
-some-at t c = λ e. omega (arith, c .if3 .depths)
+some-at t c = λ e. omega (arith, c .if3 .left)
 
 -- its own values stand
-begun-at : (t : ℕ) (c : write-list-lts.After-b (calls t) (write-list-at t) write-list.Post write-list-Inv-loop write-list-μ-loop)
+begun-at : (t : ℕ) (c : write-list-lts.After-begun (calls t) (write-list-at t) write-list.Post write-list-Inv-loop write-list-μ-loop)
     → this (stood (c .before .before .before .before .begin-tag .last .1 .1 .0) (c .begun .given .0 .0 .0) (c .begun .given .0 .1 .0)) ≡ over (c .before .before .before .before .before .before .before .before .before .before .before .before .before .before .loop .out) ((c .before .before .before .before .before .before .before .before .before .before .before .before .before .before .loop .place .0) + 2) (c .before .before .before .before .before .before .before .before .before .before .before .before .before .before .loop .index) (begun (c .before .before .before .before .before .before .before .before .before .at-level .result) (drop (c .before .before .before .before .before .before .before .before .before .before .before .before .before .before .loop .index) (now (c .before .before .before .before .before .before .before .before .before .before .before .before .before .before .before .before .before .before .args .table))))
 begun-at t c = ap (stoodAs (c .before .before .before .before .begin-tag .last .1 .1 .0)) (sym (c .begun .given .1)) ∙ c .before .before .before .before .begin-tag .ensures
 
@@ -84,17 +84,17 @@ shut-at : (t : ℕ) (c : write-list-lts.After-shut (calls t) (write-list-at t) w
 shut-at t c = c .shut .ensures ∙ held-shut (tag-at t (c .before .before .before .before .before .before .before .before .before .before .before .before .before .before .before .before)) (c .before .before .before .before .before .before .before .before .before .before .before .before .before .before .before .before .before .before .before .before .before .loop .out) (c .before .before .before .before .before .before .before .before .before .before .before .before .before .before .before .before .before .before .before .before .before .before .before .before .before .args .depths) (c .before .before .before .before .before .before .before .before .before .before .before .before .before .before .before .before .before .before .before .before .before .loop .place .0) (holds-at t (c .before .before .before .before .before .before .before .before .before .before .before .before .before .before)) (some-at t (c .before .before .before .before .before .before .before .before .before .before .before .before .before)) (c .before .before .before .before .write-list .last .1 .1 .0) (c .before .before .before .before .write-list .result) (listed-at t (c .before .before .before .before))
 
 -- the next place and index
-held-at : (t : ℕ) (c : write-list-lts.After-w (calls t) (write-list-at t) write-list.Post write-list-Inv-loop write-list-μ-loop)
+held-at : (t : ℕ) (c : write-list-lts.After-wrote (calls t) (write-list-at t) write-list.Post write-list-Inv-loop write-list-μ-loop)
     → this (stood (c .before .before .before .before .shut .last .0) (c .wrote .given .0 .0 .0) (c .wrote .given .0 .1 .0)) ≡ over (c .before .before .before .before .before .before .before .before .before .before .before .before .before .before .before .before .before .before .before .before .before .before .before .before .before .loop .out) (c .before .before .before .before .before .before .before .before .before .before .before .before .before .before .before .before .before .before .before .before .before .before .before .before .before .loop .place .0) (c .before .before .before .before .before .before .before .before .before .before .before .before .before .before .before .before .before .before .before .before .before .before .before .before .before .loop .index) (shut (getD (now (c .before .before .before .before .before .before .before .before .before .before .before .before .before .before .before .before .before .before .before .before .before .before .before .before .before .before .before .before .before .args .table)) (c .before .before .before .before .before .before .before .before .before .before .before .before .before .before .before .before .before .before .before .before .before .before .before .before .before .loop .index) 0) (inner (c .before .before .before .before .before .before .before .before .before .before .before .before .before .before .before .before .before .before .before .before .before .before .before .before .before .before .before .before .before .args .level) (c .before .before .before .before .before .before .before .before .before .before .before .before .before .before .before .before .before .before .before .before .at-level .result) (c .before .before .before .before .before .before .before .before .before .before .before .before .before .before .before .before .before .before .before .before .before .before .before .before .before .before .before .before .before .args .depths) (drop (c .before .before .before .before .before .before .before .before .before .before .before .before .before .before .before .before .before .before .before .before .before .before .before .before .before .loop .index) (now (c .before .before .before .before .before .before .before .before .before .before .before .before .before .before .before .before .before .before .before .before .before .before .before .before .before .before .before .before .before .args .table)))))
 held-at t c = ap (stoodAs (c .before .before .before .before .shut .last .0)) (sym (c .wrote .given .1)) ∙ shut-at t (c .before .before .before .before)
 
 -- the tag is no container
 leaf-at : (t : ℕ) (c : write-list-lts.Else2 (calls t) (write-list-at t) write-list.Post write-list-Inv-loop write-list-μ-loop)
     → contains (c .before .before .at-level .result) ≡ false
-leaf-at t c = sym (c .before .holds-list .ensures) ∙ c .if2 .depths
+leaf-at t c = sym (c .before .holds-list .ensures) ∙ c .if2 .left
 
 -- it stands whole
-whole-at : (t : ℕ) (c : write-list-lts.After-w2 (calls t) (write-list-at t) write-list.Post write-list-Inv-loop write-list-μ-loop)
+whole-at : (t : ℕ) (c : write-list-lts.After-wrote2 (calls t) (write-list-at t) write-list.Post write-list-Inv-loop write-list-μ-loop)
     → this (stood (c .before .before .before .before .write-leaf .last .1 .1 .0) (c .wrote2 .given .0 .0 .0) (c .wrote2 .given .0 .1 .0)) ≡ over (c .before .before .before .before .before .before .before .before .before .before .before .before .before .loop .out) (c .before .before .before .before .before .before .before .before .before .before .before .before .before .loop .place .0) (c .before .before .before .before .before .before .before .before .before .before .before .before .before .loop .index) (shut (getD (now (c .before .before .before .before .before .before .before .before .before .before .before .before .before .before .before .before .before .args .table)) (c .before .before .before .before .before .before .before .before .before .before .before .before .before .loop .index) 0) (begun (c .before .before .before .before .before .before .before .before .at-level .result) (drop (c .before .before .before .before .before .before .before .before .before .before .before .before .before .loop .index) (now (c .before .before .before .before .before .before .before .before .before .before .before .before .before .before .before .before .before .args .table)))))
 whole-at t c = ap (stoodAs (c .before .before .before .before .write-leaf .last .1 .1 .0)) (sym (c .wrote2 .given .1)) ∙ c .before .before .before .before .write-leaf .ensures
 
@@ -119,7 +119,7 @@ write-list-returns : (t : ℕ) → write-list-lts.Need-returns (calls t) (write-
 write-list-returns t c = turn-high (c .before .before .before .before .before .before .before .args .level) (now (c .before .before .before .before .before .before .before .args .table)) (c .before .before .before .loop .out) (c .before .before .before .before .before .before .before .args .depths) (c .before .before .before .loop .place .0) (c .before .before .before .loop .index) (c .before .before .loop-test .taken) (omega (arith, c .if1 .taken)) ∙ sym (c .before .before .before .loop .inv .3)
 
 write-list-cast-code : (t : ℕ) → write-list-lts.Need-cast-code (calls t) (write-list-at t) write-list.Post write-list-Inv-loop write-list-μ-loop
-write-list-cast-code t c = omega (arith, c .if1 .depths)
+write-list-cast-code t c = omega (arith, c .if1 .left)
 
 write-list-cast-listed : (t : ℕ) → write-list-lts.Need-cast-listed (calls t) (write-list-at t) write-list.Post write-list-Inv-loop write-list-μ-loop
 write-list-cast-listed t c = search needs
@@ -131,7 +131,7 @@ write-list-mul-listed : (t : ℕ) → write-list-lts.Need-mul-listed (calls t) (
 write-list-mul-listed t c = search needs
 
 write-list-index-1-listed : (t : ℕ) → write-list-lts.Need-index-1-listed (calls t) (write-list-at t) write-list.Post write-list-Inv-loop write-list-μ-loop
-write-list-index-1-listed t c = omega (arith, c .if1 .depths)
+write-list-index-1-listed t c = omega (arith, c .if1 .left)
 
 write-list-index-2-listed : (t : ℕ) → write-list-lts.Need-index-2-listed (calls t) (write-list-at t) write-list.Post write-list-Inv-loop write-list-μ-loop
 write-list-index-2-listed t c = omega arith
@@ -164,14 +164,14 @@ write-list-returns-3 : (t : ℕ) → write-list-lts.Need-returns-3 (calls t) (wr
 write-list-returns-3 t c = ap (stoodAs (c .before .before .before .before .begin-tag .last .1 .1 .0)) (c .enum-told .given .1) ∙ held-fell (tag-at t (c .before .before .before .before .before .before .before .before .before)) (c .before .before .before .before .before .before .before .before .before .before .before .before .before .before .loop .out) (c .before .before .before .before .before .before .before .before .before .before .before .before .before .before .before .before .before .before .args .depths) (c .before .before .before .before .before .before .before .before .before .before .before .before .before .before .loop .place .0) (holds-at t (c .before .before .before .before .before .before .before)) (some-at t (c .before .before .before .before .before .before)) (ap (stoodAs (c .before .before .before .before .begin-tag .last .1 .1 .0)) (sym (c .enum-told .given .1)) ∙ c .before .before .before .before .begin-tag .ensures) ∙ sym (c .before .before .before .before .before .before .before .before .before .before .before .before .before .before .loop .inv .3)
 
 write-list-sub-write-list : (t : ℕ) → write-list-lts.Need-sub-write-list (calls t) (write-list-at t) write-list.Post write-list-Inv-loop write-list-μ-loop
-write-list-sub-write-list t c = omega (arith, c .before .before .before .before .before .before .before .if3 .depths)
+write-list-sub-write-list t c = omega (arith, c .before .before .before .before .before .before .before .if3 .left)
 
 write-list-write-list-requires : (t : ℕ) → write-list-lts.Need-write-list-requires (calls t) (write-list-at t) write-list.Post write-list-Inv-loop write-list-μ-loop
 write-list-write-list-requires t c κs = let h = stood-index (now (c .before .before .before .before .before .before .before .before .before .before .before .before .before .before .before .before .before .before .before .before .args .table)) (c .before .before .before .before .before .before .before .before .before .before .before .before .before .before .before .before .loop .out) ((c .before .before .before .before .before .before .before .before .before .before .before .before .before .before .before .before .loop .place .0) + 2) (c .before .before .before .before .before .before .before .before .before .before .before .before .before .before .before .before .loop .index) (c .before .before .before .before .before .before .begin-tag .last .1 .1 .0) _ _ (begun (c .before .before .before .before .before .before .before .before .before .before .before .at-level .result) (drop (c .before .before .before .before .before .before .before .before .before .before .before .before .before .before .before .before .loop .index) (now (c .before .before .before .before .before .before .before .before .before .before .before .before .before .before .before .before .before .before .before .before .args .table)))) (omega (arith, c .before .before .before .before .before .before .before .before .before .before .before .before .before .before .before .loop-test .taken)) (parts-begun (c .before .before .before .before .before .before .before .before .before .before .before .at-level .result) (drop (c .before .before .before .before .before .before .before .before .before .before .before .before .before .before .before .before .loop .index) (now (c .before .before .before .before .before .before .before .before .before .before .before .before .before .before .before .before .before .before .before .before .args .table)))) (begun-at t (c .before .before)) in
-    (omega (arith, c .before .before .before .before .before .before .before .before .before .before .before .before .before .before .before .before .before .before .before .before .pre .0, c .before .before .before .before .before .before .before .before .if3 .depths), (h .3, h .1))
+    (omega (arith, c .before .before .before .before .before .before .before .before .before .before .before .before .before .before .before .before .before .before .before .before .pre .0, c .before .before .before .before .before .before .before .before .if3 .left), (h .3, h .1))
 
 write-list-shut-requires : (t : ℕ) → write-list-lts.Need-shut-requires (calls t) (write-list-at t) write-list.Post write-list-Inv-loop write-list-μ-loop
-write-list-shut-requires t c κs = (shut-after (c .before .before .before .before .before .before .before .before .before .before .before .before .before .before .before .before .before .before .before .before .loop .out) (c .before .before .before .write-list .last .1 .1 .0) (c .before .before .before .before .before .before .before .before .before .before .before .before .before .before .before .before .before .before .before .before .loop .place .0) (c .before .before .before .before .before .before .before .before .before .before .before .before .before .before .before .before .before .before .before .before .loop .index) (c .before .before .before .write-list .result) (inner (c .before .before .before .before .before .before .before .before .before .before .before .before .before .before .before .before .before .before .before .before .before .before .before .before .args .level) (c .before .before .before .before .before .before .before .before .before .before .before .before .before .before .before .at-level .result) (c .before .before .before .before .before .before .before .before .before .before .before .before .before .before .before .before .before .before .before .before .before .before .before .before .args .depths) (drop (c .before .before .before .before .before .before .before .before .before .before .before .before .before .before .before .before .before .before .before .before .loop .index) (now (c .before .before .before .before .before .before .before .before .before .before .before .before .before .before .before .before .before .before .before .before .before .before .before .before .args .table)))) (listed-at t (c .before .before .before)), omega (arith, c .before .before .before .before .before .before .before .before .before .before .before .before .before .before .before .before .before .if1 .depths))
+write-list-shut-requires t c κs = (shut-after (c .before .before .before .before .before .before .before .before .before .before .before .before .before .before .before .before .before .before .before .before .loop .out) (c .before .before .before .write-list .last .1 .1 .0) (c .before .before .before .before .before .before .before .before .before .before .before .before .before .before .before .before .before .before .before .before .loop .place .0) (c .before .before .before .before .before .before .before .before .before .before .before .before .before .before .before .before .before .before .before .before .loop .index) (c .before .before .before .write-list .result) (inner (c .before .before .before .before .before .before .before .before .before .before .before .before .before .before .before .before .before .before .before .before .before .before .before .before .args .level) (c .before .before .before .before .before .before .before .before .before .before .before .before .before .before .before .at-level .result) (c .before .before .before .before .before .before .before .before .before .before .before .before .before .before .before .before .before .before .before .before .before .before .before .before .args .depths) (drop (c .before .before .before .before .before .before .before .before .before .before .before .before .before .before .before .before .before .before .before .before .loop .index) (now (c .before .before .before .before .before .before .before .before .before .before .before .before .before .before .before .before .before .before .before .before .before .before .before .before .args .table)))) (listed-at t (c .before .before .before)), omega (arith, c .before .before .before .before .before .before .before .before .before .before .before .before .before .before .before .before .before .if1 .left))
 
 write-list-enum-known-w : (t : ℕ) → write-list-lts.Need-enum-known-wrote (calls t) (write-list-at t) write-list.Post write-list-Inv-loop write-list-μ-loop
 write-list-enum-known-w t c = search needs
@@ -193,7 +193,7 @@ write-list-loop-again t c = let x = tag-index (tag-at t (c .before .before .befo
     (c .before .before .before .before .before .shut .kept .0 ∙ c .before .before .before .before .before .before .before .before .before .write-list .kept .1 .1 .0 ∙ c .before .before .before .before .before .before .before .before .before .before .before .before .before .before .before .before .begin-tag .kept .1 .1 .0 ∙ c .before .before .before .before .before .before .before .before .before .before .before .before .before .before .before .before .before .before .before .before .before .before .before .before .before .before .loop .inv .0, x .2, x .0, c .before .before .before .before .before .before .before .before .before .before .before .before .before .before .before .before .before .before .before .before .before .before .before .before .before .before .loop .inv .3 ∙ held-more (tag-at t (c .before .before .before .before .before .before .before .before .before .before .before .before .before .before .before .before .before .before .before .before .before)) (c .before .before .before .before .before .before .before .before .before .before .before .before .before .before .before .before .before .before .before .before .before .before .before .before .before .before .loop .out) (c .before .before .before .before .before .before .before .before .before .before .before .before .before .before .before .before .before .before .before .before .before .before .before .before .before .before .before .before .before .before .args .depths) (c .before .before .before .before .before .before .before .before .before .before .before .before .before .before .before .before .before .before .before .before .before .before .before .before .before .before .loop .place .0) (holds-at t (c .before .before .before .before .before .before .before .before .before .before .before .before .before .before .before .before .before .before .before)) (some-at t (c .before .before .before .before .before .before .before .before .before .before .before .before .before .before .before .before .before .before)) (held-at t (c .before)))
 
 write-list-write-leaf-requires : (t : ℕ) → write-list-lts.Need-write-leaf-requires (calls t) (write-list-at t) write-list.Post write-list-Inv-loop write-list-μ-loop
-write-list-write-leaf-requires t c κs = (c .before .before .before .before .before .before .before .before .loop .inv .1, c .before .before .before .before .before .before .before .loop-test .taken, refl, omega (arith, c .before .before .before .before .before .if1 .depths))
+write-list-write-leaf-requires t c κs = (c .before .before .before .before .before .before .before .before .loop .inv .1, c .before .before .before .before .before .before .before .loop-test .taken, refl, omega (arith, c .before .before .before .before .before .if1 .left))
 
 write-list-enum-known-w-2 : (t : ℕ) → write-list-lts.Need-enum-known-wrote-2 (calls t) (write-list-at t) write-list.Post write-list-Inv-loop write-list-μ-loop
 write-list-enum-known-w-2 t c = search needs
@@ -221,13 +221,13 @@ write-list-loop-less-2 t c = let x = tag-index (tag-at t (c .before .before .bef
 
 write-list-loop-again-2 : (t : ℕ) → write-list-lts.Need-loop-again-2 (calls t) (write-list-at t) write-list.Post write-list-Inv-loop write-list-μ-loop
 write-list-loop-again-2 t c = let x = tag-index (tag-at t (c .before .before .before .before .before .before .before .before .before .before .before)) (c .before .before .before .before .before .before .before .before .before .before .before .before .before .before .before .before .loop .out) (c .before .before .before .before .before .before .before .before .before .before .before .before .before .before .before .before .before .before .before .before .args .depths) (c .before .before .before .before .before .before .before .before .before .before .before .before .before .before .before .before .loop .place .0) (begun (c .before .before .before .before .before .before .before .before .before .before .before .at-level .result) (drop (c .before .before .before .before .before .before .before .before .before .before .before .before .before .before .before .before .loop .index) (now (c .before .before .before .before .before .before .before .before .before .before .before .before .before .before .before .before .before .before .before .before .args .table)))) (parts-begun (c .before .before .before .before .before .before .before .before .before .before .before .at-level .result) (drop (c .before .before .before .before .before .before .before .before .before .before .before .before .before .before .before .before .loop .index) (now (c .before .before .before .before .before .before .before .before .before .before .before .before .before .before .before .before .before .before .before .before .args .table)))) (c .before .before .before .before .before .before .before .write-leaf .last .1 .1 .0) _ _ (whole-at t (c .before .before .before)) in
-    (c .before .before .before .before .before .before .before .write-leaf .kept .1 .1 .0 ∙ c .before .before .before .before .before .before .before .before .before .before .before .before .before .before .before .before .loop .inv .0, x .2, x .0, c .before .before .before .before .before .before .before .before .before .before .before .before .before .before .before .before .loop .inv .3 ∙ leaf-more (tag-at t (c .before .before .before .before .before .before .before .before .before .before .before)) (c .before .before .before .before .before .before .before .before .before .before .before .before .before .before .before .before .loop .out) (c .before .before .before .before .before .before .before .before .before .before .before .before .before .before .before .before .before .before .before .before .args .depths) (c .before .before .before .before .before .before .before .before .before .before .before .before .before .before .before .before .loop .place .0) (leaf-at t (c .before .before .before .before .before .before .before .before .before)) (sym (c .before .ends-list .ensures) ∙ c .if4 .depths) (whole-at t (c .before .before .before)))
+    (c .before .before .before .before .before .before .before .write-leaf .kept .1 .1 .0 ∙ c .before .before .before .before .before .before .before .before .before .before .before .before .before .before .before .before .loop .inv .0, x .2, x .0, c .before .before .before .before .before .before .before .before .before .before .before .before .before .before .before .before .loop .inv .3 ∙ leaf-more (tag-at t (c .before .before .before .before .before .before .before .before .before .before .before)) (c .before .before .before .before .before .before .before .before .before .before .before .before .before .before .before .before .loop .out) (c .before .before .before .before .before .before .before .before .before .before .before .before .before .before .before .before .before .before .before .before .args .depths) (c .before .before .before .before .before .before .before .before .before .before .before .before .before .before .before .before .loop .place .0) (leaf-at t (c .before .before .before .before .before .before .before .before .before)) (sym (c .before .ends-list .ensures) ∙ c .if4 .left) (whole-at t (c .before .before .before)))
 
 write-list-same-length-7 : (t : ℕ) → write-list-lts.Need-same-length-7 (calls t) (write-list-at t) write-list.Post write-list-Inv-loop write-list-μ-loop
 write-list-same-length-7 t c = c .before .loop .inv .0
 
 write-list-returns-7 : (t : ℕ) → write-list-lts.Need-returns-7 (calls t) (write-list-at t) write-list.Post write-list-Inv-loop write-list-μ-loop
-write-list-returns-7 t c = rest-none (c .before .before .before .before .before .args .level) (now (c .before .before .before .before .before .args .table)) (c .before .loop .out) (c .before .before .before .before .before .args .depths) (c .before .loop .place .0) (c .before .loop .index) (c .loop-test .depths) ∙ sym (c .before .loop .inv .3)
+write-list-returns-7 t c = rest-none (c .before .before .before .before .before .args .level) (now (c .before .before .before .before .before .args .table)) (c .before .loop .out) (c .before .before .before .before .before .args .depths) (c .before .loop .place .0) (c .before .loop .index) (c .loop-test .left) ∙ sym (c .before .loop .inv .3)
 
 pub +write-list-spec : {M : Type 1} → statement M
 +write-list-spec = close μ-write-list λ t. write-list-lts.spec (calls t)
