@@ -50,10 +50,18 @@ pub fn next_byte(at: BitPlace) -> Whole
     requires { ⌜ at .0 < 2 ^ 63 ⌝ }
     ensures { λ r. ⌜ (r .bit .0 ≡ at .0 + skipped (at .0)) × (r .bit .0 ≡ 8 * r .byte .0) ⌝ }
 {
-    let byte = (at.0 + 7) / 8;
+    let place = at.0;
+    let byte = place / 8;
+    let used = place % 8;
+    if used == 0 {
+        return Whole {
+            byte: BytePlace(byte),
+            bit: BitPlace(place),
+        };
+    }
     Whole {
-        byte: BytePlace(byte),
-        bit: BitPlace(8 * byte),
+        byte: BytePlace(byte + 1),
+        bit: BitPlace(place + (8 - used)),
     }
 }
 
