@@ -79,13 +79,17 @@ pub fn align(bytes: &[u8], at: BitPlace) -> Aligned
     ensures { λ r. ⌜ r ≡ alignedAt (now (bytes .entry)) (at .0) ⌝ }
 {
     let place = at.0;
+    // Nearly every item starts on a whole byte. Asked first, this makes the function between the two counts as cheap as a shift.
+    if place % 8 == 0 {
+        let whole = next_byte(at);
+        let start = whole.byte;
+        let first = whole.bit;
+        return Aligned::Clean(start, first);
+    }
     let whole = next_byte(at);
     let start = whole.byte;
     let first = whole.bit;
     let skipped = first.0 - place;
-    if skipped == 0 {
-        return Aligned::Clean(start, first);
-    }
     if fields::cut(byte_at(bytes, place / 8), 0, skipped as u64) == 0 {
         Aligned::Clean(start, first)
     } else {

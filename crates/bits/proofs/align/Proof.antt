@@ -11,28 +11,31 @@ use Rattle.bits.proofs.align.Tie as tie
 next-byte-requires : tie.Need-next-byte-requires
 next-byte-requires c κs = search needs
 
-sub-skipped : tie.Need-sub-skipped
-sub-skipped c = omega (arith, c .before .before .before .next-byte .ensures .0)
-
 returns : tie.Need-returns
 returns c =
-    let w = c .before .before .before .before .next-byte .ensures in
-    let e = c .if1 .taken in
-    aligned-clean (now (c .before .before .before .before .before .before .args .bytes)) (c .before .before .before .before .before .before .args .at .0) 0 (omega (arith, w .0, e)) (ub-none _ _) (omega (arith, w .0, e)) (w .1)
+    let w = c .before .before .next-byte .ensures in
+    let e = c .before .before .before .if1 .taken in
+    aligned-clean (now (c .before .before .before .before .before .args .bytes)) (c .before .before .before .before .before .args .at .0) 0 (omega (arith, e)) (ub-none _ _) (omega (arith, w .0, e)) (w .1)
+
+next-byte-requires-2 : tie.Need-next-byte-requires-2
+next-byte-requires-2 c κs = search needs
+
+sub-skipped : tie.Need-sub-skipped
+sub-skipped c = search needs
 
 byte-at-requires : tie.Need-byte-at-requires
 byte-at-requires c κs = search needs
 
 cut-requires : tie.Need-cut-requires
-cut-requires c κs = (omega arith, omega (arith, c .before .before .before .before .before .next-byte .ensures .0))
+cut-requires c κs = search needs
 
 returns-2 : tie.Need-returns-2
 returns-2 c =
     let b = now (c .before .before .before .before .before .before .before .before .before .args .bytes) in
     let p = c .before .before .before .before .before .before .before .before .before .args .at .0 in
-    let w = c .before .before .before .before .before .before .before .next-byte .ensures in
-    let n = c .before .before .before .before .before .before .before .next-byte .result .bit .0 - p in
-    let l = c .before .before .before .if1 .left in
+    let w = c .before .before .before .before .before .before .next-byte2 .ensures in
+    let n = c .before .before .before .before .before .before .next-byte2 .result .bit .0 - p in
+    let l = c .before .before .before .before .before .before .before .if1 .left in
     let e = ub-rest b p n (c .before .before .byte-at .ensures) (omega (arith, w .0, l)) (c .before .cut .ensures .0) in
     aligned-clean b p n (omega (arith, w .0)) (e ∙ c .if2 .taken) (omega (arith, w .0)) (w .1)
 
@@ -40,9 +43,9 @@ returns-3 : tie.Need-returns-3
 returns-3 c =
     let b = now (c .before .before .before .before .before .before .before .before .before .args .bytes) in
     let p = c .before .before .before .before .before .before .before .before .before .args .at .0 in
-    let w = c .before .before .before .before .before .before .before .next-byte .ensures in
-    let n = c .before .before .before .before .before .before .before .next-byte .result .bit .0 - p in
-    let l = c .before .before .before .if1 .left in
+    let w = c .before .before .before .before .before .before .next-byte2 .ensures in
+    let n = c .before .before .before .before .before .before .next-byte2 .result .bit .0 - p in
+    let l = c .before .before .before .before .before .before .before .if1 .left in
     let e = ub-rest b p n (c .before .before .byte-at .ensures) (omega (arith, w .0, l)) (c .before .cut .ensures .0) in
     aligned-unclean b p n (omega (arith, w .0)) (λ z. c .if2 .left (sym e ∙ z))
 
@@ -51,8 +54,9 @@ align-spec =
     tie.close
     (tie.spec
     next-byte-requires
-    sub-skipped
     returns
+    next-byte-requires-2
+    sub-skipped
     byte-at-requires
     cut-requires
     returns-2
