@@ -212,7 +212,7 @@ oneTag o class R left c a r (head code len size) =
     (afterTag (isEnd (class code)) c (a + size + len) (drop (size + len) r) (R left c))
 
 -- the list at place a, whose room is r. Room that is used up without End is 7.
--- k bounds the number of tags; it does not matter if it is at least the room's length: `list-one` of proofs/ListLaws is this rule without it.
+-- k bounds the number of tags; it does not matter if it is at least the room's length: `list-nil` and `list-one` of proofs/ListLaws are this rule without it.
 unfoldable pub walk : Order → (ℕ → Class) → ℕ → ℕ → Owner → ℕ → List ℕ → Walk
 walk o class zero left c a r = broken 7 (blame c a)
 walk o class (suc k) left c a [] = broken 7 (blame c a)
