@@ -73,26 +73,20 @@ pub fn first_bit(at: BytePlace) -> BitPlace
     BitPlace(8 * at.0)
 }
 
-// The next whole byte: skipped bits are zero.
+// The next whole byte: the bits up to it are skipped, and zero.
 pub fn align(bytes: &[u8], at: BitPlace) -> Aligned
     requires { ⌜ PlaceIn (now bytes) (at .0) ⌝ }
     ensures { λ r. ⌜ r ≡ alignedAt (now (bytes .entry)) (at .0) ⌝ }
 {
     let place = at.0;
-    // Nearly every item starts on a whole byte. Asked first, this makes the function between the two counts as cheap as a shift.
-    if place % 8 == 0 {
-        let whole = next_byte(at);
-        let start = whole.byte;
-        let first = whole.bit;
-        return Aligned::Clean(start, first);
+    let used = place % 8;
+    if used != 0 {
+        if fields::cut(byte_at(bytes, place / 8), 0, (8 - used) as u64) != 0 {
+            return Aligned::Unclean;
+        }
     }
     let whole = next_byte(at);
     let start = whole.byte;
     let first = whole.bit;
-    let skipped = first.0 - place;
-    if fields::cut(byte_at(bytes, place / 8), 0, skipped as u64) == 0 {
-        Aligned::Clean(start, first)
-    } else {
-        Aligned::Unclean
-    }
+    Aligned::Clean(start, first)
 }

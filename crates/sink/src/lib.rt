@@ -75,13 +75,10 @@ pub fn align(out: &mut [u8], sink: Sink) -> Whole
     ensures { λ r. ⌜ Skipped (under (now (out .entry)) sink) (now (out .exit)) (r .byte .0) (r .bit .0) ⌝ }
 {
     let place = sink.place.0;
-    // Asked first, as the reader's does.
-    if place % 8 == 0 {
-        return bits::next_byte(sink.place);
+    let used = place % 8;
+    if used != 0 {
+        let begun = sink.part;
+        put_byte(out, place / 8, begun * power(8 - used));
     }
-    let begun = sink.part;
-    let whole = bits::next_byte(sink.place);
-    let skipped = whole.bit.0 - place;
-    put_byte(out, place / 8, begun * power(skipped));
-    whole
+    bits::next_byte(sink.place)
 }
