@@ -80,10 +80,15 @@ pub fn align(bytes: &[u8], at: BitPlace) -> Aligned
 {
     let place = at.0;
     let used = place % 8;
-    if used != 0 {
-        if fields::cut(byte_at(bytes, place / 8), 0, (8 - used) as u64) != 0 {
-            return Aligned::Unclean;
-        }
+    // Nearly every item starts on a whole byte, and the compiler makes a shift of the call where it knows that.
+    if used == 0 {
+        let whole = next_byte(at);
+        let start = whole.byte;
+        let first = whole.bit;
+        return Aligned::Clean(start, first);
+    }
+    if fields::cut(byte_at(bytes, place / 8), 0, (8 - used) as u64) != 0 {
+        return Aligned::Unclean;
     }
     let whole = next_byte(at);
     let start = whole.byte;

@@ -76,9 +76,11 @@ pub fn align(out: &mut [u8], sink: Sink) -> Whole
 {
     let place = sink.place.0;
     let used = place % 8;
-    if used != 0 {
-        let begun = sink.part;
-        put_byte(out, place / 8, begun * power(8 - used));
+    // Asked first, as the reader does.
+    if used == 0 {
+        return bits::next_byte(sink.place);
     }
+    let begun = sink.part;
+    put_byte(out, place / 8, begun * power(8 - used));
     bits::next_byte(sink.place)
 }

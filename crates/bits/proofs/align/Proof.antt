@@ -3,11 +3,19 @@ use denote.Ref.{now}
 use mathlib.Core.Path.{sym, _∙_}
 use Prim.Native.Nat.{_-_, _%_}
 use native.Mathlib.Omega.{arith}
-use mathlib.Core.Logic.{⊎-elim}
 use Rattle.bits.proofs.FieldLaws.{ub-none, ub-rest, aligned-clean, aligned-unclean}
 use borrow.Author.Needs.{needs}
 use Rattle.bits.proofs.align.Statement.{statement}
 use Rattle.bits.proofs.align.Tie as tie
+
+next-byte-requires : tie.Need-next-byte-requires
+next-byte-requires c κs = search needs
+
+returns : tie.Need-returns
+returns c =
+    let w = c .before .before .next-byte .ensures in
+    let e = c .before .before .before .if1 .taken in
+    aligned-clean (now (c .before .before .before .before .before .args .bytes)) (c .before .before .before .before .before .args .at .0) 0 (omega (arith, e)) (ub-none _ _) (omega (arith, w .0, e)) (w .1)
 
 byte-at-requires : tie.Need-byte-at-requires
 byte-at-requires c κs = search needs
@@ -18,29 +26,24 @@ sub-cut c = search needs
 cut-requires : tie.Need-cut-requires
 cut-requires c κs = search needs
 
-returns : tie.Need-returns
-returns c =
-    let b = now (c .before .before .before .before .before .args .bytes) in
-    let p = c .before .before .before .before .before .args .at .0 in
-    let u = c .before .before .before .if1 .taken in
-    let e = ub-rest b p (8 - p % 8) (c .before .before .byte-at .ensures) (omega arith) (c .before .cut .ensures .0) in
-    aligned-unclean b p (8 - p % 8) (omega (arith, u)) (λ z. c .if2 .taken (sym e ∙ z))
-
-next-byte-requires : tie.Need-next-byte-requires
-next-byte-requires c κs = search needs
-
--- some bits were skipped, or none
 returns-2 : tie.Need-returns-2
 returns-2 c =
     let b = now (c .before .before .before .before .before .args .bytes) in
     let p = c .before .before .before .before .before .args .at .0 in
-    let w = c .before .before .next-byte .ensures in
-    ⊎-elim
-    (λ s.
-    let e = ub-rest b p (8 - p % 8) (s .1 .ensures) (omega arith) (s .2 .ensures .0) in
-    aligned-clean b p (8 - p % 8) (omega (arith, s .0 .taken)) (e ∙ s .3 .left) (omega (arith, w .0, s .0 .taken)) (w .1))
-    (λ s. aligned-clean b p 0 (omega (arith, s .left)) (ub-none _ _) (omega (arith, w .0, s .left)) (w .1))
-    (c .before .before .before .if1 .came)
+    let e = ub-rest b p (8 - p % 8) (c .before .before .byte-at .ensures) (omega arith) (c .before .cut .ensures .0) in
+    aligned-unclean b p (8 - p % 8) (omega (arith, c .before .before .before .if1 .left)) (λ z. c .if2 .taken (sym e ∙ z))
+
+next-byte-requires-2 : tie.Need-next-byte-requires-2
+next-byte-requires-2 c κs = search needs
+
+returns-3 : tie.Need-returns-3
+returns-3 c =
+    let b = now (c .before .before .before .before .before .before .before .before .args .bytes) in
+    let p = c .before .before .before .before .before .before .before .before .args .at .0 in
+    let w = c .before .before .next-byte2 .ensures in
+    let l = c .before .before .before .before .before .before .if1 .left in
+    let e = ub-rest b p (8 - p % 8) (c .before .before .before .before .before .byte-at .ensures) (omega arith) (c .before .before .before .before .cut .ensures .0) in
+    aligned-clean b p (8 - p % 8) (omega (arith, l)) (e ∙ c .before .before .before .if2 .left) (omega (arith, w .0, l)) (w .1)
 
 pub align-spec : {M : Type 1} → statement M
-align-spec = tie.close (tie.spec byte-at-requires sub-cut cut-requires returns next-byte-requires returns-2)
+align-spec = tie.close (tie.spec next-byte-requires returns byte-at-requires sub-cut cut-requires returns-2 next-byte-requires-2 returns-3)

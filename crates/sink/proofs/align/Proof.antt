@@ -1,16 +1,16 @@
 -- `sink::align` meets its contract.
-use Prim.Native.Nat.{ℕ}
-use mathlib.Core.List.{List}
-use mathlib.Core.Path.{ap, sym, subst, _∙_}
-use mathlib.Core.Logic.{⊎-elim}
 use native.Mathlib.Omega.{arith}
 use denote.Ref.{now}
-use lib.ListN.{length, length-set}
-use Rattle.sink.specs.Laying.{mk, Skipped}
 use Rattle.sink.proofs.LayingLaws.{skip-none, skip-some, waiting-lt}
 use borrow.Author.Needs.{needs}
 use Rattle.sink.proofs.align.Statement.{statement}
 use Rattle.sink.proofs.align.Tie as tie
+
+next-byte-requires : tie.Need-next-byte-requires
+next-byte-requires c κs = search needs
+
+returns : tie.Need-returns
+returns c = skip-none (now (c .before .before .before .args .out)) (c .before .before .before .args .sink .place .0) (c .before .before .before .args .sink .part) (c .before .before .before .pre .0) (c .next-byte .ensures .0) (c .next-byte .ensures .1) (c .before .if1 .taken)
 
 sub-power : tie.Need-sub-power
 sub-power c = search needs
@@ -24,24 +24,15 @@ mul-put-byte c = omega (arith, waiting-lt (c .before .before .before .before .ar
 put-byte-requires : tie.Need-put-byte-requires
 put-byte-requires c κs = waiting-lt (c .before .before .before .before .args .sink .place .0) (c .before .before .before .before .args .sink .part) (c .power .result) (c .before .before .before .before .pre .0) (c .power .ensures .0)
 
-next-byte-requires : tie.Need-next-byte-requires
-next-byte-requires c κs = search needs
+next-byte-requires-2 : tie.Need-next-byte-requires-2
+next-byte-requires-2 c κs = search needs
 
 same-length : tie.Need-same-length
-same-length c = ⊎-elim (λ s. ap length (s .6 ∙ s .3 .ensures) ∙ length-set (now (c .before .before .before .args .out)) _ _) (λ s. ap length (s .1)) (c .before .if1 .came)
+same-length c = search needs
 
--- some zero bits were put, or none
-returns : tie.Need-returns
-returns c =
-    let o = now (c .before .before .before .args .out) in
-    let p = c .before .before .before .args .sink .place .0 in
-    let a = c .before .before .before .args .sink .part in
-    let h = c .before .before .before .pre .0 in
-    let w = c .next-byte .ensures in
-    ⊎-elim
-    (λ s. skip-some o p a h (w .0) (w .1) (s .2 .result) (s .0 .taken) (s .2 .ensures .0) (s .6 ∙ s .3 .ensures))
-    (λ s. subst (λ (u : List ℕ). Skipped (mk o p a) u (c .next-byte .result .byte .0) (c .next-byte .result .bit .0)) (sym (s .1)) (skip-none o p a h (w .0) (w .1) (s .0 .left)))
-    (c .before .if1 .came)
+returns-2 : tie.Need-returns-2
+returns-2 c =
+    skip-some (now (c .before .before .before .before .before .before .before .before .args .out)) (c .before .before .before .before .before .before .before .before .args .sink .place .0) (c .before .before .before .before .before .before .before .before .args .sink .part) (c .before .before .before .before .before .before .before .before .pre .0) (c .next-byte2 .ensures .0) (c .next-byte2 .ensures .1) (c .before .before .before .before .power .result) (c .before .before .before .before .before .before .if1 .left) (c .before .before .before .before .power .ensures .0) (c .before .before .before .put-byte .ensures)
 
 pub align-spec : {M : Type 1} → statement M
-align-spec = tie.close (tie.spec sub-power power-requires mul-put-byte put-byte-requires next-byte-requires same-length returns)
+align-spec = tie.close (tie.spec next-byte-requires returns sub-power power-requires mul-put-byte put-byte-requires next-byte-requires-2 same-length returns-2)
