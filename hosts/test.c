@@ -1,9 +1,10 @@
 /*
- * test [--checked]: calls every export of the library with good, damaged, empty and random input, the same on every run.
+ * test [--checked | --cases] CASES: calls every export of the library with good, damaged, empty and random input, the same on every run, and with the files
+ * of CASES (tests/cases.txt), each against the expectation that stands there; the two files at the size limit are run nowhere else.
  *
  * Each call is made with the input right before a page that cannot be read, and with lent memory between two guards. Checked of each: the answer and the
  * lent memory are the peer's (bench/peer.c), a refusal has changed nothing, an acceptance nothing behind its count, and no call the guards or its
- * input. --checked is for a run under a memory checker, which is slow: fewer files, and the stack is not measured.
+ * input. --checked is for a run under a memory checker, which is slow: fewer files, and the stack is not measured. --cases runs the files of CASES alone.
  */
 #define _GNU_SOURCE
 #include "files.h"
@@ -274,17 +275,106 @@ static void try_null(void)
     calls += 2;
 }
 
-/* Zeros behind a good header, at the limit and one byte above it. */
-static void try_limit(void)
+/* ------------------------------------------------------------ cases */
+
+/* A line of CASES: name | level | bytes | expected | .., where `x*n` is n times x. */
+enum { FIELDS = 4, NUMBERS = 1 << 16 };
+struct given {
+    const char *name;
+    uint32_t level;
+    size_t len, count;
+    int accepted;
+};
+static uint8_t *case_bytes;
+static uint64_t case_numbers[NUMBERS];
+
+static void bad_line(const char *name, const char *why)
 {
-    uint8_t *file = pages(PAG_FILE_MAX + 1);
-    for (size_t len = PAG_FILE_MAX; len <= PAG_FILE_MAX + 1; len++) {
-        memcpy(file, "PAG\1", 4);
-        for (unsigned i = 0; i < 4; i++) file[4 + i] = (uint8_t)(len >> (8 * i));
-        pag_answer answer = call(&READ, PAG_LEVEL_MAX, file, len, 4);
-        if (answer.reason != (len > PAG_FILE_MAX ? PAG_LENGTH_FIELD_WRONG : PAG_BYTES_AFTER_END)) fail("limit", READ.name, PAG_LEVEL_MAX, len, 4);
+    printf("case %s: %s\n", name, why);
+    exit(1);
+}
+
+/* The numbers of a field, bytes in hex or others in decimals, with their repetitions; how many. */
+static size_t numbers_of(const char *name, char *text, int base, size_t most)
+{
+    size_t count = 0;
+    for (char *word = strtok(text, " "); word; word = strtok(NULL, " ")) {
+        char *end;
+        uint64_t number = strtoull(word, &end, base);
+        uint64_t times = *end == '*' ? strtoull(end + 1, &end, 10) : 1;
+        if (*end || end == word || times > most - count) bad_line(name, "not a number, or too many of them");
+        for (; times; times--, count++)
+            if (base == 16) case_bytes[count] = (uint8_t)number;
+            else case_numbers[count] = number;
     }
-    munmap(file, PAG_FILE_MAX + 1);
+    return count;
+}
+
+/* The first fields of a line; 0 for a line that is none. */
+static int fields_of(char *line, char *field[FIELDS])
+{
+    if (line[0] == '#' || line[0] == '\n') return 0;
+    for (int i = 0; i < FIELDS; i++) {
+        char *end = strstr(line, " | ");
+        if (!end) bad_line(line, "fields are missing");
+        *end = 0;
+        field[i] = line;
+        line = end + 3;
+    }
+    return 1;
+}
+
+static struct given case_of(char *field[FIELDS])
+{
+    struct given g = {.name = field[0], .level = (uint32_t)strtoul(field[1], NULL, 10)};
+    char *rest = strchr(field[3], ' ');
+    if (!rest) bad_line(g.name, "nothing is expected");
+    *rest++ = 0;
+    g.len = numbers_of(g.name, field[2], 16, PAG_FILE_MAX + 1);
+    g.count = numbers_of(g.name, rest, 10, NUMBERS);
+    g.accepted = strcmp(field[3], "table") == 0;
+    if (!g.accepted && (strcmp(field[3], "refused") != 0 || g.count != 2)) bad_line(g.name, "neither a table nor a refusal is expected");
+    return g;
+}
+
+static void expect_refusal(const struct given *g, const struct call *c)
+{
+    pag_answer answer = call(c, g->level, case_bytes, g->len, 16);
+    if (answer.reason != case_numbers[0] || answer.number != case_numbers[1]) bad_line(g->name, "another answer is expected");
+}
+
+/* The expected table is read; it is written as the case's bytes; and both have just the room that they need. */
+static void expect_table(const struct given *g)
+{
+    size_t start = room_start();
+    pag_answer read = call(&READ, g->level, case_bytes, g->len, g->count);
+    if (read.reason || read.number != g->count || memcmp(our_room + start, case_numbers, 8 * g->count) != 0)
+        bad_line(g->name, "another table is expected");
+    start = room_start();
+    pag_answer written = call(&WRITE, g->level, case_numbers, g->count, g->len);
+    if (written.reason || written.number != g->len || memcmp(our_room + start, case_bytes, g->len) != 0)
+        bad_line(g->name, "its table is not written as its bytes");
+}
+
+static void try_cases(const char *path)
+{
+    static char line[1 << 16];
+    size_t tried = 0;
+    FILE *file = fopen(path, "r");
+    if (!file) bad_line(path, "cannot be read");
+    case_bytes = pages(PAG_FILE_MAX + 1);
+    while (fgets(line, sizeof line, file)) {
+        char *field[FIELDS];
+        if (!fields_of(line, field)) continue;
+        struct given g = case_of(field);
+        if (g.accepted) expect_table(&g);
+        else expect_refusal(&g, &READ), expect_refusal(&g, &TAGS);
+        tried++;
+    }
+    fclose(file);
+    munmap(case_bytes, PAG_FILE_MAX + 1);
+    if (tried == 0) bad_line(path, "has no cases");
+    printf("%zu cases\n", tried);
 }
 
 /* ------------------------------------------------------------ stack */
@@ -381,17 +471,22 @@ static void try_bits(size_t tries)
 
 int main(int argc, char **argv)
 {
-    int checked = argc > 1 && strcmp(argv[1], "--checked") == 0;
+    int checked = argc == 3 && strcmp(argv[1], "--checked") == 0, cases_alone = argc == 3 && strcmp(argv[1], "--cases") == 0;
+    if (argc != 2 && !checked && !cases_alone) {
+        puts("usage: test [--checked | --cases] CASES");
+        return 2;
+    }
     struct maker m = {pages(RANDOM_FILE_MAX), 0, 0, 20260101};
     input_end = fenced_end(LARGEST_INPUT);
     our_room = pages(LARGEST_ROOM);
     peer_room = pages(LARGEST_ROOM);
+    try_cases(argv[argc - 1]);
+    if (cases_alone) return 0;
     try_null();
     try_small_file(&m);
     try_rare_faults(&m);
     try_random_bytes(&m);
     try_random_files(&m, checked ? CHECKED_FILES : RANDOM_FILES);
-    try_limit();
     try_bits(checked ? 20000 : 200000);
     if (!checked) measure_stack(&m);
     for (size_t reason = 0; reason <= PAG_OUTPUT_TOO_SHORT; reason++) {

@@ -8,6 +8,8 @@ import sys
 import pag_reference
 
 HERE = os.path.dirname(os.path.abspath(__file__))
+CASES = os.path.join(HERE, '..', 'cases.txt')
+PROVED = 'proved'
 
 
 def repeats(text, number):
@@ -35,15 +37,28 @@ def parse_expected(text):
     raise ValueError('not an expectation: ' + text)
 
 
-def load(path=os.path.join(HERE, '..', 'cases.txt')):
-    """[(name, level, bytes, expected, note)] in the file's order."""
-    cases = []
+def fields(path):
+    """The fields of each case's line; lines that start with # say how the file is to be read."""
     with open(path, encoding='utf-8') as lines:
         for line in lines:
-            name, level, data, expected, note = line.rstrip('\n').split(' | ')
-            cases.append((name, int(level), parse_bytes(data),
-                          parse_expected(expected), note))
+            if not line.startswith('#'):
+                yield line.rstrip('\n').split(' | ')
+
+
+def load(path=CASES):
+    """[(name, level, bytes, expected, note)] in the file's order."""
+    cases = []
+    for name, level, data, expected, note, *mark in fields(path):
+        if mark not in ([], [PROVED]):
+            raise ValueError('%s: not a mark: %s' % (name, mark))
+        cases.append((name, int(level), parse_bytes(data),
+                      parse_expected(expected), note))
     return cases
+
+
+def proved(path=CASES):
+    """The names of the cases that are marked: crates/format/proofs/Tested.antt has them too."""
+    return [line[0] for line in fields(path) if line[5:] == [PROVED]]
 
 
 def length_field_right(data, expected):

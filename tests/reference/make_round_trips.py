@@ -2,8 +2,9 @@
 """Writes crates/round_trips/stdin, the records that the program round_trips reads, and stdout, what it has to print for them.
 `make_round_trips.py --check` writes nothing, and says whether the files are what the cases and the tables make.
 
-Files are those of tests/cases.txt, each at its own level and at LEVELS, and the samples at LEVELS. Tables are those of tests/tables.txt, whose expectations were
-derived by hand, and the tables of the accepted cases with one number changed. What the program has to print comes from pag_reference."""
+Files are those of tests/cases.txt that fit the program's room, each at its own level, and those of at most SHORT bytes at LEVELS too; and the samples at LEVELS. Tables are those of tests/tables.txt, whose expectations were
+derived by hand, and the tables of the accepted cases with one number changed. What the program has to print comes from pag_reference: `kept` says that
+lent memory is as it was, all of it after a refusal, and what is past the count after an acceptance."""
 
 import os
 import sys
@@ -12,7 +13,8 @@ import check_cases
 import pag_reference
 
 LEVELS = [0, 1, 2, 5, 6, 10, 13, 1023]
-LONGEST = 2000
+ROOM = 16384
+SHORT = 2000
 CHANGED = 40
 FILE, TABLE = 0, 1
 HERE = os.path.dirname(os.path.abspath(__file__))
@@ -26,13 +28,15 @@ def head(kind, level, count):
 
 
 def file_record(level, data):
-    """A file's record, and its line: read, written back, and written with one byte too few."""
+    """A file's record, and its line: read, read with room for one number less, written back, and written with one byte too few."""
     answer = pag_reference.read(level, data)
     if answer[0] == 'refused':
-        line = 'file %d refused %d %d' % (level, answer[1], answer[2])
+        line = 'file %d refused %d %d kept' % (level, answer[1], answer[2])
     else:
         assert pag_reference.write(level, answer[1]) == ('file', data)
-        line = 'file %d read %d write %d same short 21 %d kept' % (level, len(answer[1]), len(data), len(data))
+        count, size = len(answer[1]), len(data)
+        assert count <= ROOM
+        line = 'file %d read %d kept short 19 %d kept write %d same kept short 21 %d kept' % (level, count, count, size, size)
     return head(FILE, level, len(data)) + data, line
 
 
@@ -40,10 +44,10 @@ def table_record(level, table):
     """A table's record, and its line: written, and read back."""
     answer = pag_reference.write(level, table)
     if answer[0] == 'refused':
-        line = 'table %d refused %d %d' % (level, answer[1], answer[2])
+        line = 'table %d refused %d %d kept' % (level, answer[1], answer[2])
     else:
         assert pag_reference.read(level, answer[1])[:2] == ('table', list(table))
-        line = 'table %d write %d read %d same' % (level, len(answer[1]), len(table))
+        line = 'table %d write %d kept read %d same kept' % (level, len(answer[1]), len(table))
     return head(TABLE, level, 8 * len(table)) + b''.join(n.to_bytes(8, 'little') for n in table), line
 
 
@@ -76,9 +80,9 @@ def samples():
 
 
 def records():
-    cases = [case for case in check_cases.load() if len(case[2]) <= LONGEST]
+    cases = [case for case in check_cases.load() if len(case[2]) <= ROOM]
     for _, level, data, expected, _ in cases:
-        for other in sorted({level, *LEVELS}):
+        for other in sorted({level, *LEVELS}) if len(data) <= SHORT else [level]:
             yield file_record(other, data)
     for _, level, table in tables():
         yield table_record(level, table)

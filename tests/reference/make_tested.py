@@ -1,5 +1,6 @@
 #!/usr/bin/env python3
-"""Writes crates/format/proofs/Tested.antt: the cases of at most 400 bytes, as one table that the definitions compute.
+"""Writes crates/format/proofs/Tested.antt: the cases that tests/cases.txt marks as proved, as one table that the definitions compute.
+They are those that a must-fail edit of the definitions is refused by; all cases are run by programs.
 `make_tested.py --check` writes nothing, and says whether the file is what the cases make."""
 
 import os
@@ -7,12 +8,12 @@ import sys
 
 import check_cases
 
-LONGEST = 400
+MOST = 16
 HERE = os.path.dirname(os.path.abspath(__file__))
 OUT = os.path.join(HERE, '..', '..', 'crates', 'format', 'proofs', 'Tested.antt')
 
-TOP = """-- Test files with what document 01 makes of them, as one table that the definitions compute.
--- Made by tests/reference/make_tested.py from tests/cases.txt, whose expectations were derived by hand; edit these.
+TOP = """-- Test files that wrong definitions would fail on (must-fail/), with what document 01 makes of them, as one table that the definitions compute.
+-- Made by tests/reference/make_tested.py from the lines of tests/cases.txt that are marked as proved. All of its lines are run by the program `cases`.
 use Prim.Native.Nat.{ℕ}
 use mathlib.Core.List.{List, [], _∷_, map}
 use mathlib.Core.Path.{_≡_, refl}
@@ -76,7 +77,10 @@ def difference(text):
 def main():
     if sys.argv[1:] not in ([], ['--check']):
         sys.exit(__doc__)
-    cases = [case for case in check_cases.load() if len(case[2]) <= LONGEST]
+    marked = check_cases.proved()
+    if not 0 < len(marked) <= MOST:
+        sys.exit('%d cases are marked as proved, 1 to %d are meant' % (len(marked), MOST))
+    cases = [case for case in check_cases.load() if case[0] in marked]
     text = made(cases)
     if sys.argv[1:]:
         line = difference(text)
@@ -84,7 +88,7 @@ def main():
             print('crates/format/proofs/Tested.antt is not what tests/cases.txt makes, first in line %d: '
                   'run tests/reference/make_tested.py' % line)
             return 1
-        print('%d of the cases are there' % len(cases))
+        print('%d of the cases are proved' % len(cases))
         return 0
     with open(OUT, 'w', encoding='utf-8') as out:
         out.write(text)

@@ -1,2 +1,3 @@
 -- What the proofs of the crates above cite.
 pub mod AnswerLaws
+pub mod LentLaws

@@ -20,11 +20,11 @@ use Rattle.format.specs.Bodies.{flagsOf, allFlags}
 use Rattle.format.proofs.BitLaws.{ub-lt}
 use Rattle.format.proofs.BlockLaws.{as-many}
 use Rattle.format.proofs.WalkLaws.{run-le}
-use Rattle.bits.specs.Places.{Inside, seen}
+use Rattle.bits.specs.Places.{PlaceIn, numOf}
 use Rattle.bits.specs.declared.BitPlace.{BitPlace}
 use Rattle.bits.specs.declared.Got.{Got}
 use Rattle.bits.specs.declared.Got.the-variants.{Value as GotValue, Fault as GotFault}
-use Rattle.table.specs.State.{State, after}
+use Rattle.table.specs.State.{State, shownOver}
 use Rattle.table.proofs.EngineLaws.{state, after-none, then-one, then-never}
 use Rattle.attributes.specs.Rows.{kindOf, attributeOf, allAttributes, attributesOf, rowsAt, rowsFrom, AreRows}
 use Rattle.attributes.specs.declared.Attribute.{Attribute}
@@ -122,13 +122,13 @@ unfolding run readItem
 one-bit b p e = ap showNum (e ∙ sym (flag-one b p))
 
 -- two bits, by what the first gave
-module _ (b : List ℕ) (p : ℕ) (r : Got) (first : seen r ≡ readUB high b p 1) where
-  two-bits : run high b (item (Item.flag 2)) p ≡ showNum (onward b 1 (seen r))
+module _ (b : List ℕ) (p : ℕ) (r : Got) (first : numOf r ≡ readUB high b p 1) where
+  two-bits : run high b (item (Item.flag 2)) p ≡ showNum (onward b 1 (numOf r))
   unfolding run readItem
   two-bits = rw (first, flag-bit b p 1)
 
   -- it is not there
-  pub two-past : {e : ℕ} → r ≡ GotFault e → showNum (seen r) ≡ run high b (item (Item.flag 2)) p
+  pub two-past : {e : ℕ} → r ≡ GotFault e → showNum (numOf r) ≡ run high b (item (Item.flag 2)) p
   two-past e = rw (two-bits, e)
 
   -- it is 0
@@ -136,11 +136,11 @@ module _ (b : List ℕ) (p : ℕ) (r : Got) (first : seen r ≡ readUB high b p 
   two-none e z = rw (two-bits, e, z)
 
   -- it is 1, and a is what the second gave
-  module _ {v : ℕ} {q : BitPlace} (a : Got) (e : r ≡ GotValue v q) (one : v ≡ 0 → ⊥) (second : seen a ≡ readUB high b (q .0) 1) where
-    two-more : run high b (item (Item.flag 2)) p ≡ showNum (exist (seen a))
+  module _ {v : ℕ} {q : BitPlace} (a : Got) (e : r ≡ GotValue v q) (one : v ≡ 0 → ⊥) (second : numOf a ≡ readUB high b (q .0) 1) where
+    two-more : run high b (item (Item.flag 2)) p ≡ showNum (exist (numOf a))
     two-more = rw (two-bits, e, ne-eqb v 0 one, flag-one b (q .0), second)
 
-    pub two-cut : {z : ℕ} → a ≡ GotFault z → showNum (seen a) ≡ run high b (item (Item.flag 2)) p
+    pub two-cut : {z : ℕ} → a ≡ GotFault z → showNum (numOf a) ≡ run high b (item (Item.flag 2)) p
     two-cut f = rw (two-more, f)
 
     pub two-both : {w : ℕ} {z : BitPlace} → a ≡ GotValue w z → showNum (num (1 + 2 * w) (z .0)) ≡ run high b (item (Item.flag 2)) p
@@ -164,8 +164,8 @@ module _ (s t₀ : List ℕ) (start end p₀ : ℕ) where
   -- the whole from the start is what is left from here
   pub record Going (t : List ℕ) (p row j : ℕ) : Type 0 where
     pub size : length t ≡ length t₀
-    pub rest : after t₀ 0 (flagsFrom start p₀) ≡ after t j (flagsFrom row p)
-    pub place : Inside s p
+    pub rest : shownOver t₀ 0 (flagsFrom start p₀) ≡ shownOver t j (flagsFrom row p)
+    pub place : PlaceIn s p
     pub below : row ≤ end
     pub stored : j ≤ row
 
@@ -183,17 +183,17 @@ module _ (s t₀ : List ℕ) (start end p₀ : ℕ) where
         let l : (p ≤ q) × (q ≤ 8 * length s) = run-le high s (item flagHere) p q (g .place .0) (ap (λ (r : Reading). r .ended) (sym e)) in
         record {
           size = ap length d ∙ length-set t j v ∙ g .size;
-          rest = g .rest ∙ ap (after t j) flags-here ∙ sym (then-one high s t j (item flagHere) (λ xs. allFlags (rowsFrom (row + 1) end)) p (sym e) d refl);
+          rest = g .rest ∙ ap (shownOver t j) flags-here ∙ sym (then-one high s t j (item flagHere) (λ xs. allFlags (rowsFrom (row + 1) end)) p (sym e) d refl);
           place = (l .1, g .place .1);
           below = omega arith;
           stored = omega (arith, g .stored);
         }
 
-    pub flags-stop : {e : ℕ} → showNum (bad e) ≡ run high s (item flagHere) p → state t j (Fault e) ≡ after t₀ 0 (flagsFrom start p₀)
+    pub flags-stop : {e : ℕ} → showNum (bad e) ≡ run high s (item flagHere) p → state t j (Fault e) ≡ shownOver t₀ 0 (flagsFrom start p₀)
     flags-stop e =
-        then-never high s t j (item flagHere) (λ xs. allFlags (rowsFrom (row + 1) end)) p (sym e) ∙ sym (g .rest ∙ ap (after t j) flags-here)
+        then-never high s t j (item flagHere) (λ xs. allFlags (rowsFrom (row + 1) end)) p (sym e) ∙ sym (g .rest ∙ ap (shownOver t j) flags-here)
 
-  pub flags-done : {t : List ℕ} {p row j : ℕ} → end ≤ row → Going t p row j → state t j (At p) ≡ after t₀ 0 (flagsFrom start p₀)
+  pub flags-done : {t : List ℕ} {p row j : ℕ} → end ≤ row → Going t p row j → state t j (At p) ≡ shownOver t₀ 0 (flagsFrom start p₀)
   unfolding run allFlags
   flags-done {t} {p} {row} {j} h g =
       let z : row ≡ end = omega (arith, g .below) in
@@ -203,15 +203,15 @@ module _ (s t₀ : List ℕ) (start end p₀ : ℕ) where
 -- ---- for callers
 
 -- how the reading ended, from what a run left
-pub ended-is : (t : List ℕ) (k : ℕ) (r : Reading) {u : List ℕ} {j : ℕ} {z : Ending} → state u j z ≡ after t k r → r .ended ≡ z
-unfolding after
+pub ended-is : (t : List ℕ) (k : ℕ) (r : Reading) {u : List ℕ} {j : ℕ} {z : Ending} → state u j z ≡ shownOver t k r → r .ended ≡ z
+unfolding shownOver
 ended-is t k r e = ap (λ (s : State). s .ended) (sym e)
 
 -- lent room for nine flags holds, from index 0 on, the flags that were shown
 module _ {start end : ℕ} (b f : List ℕ) (p : ℕ) {u : List ℕ} {j q : ℕ} (rows : AreRows start end) (lent : 9 ≤ length f)
-    (e : state u j (At q) ≡ after f 0 (run high b (allFlags (rowsFrom start end)) p)) where
+    (e : state u j (At q) ≡ shownOver f 0 (run high b (allFlags (rowsFrom start end)) p)) where
   pub flags-in : take (end - start) u ≡ run high b (allFlags (rowsFrom start end)) p .shown
-  unfolding after
+  unfolding shownOver
   flags-in =
       let φs : List ℕ = run high b (allFlags (rowsFrom start end)) p .shown in
       let n : length φs ≡ end - start = as-many high (rowsFrom start end) b p q (ended-is f 0 (run high b (allFlags (rowsFrom start end)) p) e) ∙ rows-many rows in

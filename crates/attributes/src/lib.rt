@@ -4,9 +4,9 @@ ghost use Rattle.format.specs.Bits.{high};
 ghost use Rattle.format.specs.Formats.{item};
 ghost use Rattle.format.specs.Items.{run, showNum};
 ghost use Rattle.format.specs.Bodies.{flagsOf, allFlags};
-ghost use Rattle.bits.specs.Places.{Inside, seen};
-ghost use Rattle.table.specs.State.{after};
-ghost use Rattle.table.specs.Run.{left};
+ghost use Rattle.bits.specs.Places.{PlaceIn, numOf};
+ghost use Rattle.table.specs.State.{shownOver};
+ghost use Rattle.table.specs.Run.{runLeaves};
 ghost use Rattle.attributes.specs.Rows.{kindOf, rowsAt, rowsFrom, AreRows};
 ghost use Rattle.attributes.specs.Contents.{animatableBy, contentBy};
 use bits::BitPlace;
@@ -148,65 +148,65 @@ pub fn rows_of(code: u32) -> Rows
 }
 
 // An exist bit; if set, an animatable bit.
-fn read_two_flags(s: &[u8], at: BitPlace) -> Got
-    requires { ⌜ Inside (now s) (at .0) ⌝ }
-    ensures { λ r. ⌜ showNum (seen r) ≡ run high (now (s .entry)) (item (flagsOf (kindOf Kind.Simple))) (at .0) ⌝ }
+fn read_two_flags(body: &[u8], at: BitPlace) -> Got
+    requires { ⌜ PlaceIn (now body) (at .0) ⌝ }
+    ensures { λ r. ⌜ showNum (numOf r) ≡ run high (now (body .entry)) (item (flagsOf (kindOf Kind.Simple))) (at .0) ⌝ }
 {
-    let e = bits::fields::read_ub(s, at, 1);
+    let e = bits::fields::read_ub(body, at, 1);
     let Got::Value(exist, next) = e else {
         return e;
     };
     if exist == 0 {
         return Got::Value(0, next);
     }
-    let a = bits::fields::read_ub(s, next, 1);
-    let Got::Value(animatable, after) = a else {
+    let a = bits::fields::read_ub(body, next, 1);
+    let Got::Value(animatable, end) = a else {
         return a;
     };
-    Got::Value(1 + 2 * animatable, after)
+    Got::Value(1 + 2 * animatable, end)
 }
 
 // The flags of one attribute as a number: exist + 2 × animatable; a Fixed one has no bit, and gives 1.
-pub fn read_flag(kind: Kind, s: &[u8], at: BitPlace) -> Got
-    requires { ⌜ Inside (now s) (at .0) ⌝ }
-    ensures { λ r. ⌜ showNum (seen r) ≡ run high (now (s .entry)) (item (flagsOf (kindOf kind))) (at .0) ⌝ }
+fn read_flag(kind: Kind, body: &[u8], at: BitPlace) -> Got
+    requires { ⌜ PlaceIn (now body) (at .0) ⌝ }
+    ensures { λ r. ⌜ showNum (numOf r) ≡ run high (now (body .entry)) (item (flagsOf (kindOf kind))) (at .0) ⌝ }
 {
     match kind {
-        Kind::Value => bits::fields::read_ub(s, at, 1),
+        Kind::Value => bits::fields::read_ub(body, at, 1),
         Kind::Fixed => Got::Value(1, at),
-        Kind::BitFlag => bits::fields::read_ub(s, at, 1),
-        Kind::Simple => read_two_flags(s, at),
-        Kind::Discrete => read_two_flags(s, at),
+        Kind::BitFlag => bits::fields::read_ub(body, at, 1),
+        Kind::Simple => read_two_flags(body, at),
+        Kind::Discrete => read_two_flags(body, at),
     }
 }
 
 // The flags of all rows, in order.
-pub fn read_flags(rows: Rows, s: &[u8], at: BitPlace, flags: &mut [u64]) -> Run
-    requires { ⌜ AreRows (rows .start) (rows .end) × Inside (now s) (at .0) ⌝ }
-    ensures { λ r. ⌜ left (now (flags .exit)) r ≡ after (now (flags .entry)) 0 (run high (now (s .entry)) (allFlags (rowsFrom (rows .start) (rows .end))) (at .0)) ⌝ }
+pub fn read_flags(rows: Rows, body: &[u8], at: BitPlace, flags: &mut [u64]) -> Run
+    requires { ⌜ AreRows (rows .start) (rows .end) × PlaceIn (now body) (at .0) ⌝ }
+    ensures { λ r. ⌜ runLeaves (now (flags .exit)) r ≡ shownOver (now (flags .entry)) 0 (run high (now (body .entry)) (allFlags (rowsFrom (rows .start) (rows .end))) (at .0)) ⌝ }
 {
     let attributes = ATTRIBUTES;
     let end = rows.end;
     let mut place = at;
     let mut row = rows.start;
-    let mut j = 0;
+    let mut index = 0;
     while row < end {
         let attribute = attributes[row];
         let kind = attribute.kind;
-        let r = read_flag(kind, s, place);
+        let r = read_flag(kind, body, place);
         match r {
             Got::Value(number, next) => {
-                table::put(flags, j, number);
+                table::put(flags, index, number);
                 place = next;
             }
             Got::Fault(why) => {
-                return Run::Stop(why, j);
+                return Run::Stop(why, index);
             }
         }
         row += 1;
-        j += 1;
+        index += 1;
     }
-    Run::Done(place, j)
+    Run::Done(place, index)
 }
 
 // What a block has of an attribute besides its flags: nothing, one value, or keyframes.

@@ -13,6 +13,7 @@ use borrow.Author.Tests.{le-leb, lt-leb, leb-false, lt-ltb, le-ltb, ltb-true, lt
 use Rattle.format.specs.Bits.{high, bitAt, ub}
 use Rattle.format.specs.Items.{Num, num, bad, mapNum, readUB}
 use Rattle.format.proofs.Promises.{one-answer}
+use Rattle.format.proofs.Absurd.{clash}
 use Rattle.bits.specs.declared.BitPlace.{BitPlace}
 use Rattle.bits.proofs.FieldLaws.{IsField, map-got}
 use Rattle.bit_reader.specs.declared.BitReader.{BitReader}
@@ -82,8 +83,7 @@ map-fault f b p n {w} e = go (leb (p + n) (8 * length b)) refl
     go : (t : Bool) → leb (p + n) (8 * length b) ≡ t → (w ≡ 13) × (8 * length b < p + n)
     go true t =
         let h : bad w ≡ num (f (ub high b p n)) (p + n) = rw t at e in
-        let z : _≡_ {A = ℕ} 0 1 = cc in
-        absurd (omega arith)
+        clash cc
     go false t =
         let h : bad w ≡ bad 13 = rw t at e in
         (cc, leb-false _ _ t)

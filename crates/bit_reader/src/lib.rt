@@ -3,7 +3,7 @@ ghost use mathlib.Core.Path.{_≡_};
 ghost use mathlib.Core.Bool.{true, false};
 ghost use Prim.Native.Nat.{_<_, _≤_};
 ghost use lib.ListN.{length};
-ghost use Rattle.bits.specs.Places.{Inside, seen};
+ghost use Rattle.bits.specs.Places.{PlaceIn, numOf};
 ghost use Rattle.bit_reader.specs.Readers.{atStart, taken};
 ghost use Rattle.bit_reader.specs.Fields.{inBytes, fieldOf, stepAt};
 ghost use Rattle.bit_reader.specs.Near.{readField, nearEnd};
@@ -38,8 +38,8 @@ pub struct Taken<'a> {
 
 // UB, or SB where the field is signed, of bytes whose places can all be counted.
 fn read_field(bytes: &[u8], at: BitPlace, width: u64, signed: bool) -> Got
-    requires { ⌜ Inside (now bytes) (at .0) × (1 ≤ width) × (width ≤ 32) ⌝ }
-    ensures { λ r. ⌜ seen r ≡ readField signed (now (bytes .entry)) (at .0) width ⌝ }
+    requires { ⌜ PlaceIn (now bytes) (at .0) × (1 ≤ width) × (width ≤ 32) ⌝ }
+    ensures { λ r. ⌜ numOf r ≡ readField signed (now (bytes .entry)) (at .0) width ⌝ }
 {
     if signed {
         return read_sb(bytes, at, width);
@@ -48,41 +48,41 @@ fn read_field(bytes: &[u8], at: BitPlace, width: u64, signed: bool) -> Got
 }
 
 // A field of 32 bits touches five bytes at most: the index after these, or the end.
-fn near_end(i: usize, len: usize) -> usize
-    requires { ⌜ i < len ⌝ }
-    ensures { λ r. ⌜ r ≡ nearEnd i len ⌝ }
+fn near_end(index: usize, len: usize) -> usize
+    requires { ⌜ index < len ⌝ }
+    ensures { λ r. ⌜ r ≡ nearEnd index len ⌝ }
 {
-    if len - i < 5 {
+    if len - index < 5 {
         return len;
     }
-    i + 5
+    index + 5
 }
 
 // Looks only at the bytes near the place, so that bytes of any length are taken.
 fn read_near(bytes: &[u8], place: BitPlace, width: u64, signed: bool) -> Got
     requires { ⌜ (1 ≤ width) × (width ≤ 32) ⌝ }
-    ensures { λ r. ⌜ seen r ≡ inBytes signed (now (bytes .entry)) (place .0) width ⌝ }
+    ensures { λ r. ⌜ numOf r ≡ inBytes signed (now (bytes .entry)) (place .0) width ⌝ }
 {
-    let p = place.0;
-    let n = width as usize;
-    let i = p / 8;
-    if bytes.len() <= i {
+    let bit = place.0;
+    let count = width as usize;
+    let index = bit / 8;
+    if bytes.len() <= index {
         return Got::Fault(13);
     }
-    if 18446744073709551615 - n < p {
+    if 18446744073709551615 - count < bit {
         return Got::Fault(13);
     }
-    let end = near_end(i, bytes.len());
-    let near = &bytes[i..end];
-    match read_field(near, BitPlace(p % 8), width, signed) {
-        Got::Value(v, _) => Got::Value(v, BitPlace(p + n)),
+    let end = near_end(index, bytes.len());
+    let near = &bytes[index..end];
+    match read_field(near, BitPlace(bit % 8), width, signed) {
+        Got::Value(value, _) => Got::Value(value, BitPlace(bit + count)),
         Got::Fault(why) => Got::Fault(why),
     }
 }
 
 // A width outside 1 to 32 gives 17, then a field past the end 13.
 fn field_of(bytes: &[u8], place: BitPlace, width: u32, signed: bool) -> Got
-    ensures { λ r. ⌜ seen r ≡ fieldOf signed (now (bytes .entry)) (place .0) width ⌝ }
+    ensures { λ r. ⌜ numOf r ≡ fieldOf signed (now (bytes .entry)) (place .0) width ⌝ }
 {
     if width < 1 {
         return Got::Fault(17);
@@ -98,8 +98,8 @@ pub fn field_at(bytes: &[u8], place: BitPlace, width: u32, signed: bool) -> Step
     ensures { λ r. ⌜ r ≡ stepAt signed (now (bytes .entry)) place width ⌝ }
 {
     match field_of(bytes, place, width, signed) {
-        Got::Value(v, next) => Step {
-            field: Field::Value(v),
+        Got::Value(value, next) => Step {
+            field: Field::Value(value),
             place: next,
         },
         Got::Fault(why) => Step {

@@ -16,7 +16,8 @@ use Rattle.format.specs.Items.{Num, num, bad, mapNum, readUB, signExtend, skipp
 use Rattle.format.specs.Reading.{shows, stop}
 use Rattle.format.proofs.BitLaws.{ub-lt, ub-snoc}
 use Rattle.format.proofs.ByteLaws.{ub-byte}
-use Rattle.bits.specs.Places.{alignedAt, seen}
+use Rattle.format.proofs.Absurd.{clash}
+use Rattle.bits.specs.Places.{alignedAt, numOf}
 use Rattle.bits.specs.declared.BitPlace.{BitPlace}
 use Rattle.bits.specs.declared.BytePlace.{BytePlace}
 use Rattle.bits.specs.declared.Aligned.{Aligned}
@@ -106,8 +107,7 @@ map-got f b p n {v} {q} e = go (leb (p + n) (8 * length b)) refl
         record { value = cc; below = ub-lt high b p n; next = k; inside = rw k (leb-true _ _ t) }
     go false t =
         let h : num v q ≡ bad 13 = rw t at e in
-        let z : _≡_ {A = ℕ} 0 1 = cc in
-        absurd (omega arith)
+        clash cc
 
 pub ub-got : (b : List ℕ) (p n : ℕ) {v q : ℕ} → num v q ≡ readUB high b p n → IsField (λ x. x) b p n v q
 ub-got b p n e = map-got (λ x. x) b p n (ap (mapNum (λ x. x)) e)
@@ -171,11 +171,11 @@ pub align-unclean : (b : List ℕ) (p : ℕ) → alignedAt b p ≡ Unclean → A
 align-unclean b p e = subst (AlignsTo b p) e (align-run b p)
 
 -- ---- no second answer fits
-pub seen-one : (a b : Got) → seen a ≡ seen b → a ≡ b
-seen-one (Value v q) (Value w r) e =
+pub num-one : (a b : Got) → numOf a ≡ numOf b → a ≡ b
+num-one (Value v q) (Value w r) e =
     let f : v ≡ w = cc in
     let g : q .0 ≡ r .0 = cc in
     ap₂ (λ (x y : ℕ). Value x (record { 0 = y })) f g
-seen-one (Value v q) (Fault s) e = let z : _≡_ {A = ℕ} 0 1 = cc in absurd (omega arith)
-seen-one (Fault s) (Value v q) e = let z : _≡_ {A = ℕ} 0 1 = cc in absurd (omega arith)
-seen-one (Fault s) (Fault t) e = let f : s ≡ t = cc in ap Fault f
+num-one (Value v q) (Fault s) e = clash cc
+num-one (Fault s) (Value v q) e = clash cc
+num-one (Fault s) (Fault t) e = let f : s ≡ t = cc in ap Fault f

@@ -1,17 +1,25 @@
 // Places in the bytes of a body, and the bit fields that stand there.
 ghost use mathlib.Core.Path.{_≡_};
-ghost use Prim.Native.Nat.{_<_};
+ghost use Prim.Native.Nat.{_+_, _*_, _^_, _<_};
 ghost use lib.ListN.{getD};
-ghost use Rattle.bits.specs.Places.{Inside, alignedAt};
+ghost use Rattle.format.specs.Items.{skipped};
+ghost use Rattle.bits.specs.Places.{PlaceIn, alignedAt};
 
 pub mod fields;
 
-// Bit places and byte places are counted apart, and only `align` turns one into the other.
+// Bit places and byte places are counted apart, and only `next_byte` turns one into the other; `first_bit` is its way back. A place is counted from
+// the start of the bytes that it is a place in. To address the byte in which a bit stands is no conversion.
 pub struct BitPlace(pub usize);
 
 pub struct BytePlace(pub usize);
 
-// A whole byte, in both counts; or a skipped bit is not zero.
+// A whole byte, in both counts.
+pub struct Whole {
+    pub byte: BytePlace,
+    pub bit: BitPlace,
+}
+
+// A whole byte, in both counts, after zero bits; or a skipped bit is not zero.
 pub enum Aligned {
     Clean(BytePlace, BitPlace),
     Unclean,
@@ -31,27 +39,59 @@ pub fn wide(b: u8) -> u64
 }
 
 // The byte at an index; past the end stand zeros.
-pub fn byte_at(s: &[u8], i: usize) -> u64
-    ensures { λ r. ⌜ (r ≡ getD (now (s .entry)) i 0) × (r < 256) ⌝ }
+pub fn byte_at(bytes: &[u8], i: usize) -> u64
+    ensures { λ r. ⌜ (r ≡ getD (now (bytes .entry)) i 0) × (r < 256) ⌝ }
 {
-    if i < s.len() { wide(s[i]) } else { 0 }
+    if i < bytes.len() { wide(bytes[i]) } else { 0 }
 }
 
-// The next whole byte: skipped bits are zero.
-pub fn align(s: &[u8], at: BitPlace) -> Aligned
-    requires { ⌜ Inside (now s) (at .0) ⌝ }
-    ensures { λ r. ⌜ r ≡ alignedAt (now (s .entry)) (at .0) ⌝ }
+// The whole byte at or after a bit place.
+pub fn next_byte(at: BitPlace) -> Whole
+    requires { ⌜ at .0 < 2 ^ 63 ⌝ }
+    ensures { λ r. ⌜ (r .bit .0 ≡ at .0 + skipped (at .0)) × (r .bit .0 ≡ 8 * r .byte .0) ⌝ }
 {
-    let p = at.0;
-    let i = p / 8;
-    let used = p % 8;
+    let place = at.0;
+    let byte = place / 8;
+    let used = place % 8;
     if used == 0 {
-        return Aligned::Clean(BytePlace(i), BitPlace(p));
+        return Whole {
+            byte: BytePlace(byte),
+            bit: BitPlace(place),
+        };
     }
-    let skipped = 8 - used;
-    if fields::cut(byte_at(s, i), 0, skipped as u64) == 0 {
-        Aligned::Clean(BytePlace(i + 1), BitPlace(p + skipped))
-    } else {
-        Aligned::Unclean
+    Whole {
+        byte: BytePlace(byte + 1),
+        bit: BitPlace(place + (8 - used)),
     }
+}
+
+// The way back: the first bit of a byte.
+pub fn first_bit(at: BytePlace) -> BitPlace
+    requires { ⌜ at .0 < 2 ^ 60 ⌝ }
+    ensures { λ r. ⌜ r .0 ≡ 8 * at .0 ⌝ }
+{
+    BitPlace(8 * at.0)
+}
+
+// The next whole byte: the bits up to it are skipped, and zero.
+pub fn align(bytes: &[u8], at: BitPlace) -> Aligned
+    requires { ⌜ PlaceIn (now bytes) (at .0) ⌝ }
+    ensures { λ r. ⌜ r ≡ alignedAt (now (bytes .entry)) (at .0) ⌝ }
+{
+    let place = at.0;
+    let used = place % 8;
+    // Nearly every item starts on a whole byte, and the compiler makes a shift of the call where it knows that.
+    if used == 0 {
+        let whole = next_byte(at);
+        let start = whole.byte;
+        let first = whole.bit;
+        return Aligned::Clean(start, first);
+    }
+    if fields::cut(byte_at(bytes, place / 8), 0, (8 - used) as u64) != 0 {
+        return Aligned::Unclean;
+    }
+    let whole = next_byte(at);
+    let start = whole.byte;
+    let first = whole.bit;
+    Aligned::Clean(start, first)
 }

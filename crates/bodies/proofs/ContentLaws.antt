@@ -14,8 +14,8 @@ use Rattle.format.specs.Bodies.{content, rows, allFlags, readBlock}
 use Rattle.format.proofs.SizeLaws.{Fair, FairEnd, fair-echo, fair-then, fair-content}
 use Rattle.format.proofs.WalkLaws.{run-le}
 use Rattle.bits.specs.declared.BitPlace.{BitPlace}
-use Rattle.table.specs.State.{State, after}
-use Rattle.table.specs.Run.{left}
+use Rattle.table.specs.State.{State, shownOver}
+use Rattle.table.specs.Run.{runLeaves}
 use Rattle.table.specs.Fields.{Fits}
 use Rattle.table.specs.declared.Run.{Run}
 use Rattle.table.specs.declared.Run.the-variants.{Done, Stop}
@@ -26,12 +26,12 @@ use Rattle.attributes.proofs.FlagLaws.{rowAt, rows-next}
 
 -- ---- a content: none, so nothing was read and nothing stored; or what stands of it was read
 module _ (b t : List ℕ) (k p : ℕ) where
-  pub content-none : (f : Format) → f ≡ nothing → state t k (At p) ≡ after t k (run high b f p)
+  pub content-none : (f : Format) → f ≡ nothing → state t k (At p) ≡ shownOver t k (run high b f p)
   unfolding run
   content-none f e = rw e (sym (after-none t k p))
 
-  pub content-is : {x : State} (f g : Format) → g ≡ f → x ≡ after t k (run high b f p) → x ≡ after t k (run high b g p)
-  content-is f g e h = h ∙ ap (λ (z : Format). after t k (run high b z p)) (sym e)
+  pub content-is : {x : State} (f g : Format) → g ≡ f → x ≡ shownOver t k (run high b f p) → x ≡ shownOver t k (run high b g p)
+  content-is f g e h = h ∙ ap (λ (z : Format). shownOver t k (run high b z p)) (sym e)
 
 -- the flag number is shown, and takes no bits
 pub echo-one : (b : List ℕ) (p φ : ℕ) → run high b (item (Item.echo φ)) p ≡ shows (φ ∷ []) p
@@ -46,8 +46,8 @@ fair-row : (a : bodies.Attribute) (φ : ℕ) → Fair high 1 (rowOf a φ)
 fair-row a φ = fair-then high 1 0 (item (Item.echo φ)) (λ xs. content a φ) (fair-echo high φ) (λ b p q e. fair-content high (a .kind) (a .dataType) φ)
 
 -- m numbers may be stored for nothing; a row uses one of these
-row-fits : (b t : List ℕ) (a : bodies.Attribute) (φ m k : ℕ) {u : List ℕ} {p j q : ℕ} → Fits b p (k + suc m) → state u j (At q) ≡ after t k (run high b (rowOf a φ) p) → Fits b q (j + m)
-unfolding after
+row-fits : (b t : List ℕ) (a : bodies.Attribute) (φ m k : ℕ) {u : List ℕ} {p j q : ℕ} → Fits b p (k + suc m) → state u j (At q) ≡ shownOver t k (run high b (rowOf a φ) p) → Fits b q (j + m)
+unfolding shownOver
 row-fits b t a φ m k {u} {p} {j} {q} h e =
     let z : run high b (rowOf a φ) p .ended ≡ At q = ap (λ (s : State). s .ended) (sym e) in
     let l : (p ≤ q) × (q ≤ 8 * length b) = run-le high b (rowOf a φ) p q (h .0 .0) z in
@@ -61,11 +61,11 @@ module _ (s t₀ flags : List ℕ) (k start end p₀ : ℕ) where
   rowsAt row = rows (rowsFrom row end) (slice (row - start) (end - start) flags)
 
   abbrev whole : State
-  whole = after t₀ k (run high s (rows (rowsFrom start end) (take (end - start) flags)) p₀)
+  whole = shownOver t₀ k (run high s (rows (rowsFrom start end) (take (end - start) flags)) p₀)
 
   pub record Going (t : List ℕ) (p j row : ℕ) : Type 0 where
     pub size : length t ≡ length t₀
-    pub same : whole ≡ after t j (run high s (rowsAt row) p)
+    pub same : whole ≡ shownOver t j (run high s (rowsAt row) p)
     pub fits : Fits s p (j + (end - row))
     pub from : start ≤ row
     pub below : row ≤ end
@@ -85,18 +85,18 @@ module _ (s t₀ flags : List ℕ) (k start end p₀ : ℕ) where
         ap₂ (λ (l : List bodies.Attribute) (φs : List ℕ). run high s (rows l φs) p) (rows-next some inside) f
         ∙ sym (alike-assoc (item (Item.echo φ)) (content attributeHere φ) (rowsAt (row + 1)) high s p)
 
-    module _ {u : List ℕ} {R : Run} (ran : left u R ≡ after t j (run high s (rowOf attributeHere φ) p)) where
+    module _ {u : List ℕ} {R : Run} (ran : runLeaves u R ≡ shownOver t j (run high s (rowOf attributeHere φ) p)) where
       pub rows-next-row : {q : BitPlace} {i : ℕ} → length u ≡ length t → R ≡ Done q i → Going u (q .0) i (row + 1)
       rows-next-row z e = record {
         size = z ∙ g .size;
-        same = g .same ∙ ap (after t j) rows-here ∙ sym (run-done s t j (rowOf attributeHere φ) p ran (λ xs. rowsAt (row + 1)) e refl);
-        fits = row-fits s t attributeHere φ (end - (row + 1)) j (g .fits .0, omega (arith, g .fits .1)) (ap (left u) (sym e) ∙ ran);
+        same = g .same ∙ ap (shownOver t j) rows-here ∙ sym (run-done s t j (rowOf attributeHere φ) p ran (λ xs. rowsAt (row + 1)) e refl);
+        fits = row-fits s t attributeHere φ (end - (row + 1)) j (g .fits .0, omega (arith, g .fits .1)) (ap (runLeaves u) (sym e) ∙ ran);
         from = omega (arith, g .from);
         below = omega arith;
       }
 
-      pub rows-stop : {e i : ℕ} → R ≡ Stop e i → left u R ≡ whole
-      rows-stop e = run-stop s t j (rowOf attributeHere φ) p ran (λ xs. rowsAt (row + 1)) e ∙ sym (g .same ∙ ap (after t j) rows-here)
+      pub rows-stop : {e i : ℕ} → R ≡ Stop e i → runLeaves u R ≡ whole
+      rows-stop e = run-stop s t j (rowOf attributeHere φ) p ran (λ xs. rowsAt (row + 1)) e ∙ sym (g .same ∙ ap (shownOver t j) rows-here)
 
   pub rows-done : {t : List ℕ} {p j row : ℕ} → end ≤ row → Going t p j row → state t j (At p) ≡ whole
   unfolding run rows
@@ -113,11 +113,11 @@ module _ (s t₀ flags : List ℕ) (k start end p₀ : ℕ) where
 
 -- ---- a block: its flags, and then its rows
 module _ (b t : List ℕ) (k p : ℕ) (attrs : List bodies.Attribute) where
-  pub block-rows : {φs : List ℕ} {q : ℕ} {x : State} → run high b (allFlags attrs) p ≡ shows φs q → x ≡ after t k (run high b (rows attrs φs) q) → x ≡ after t k (readBlock high b attrs p)
+  pub block-rows : {φs : List ℕ} {q : ℕ} {x : State} → run high b (allFlags attrs) p ≡ shows φs q → x ≡ shownOver t k (run high b (rows attrs φs) q) → x ≡ shownOver t k (readBlock high b attrs p)
   unfolding readBlock
   block-rows e h = rw e h
 
-  pub block-stop : {e : ℕ} → run high b (allFlags attrs) p .ended ≡ Fault e → state t k (Fault e) ≡ after t k (readBlock high b attrs p)
+  pub block-stop : {e : ℕ} → run high b (allFlags attrs) p .ended ≡ Fault e → state t k (Fault e) ≡ shownOver t k (readBlock high b attrs p)
   unfolding readBlock
   block-stop {e} h = rw h (sym (after-stop t k e))
 

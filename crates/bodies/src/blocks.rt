@@ -5,9 +5,9 @@ ghost use lib.ListN.{length, take};
 ghost use Rattle.format.specs.Bits.{high};
 ghost use Rattle.format.specs.Formats.{Item, item, _▸_};
 ghost use Rattle.format.specs.Items.{run};
-ghost use Rattle.format.specs.Bodies.{contentOf, content, rows as «rowsOf», readBlock};
-ghost use Rattle.table.specs.State.{after};
-ghost use Rattle.table.specs.Run.{left};
+ghost use Rattle.format.specs.Bodies.{contentOf, content, rows as rowsOf, readBlock};
+ghost use Rattle.table.specs.State.{shownOver};
+ghost use Rattle.table.specs.Run.{runLeaves};
 ghost use Rattle.table.specs.Fields.{Fits};
 ghost use Rattle.attributes.specs.Rows.{kindOf, typeOf, attributeOf, rowsFrom, AreRows};
 use attributes::Attribute;
@@ -23,18 +23,18 @@ fn read_content(
     kind: Kind,
     what: DataType,
     flag: u64,
-    s: &[u8],
+    body: &[u8],
     at: BitPlace,
-    t: &mut [u64],
-    k: usize,
+    table: &mut [u64],
+    from: usize,
 ) -> Run
-    requires { ⌜ Fits (now s) (at .0) k ⌝ }
-    ensures { λ r. ⌜ left (now (t .exit)) r ≡ after (now (t .entry)) k (run high (now (s .entry)) (contentOf (kindOf kind) (typeOf what) flag) (at .0)) ⌝ }
+    requires { ⌜ Fits (now body) (at .0) from ⌝ }
+    ensures { λ r. ⌜ runLeaves (now (table .exit)) r ≡ shownOver (now (table .entry)) from (run high (now (body .entry)) (contentOf (kindOf kind) (typeOf what) flag) (at .0)) ⌝ }
 {
     match attributes::content_of(kind, flag) {
-        Content::Nothing => Run::Done(at, k),
-        Content::One => values::read_value(what, s, at, t, k),
-        Content::Frames => values::keyframes::read_keyframed(kind, what, s, at, t, k),
+        Content::Nothing => Run::Done(at, from),
+        Content::One => values::read_value(what, body, at, table, from),
+        Content::Frames => values::keyframes::read_keyframed(kind, what, body, at, table, from),
     }
 }
 
@@ -42,54 +42,67 @@ fn read_content(
 fn read_attribute(
     attribute: Attribute,
     flag: u64,
-    s: &[u8],
+    body: &[u8],
     at: BitPlace,
-    t: &mut [u64],
-    k: usize,
+    table: &mut [u64],
+    from: usize,
 ) -> Run
-    requires { ⌜ Fits (now s) (at .0) (k + 1) ⌝ }
-    ensures { λ r. ⌜ left (now (t .exit)) r ≡ after (now (t .entry)) k (run high (now (s .entry)) (item (Item.echo flag) ▸ content (attributeOf attribute) flag) (at .0)) ⌝ }
+    requires { ⌜ Fits (now body) (at .0) (from + 1) ⌝ }
+    ensures { λ r. ⌜ runLeaves (now (table .exit)) r ≡ shownOver (now (table .entry)) from (run high (now (body .entry)) (item (Item.echo flag) ▸ content (attributeOf attribute) flag) (at .0)) ⌝ }
 {
     let kind = attribute.kind;
     let what = attribute.data_type;
-    table::put(t, k, flag);
-    read_content(kind, what, flag, s, at, t, k + 1)
+    table::put(table, from, flag);
+    read_content(kind, what, flag, body, at, table, from + 1)
 }
 
 // The rows' attributes in order, with the flag numbers that were read for them.
-fn read_contents(rows: Rows, flags: &[u64], s: &[u8], at: BitPlace, t: &mut [u64], k: usize) -> Run
-    requires { ⌜ AreRows (rows .start) (rows .end) × (9 ≤ length (now flags)) × Fits (now s) (at .0) (k + 9) ⌝ }
-    ensures { λ r. ⌜ left (now (t .exit)) r ≡ after (now (t .entry)) k (run high (now (s .entry)) («rowsOf» (rowsFrom (rows .start) (rows .end)) (take (rows .end - rows .start) (now (flags .entry)))) (at .0)) ⌝ }
+fn read_contents(
+    rows: Rows,
+    flags: &[u64],
+    body: &[u8],
+    at: BitPlace,
+    table: &mut [u64],
+    from: usize,
+) -> Run
+    requires { ⌜ AreRows (rows .start) (rows .end) × (9 ≤ length (now flags)) × Fits (now body) (at .0) (from + 9) ⌝ }
+    ensures { λ r. ⌜ runLeaves (now (table .exit)) r ≡ shownOver (now (table .entry)) from (run high (now (body .entry)) (rowsOf (rowsFrom (rows .start) (rows .end)) (take (rows .end - rows .start) (now (flags .entry)))) (at .0)) ⌝ }
 {
     let attributes = attributes::ATTRIBUTES;
     let start = rows.start;
     let end = rows.end;
     let mut place = at;
-    let mut j = k;
+    let mut index = from;
     let mut row = start;
     while row < end {
         let flag = flags[row - start];
         let attribute = attributes[row];
-        let r = read_attribute(attribute, flag, s, place, t, j);
-        let Run::Done(next, i) = r else {
+        let r = read_attribute(attribute, flag, body, place, table, index);
+        let Run::Done(next, behind) = r else {
             return r;
         };
         place = next;
-        j = i;
+        index = behind;
         row += 1;
     }
-    Run::Done(place, j)
+    Run::Done(place, index)
 }
 
 // An attribute block.
-pub(crate) fn read_block(rows: Rows, s: &[u8], at: BitPlace, t: &mut [u64], k: usize) -> Run
-    requires { ⌜ AreRows (rows .start) (rows .end) × Fits (now s) (at .0) (k + 9) ⌝ }
-    ensures { λ r. ⌜ left (now (t .exit)) r ≡ after (now (t .entry)) k (readBlock high (now (s .entry)) (rowsFrom (rows .start) (rows .end)) (at .0)) ⌝ }
+pub(crate) fn read_block(
+    rows: Rows,
+    body: &[u8],
+    at: BitPlace,
+    table: &mut [u64],
+    from: usize,
+) -> Run
+    requires { ⌜ AreRows (rows .start) (rows .end) × Fits (now body) (at .0) (from + 9) ⌝ }
+    ensures { λ r. ⌜ runLeaves (now (table .exit)) r ≡ shownOver (now (table .entry)) from (readBlock high (now (body .entry)) (rowsFrom (rows .start) (rows .end)) (at .0)) ⌝ }
 {
     let mut flags = [0u64; 9];
-    let r = attributes::read_flags(rows, s, at, &mut flags);
+    let r = attributes::read_flags(rows, body, at, &mut flags);
     match r {
-        Run::Done(next, _) => read_contents(rows, &flags, s, next, t, k),
-        Run::Stop(why, _) => Run::Stop(why, k),
+        Run::Done(next, _) => read_contents(rows, &flags, body, next, table, from),
+        Run::Stop(why, _) => Run::Stop(why, from),
     }
 }

@@ -4,15 +4,23 @@ ghost use Prim.Native.Nat.{_<_, _^_};
 ghost use lib.ListN.{length};
 ghost use Rattle.format.specs.Bits.{high};
 ghost use Rattle.format.specs.Bodies.{readPart, readBody};
-ghost use Rattle.table.specs.State.{after};
-ghost use Rattle.table.specs.Run.{left};
+ghost use Rattle.table.specs.State.{shownOver};
+ghost use Rattle.table.specs.Run.{runLeaves};
 ghost use Rattle.bodies.specs.Leaf.{isBlock, leafBody};
+ghost use Rattle.bodies.specs.Shown.{shownLeaves};
 
 mod blocks;
 
 use bits::Aligned;
 use bits::BitPlace;
+use bits::BytePlace;
 use table::Run;
+
+// After the values of a tag: the byte of its body where they end, and the index behind what was stored; or a reason.
+pub enum Shown {
+    Done(BytePlace, usize),
+    Stop(u32, usize),
+}
 
 // Is the code one of an attribute block?
 pub fn is_block(code: u32) -> bool
@@ -28,32 +36,34 @@ pub fn is_block(code: u32) -> bool
 }
 
 // The items of a body, up to where they end.
-fn read_part(code: u32, s: &[u8], t: &mut [u64], k: usize) -> Run
-    requires { ⌜ (length (now s) < 2 ^ 60) × (k < 2 ^ 61) ⌝ }
-    ensures { λ r. ⌜ left (now (t .exit)) r ≡ after (now (t .entry)) k (readPart high (now (s .entry)) (leafBody code) 0) ⌝ }
+fn read_part(code: u32, body: &[u8], table: &mut [u64], from: usize) -> Run
+    requires { ⌜ (length (now body) < 2 ^ 60) × (from < 2 ^ 61) ⌝ }
+    ensures { λ r. ⌜ runLeaves (now (table .exit)) r ≡ shownOver (now (table .entry)) from (readPart high (now (body .entry)) (leafBody code) 0) ⌝ }
 {
     if is_block(code) {
-        return blocks::read_block(attributes::rows_of(code), s, BitPlace(0), t, k);
+        return blocks::read_block(attributes::rows_of(code), body, BitPlace(0), table, from);
     }
-    fixed::read_fixed(code, s, BitPlace(0), t, k)
+    fixed::read_fixed(code, body, BitPlace(0), table, from)
 }
 
 // The body of a leaf tag: its items, zero bits up to a whole byte (15), and nothing more (18).
-pub fn read_body(code: u32, s: &[u8], t: &mut [u64], k: usize) -> Run
-    requires { ⌜ (length (now s) < 2 ^ 60) × (k < 2 ^ 61) ⌝ }
-    ensures { λ r. ⌜ left (now (t .exit)) r ≡ after (now (t .entry)) k (readBody high (leafBody code) (now (s .entry))) ⌝ }
+pub fn read_body(code: u32, body: &[u8], table: &mut [u64], from: usize) -> Shown
+    requires { ⌜ (length (now body) < 2 ^ 60) × (from < 2 ^ 61) ⌝ }
+    ensures { λ r. ⌜ shownLeaves (now (table .exit)) r ≡ shownOver (now (table .entry)) from (readBody high (leafBody code) (now (body .entry))) ⌝ }
 {
-    let r = read_part(code, s, t, k);
-    let Run::Done(next, j) = r else {
-        return r;
-    };
-    let a = bits::align(s, next);
-    let Aligned::Clean(byte, end) = a else {
-        return Run::Stop(15, j);
-    };
-    if byte.0 == s.len() {
-        Run::Done(end, j)
-    } else {
-        Run::Stop(18, j)
+    let r = read_part(code, body, table, from);
+    match r {
+        Run::Stop(why, behind) => Shown::Stop(why, behind),
+        Run::Done(next, behind) => {
+            let a = bits::align(body, next);
+            let Aligned::Clean(end, _) = a else {
+                return Shown::Stop(15, behind);
+            };
+            if end.0 == body.len() {
+                Shown::Done(end, behind)
+            } else {
+                Shown::Stop(18, behind)
+            }
+        }
     }
 }

@@ -16,8 +16,8 @@ use Rattle.format.specs.FileAndTags.{opaque, end, container, known, codes, clas
 use Rattle.format.proofs.RoomLaws.{FairClass, fair-class}
 use Rattle.classes.specs.declared.Class.{Class}
 use Rattle.classes.specs.declared.Class.the-variants.{Opaque, End, Container, Fixed, Attributes}
-use Rattle.classes.specs.declared.Reads.{Reads}
-use Rattle.classes.specs.declared.Reads.the-variants.{All, Lists}
+use Rattle.classes.specs.declared.Scope.{Scope}
+use Rattle.classes.specs.declared.Scope.the-variants.{All, Lists}
 use Rattle.classes.specs.Classes.{named, allClasses, ends, contains, classAt, takenAs, skimmed, classBy}
 use Rattle.classes.specs.Tables.{tab, grid}
 use Rattle.classes.proofs.Table.{at, at-grid}
@@ -110,7 +110,7 @@ module _ (y : ℕ → Body) (l : ℕ → paper.Class) (r : Right y l) (level cod
 
 -- ---- How much a walk reads.
 
-pub named-skimmed : (reads : Reads) (c : paper.Class) → named (skimmed reads c) ≡ takenAs reads (named c)
+pub named-skimmed : (scope : Scope) (c : paper.Class) → named (skimmed scope c) ≡ takenAs scope (named c)
 named-skimmed All c = refl
 named-skimmed Lists opaque = refl
 named-skimmed Lists end = refl
@@ -119,18 +119,18 @@ named-skimmed Lists (known (fixed f)) = refl
 named-skimmed Lists (known (attributes rows)) = refl
 
 -- the class that a walk takes a code's tag for, step by step: the class at the level, and what it is taken as
-pub taken-named : (reads : Reads) (level : ℕ) {code n : ℕ} {listed class : Class} → n ≡ code → listed ≡ classAt level n → class ≡ takenAs reads listed → class ≡ named (classBy reads level code)
-taken-named reads level {code} e p q = q ∙ ap (takenAs reads) (p ∙ ap (classAt level) e) ∙ sym (named-skimmed reads (classOf level code))
+pub taken-named : (scope : Scope) (level : ℕ) {code n : ℕ} {listed class : Class} → n ≡ code → listed ≡ classAt level n → class ≡ takenAs scope listed → class ≡ named (classBy scope level code)
+taken-named scope level {code} e p q = q ∙ ap (takenAs scope) (p ∙ ap (classAt level) e) ∙ sym (named-skimmed scope (classOf level code))
 
 -- a header passes alike
-pub end-skimmed : (reads : Reads) (c : paper.Class) → isEnd (skimmed reads c) ≡ isEnd c
+pub end-skimmed : (scope : Scope) (c : paper.Class) → isEnd (skimmed scope c) ≡ isEnd c
 end-skimmed All c = refl
 end-skimmed Lists opaque = refl
 end-skimmed Lists end = refl
 end-skimmed Lists (container f) = refl
 end-skimmed Lists (known y) = refl
 
-pub container-skimmed : (reads : Reads) (c : paper.Class) → isContainer (skimmed reads c) ≡ isContainer c
+pub container-skimmed : (scope : Scope) (c : paper.Class) → isContainer (skimmed scope c) ≡ isContainer c
 container-skimmed All c = refl
 container-skimmed Lists opaque = refl
 container-skimmed Lists end = refl
@@ -138,10 +138,10 @@ container-skimmed Lists (container f) = refl
 container-skimmed Lists (known y) = refl
 
 -- and a list needs no more room
-pub fair-by : (o : Order) (reads : Reads) (level code : ℕ) → FairClass o (classBy reads level code)
-fair-by o reads level code = go reads (classOf level code) (fair-class o level code)
+pub fair-by : (o : Order) (scope : Scope) (level code : ℕ) → FairClass o (classBy scope level code)
+fair-by o scope level code = go scope (classOf level code) (fair-class o level code)
   where
-    go : (reads : Reads) (c : paper.Class) → FairClass o c → FairClass o (skimmed reads c)
+    go : (scope : Scope) (c : paper.Class) → FairClass o c → FairClass o (skimmed scope c)
     go All c h = h
     go Lists opaque h = tt
     go Lists end h = tt
@@ -150,7 +150,7 @@ fair-by o reads level code = go reads (classOf level code) (fair-class o level c
 
 -- by its name and the code
 module _ (y : ℕ → Body) (l : ℕ → Format) where
-  spelt-skimmed : (reads : Reads) (class : Class) (code : ℕ) → skimmed reads (spelt y (λ k. container (l k)) class code) ≡ spelt y (λ k. container (l k)) (takenAs reads class) code
+  spelt-skimmed : (scope : Scope) (class : Class) (code : ℕ) → skimmed scope (spelt y (λ k. container (l k)) class code) ≡ spelt y (λ k. container (l k)) (takenAs scope class) code
   spelt-skimmed All class code = refl
   spelt-skimmed Lists Opaque code = refl
   spelt-skimmed Lists End code = refl
@@ -158,11 +158,11 @@ module _ (y : ℕ → Body) (l : ℕ → Format) where
   spelt-skimmed Lists Fixed code = refl
   spelt-skimmed Lists Attributes code = refl
 
-  pub taken-by : Right y (λ k. container (l k)) → (reads : Reads) (level code : ℕ)
-      → classBy reads level code ≡ spelt y (λ k. container (l k)) (named (classBy reads level code)) code
-  taken-by r reads level code =
-      ap (skimmed reads) (by-code y (λ k. container (l k)) r level code) ∙ spelt-skimmed reads (classAt level code) code
-      ∙ ap (λ (c : Class). spelt y (λ k. container (l k)) c code) (sym (named-skimmed reads (classOf level code)))
+  pub taken-by : Right y (λ k. container (l k)) → (scope : Scope) (level code : ℕ)
+      → classBy scope level code ≡ spelt y (λ k. container (l k)) (named (classBy scope level code)) code
+  taken-by r scope level code =
+      ap (skimmed scope) (by-code y (λ k. container (l k)) r level code) ∙ spelt-skimmed scope (classAt level code) code
+      ∙ ap (λ (c : Class). spelt y (λ k. container (l k)) c code) (sym (named-skimmed scope (classOf level code)))
 
 -- ---- From the table.
 

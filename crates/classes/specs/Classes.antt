@@ -1,16 +1,17 @@
 -- The class of a code at a level, as the program has it.
 use Prim.Native.Nat.{ℕ}
-use mathlib.Core.List.{List}
+use mathlib.Core.List.{List, []}
 use lib.ListN.{getD}
-use mathlib.Core.Bool.{Bool, true, false}
+use mathlib.Core.Bool.{Bool}
+use Rattle.format.specs.Formats.{nothing}
 use Rattle.format.specs.Bodies.{fixed, attributes}
 use Rattle.format.specs.FileAndTags as paper
-use Rattle.format.specs.FileAndTags.{codes, classOf}
+use Rattle.format.specs.FileAndTags.{codes, classOf, isEnd, isContainer}
 use Rattle.classes.specs.Tables.{grid}
 use Rattle.classes.specs.declared.Class.{Class}
 use Rattle.classes.specs.declared.Class.the-variants.{Opaque, End, Container, Fixed, Attributes}
-use Rattle.classes.specs.declared.Reads.{Reads}
-use Rattle.classes.specs.declared.Reads.the-variants.{All, Lists}
+use Rattle.classes.specs.declared.Scope.{Scope}
+use Rattle.classes.specs.declared.Scope.the-variants.{All, Lists}
 
 -- opaque, End, container, fixed, attributes
 abbrev pub named : paper.Class → Class
@@ -27,40 +28,36 @@ classAt level code = named (classOf level code)
 unfoldable pub allClasses : List (List Class)
 allClasses = grid (λ code. named (getD codes code paper.opaque)) 32 32
 
--- the two tests of a header look at the name only
+-- a class of this name with nothing in it: enough for a rule that looks at the name alone
+abbrev pub bare : Class → paper.Class
+bare Opaque = paper.opaque
+bare End = paper.end
+bare Container = paper.container nothing
+bare Fixed = paper.known (fixed nothing)
+bare Attributes = paper.known (attributes [])
+
+-- the two tests of a header
 abbrev pub ends : Class → Bool
-ends Opaque = false
-ends End = true
-ends Container = false
-ends Fixed = false
-ends Attributes = false
+ends class = isEnd (bare class)
 
 abbrev pub contains : Class → Bool
-contains Opaque = false
-contains End = false
-contains Container = true
-contains Fixed = false
-contains Attributes = false
+contains class = isContainer (bare class)
 
 -- ---- How much a walk reads: all of a list; or the lists alone, with every other body opaque.
 
--- the class that a tag is taken for, by name
-abbrev pub takenAs : Reads → Class → Class
-takenAs All class = class
-takenAs Lists Opaque = Opaque
-takenAs Lists End = End
-takenAs Lists Container = Container
-takenAs Lists Fixed = Opaque
-takenAs Lists Attributes = Opaque
-
--- and of the definitions' classes
-abbrev pub skimmed : Reads → paper.Class → paper.Class
+-- the class that a tag is taken for
+abbrev pub skimmed : Scope → paper.Class → paper.Class
 skimmed All c = c
 skimmed Lists paper.opaque = paper.opaque
 skimmed Lists paper.end = paper.end
 skimmed Lists (paper.container f) = paper.container f
 skimmed Lists (paper.known y) = paper.opaque
 
+-- by name
+abbrev pub takenAs : Scope → Class → Class
+takenAs All class = class
+takenAs Lists class = named (skimmed Lists (bare class))
+
 -- the classes that a walk at a level goes by; where it reads all, they are the level's
-abbrev pub classBy : Reads → ℕ → ℕ → paper.Class
-classBy reads level code = skimmed reads (classOf level code)
+abbrev pub classBy : Scope → ℕ → ℕ → paper.Class
+classBy scope level code = skimmed scope (classOf level code)

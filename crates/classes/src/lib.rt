@@ -14,7 +14,7 @@ pub enum Class {
 }
 
 // How much a walk reads of a tag list: all of it; or, where all of it was judged before, the lists alone, with every other body opaque.
-pub enum Reads {
+pub enum Scope {
     All,
     Lists,
 }
@@ -107,12 +107,12 @@ pub fn at_level(level: u32, code: u32, listed: Class) -> Class
 }
 
 // The class that a walk takes a tag for: where only lists are read, a body that has no list in it is opaque.
-pub fn taken_as(reads: Reads, class: Class) -> Class
-    ensures { λ r. ⌜ r ≡ takenAs reads class ⌝ }
+pub fn taken_as(scope: Scope, class: Class) -> Class
+    ensures { λ r. ⌜ r ≡ takenAs scope class ⌝ }
 {
-    match reads {
-        Reads::All => class,
-        Reads::Lists => match class {
+    match scope {
+        Scope::All => class,
+        Scope::Lists => match class {
             Class::Opaque => Class::Opaque,
             Class::End => Class::End,
             Class::Container => Class::Container,

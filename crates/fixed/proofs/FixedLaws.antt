@@ -21,8 +21,8 @@ use Rattle.format.proofs.RoomLaws.{fair-class}
 use Rattle.items.specs.Kinds.{formatOf}
 use Rattle.items.specs.declared.Item.{Item}
 use Rattle.items.specs.declared.Item.the-variants.{U32, I32, Byte}
-use Rattle.table.specs.State.{State, after}
-use Rattle.table.specs.Run.{left}
+use Rattle.table.specs.State.{State, shownOver}
+use Rattle.table.specs.Run.{runLeaves}
 use Rattle.table.proofs.EngineLaws.{Alike, alike-nothing, alike-assoc, alike-after}
 use Rattle.fixed.specs.Fixed.{inOrder, allItems, itemsFrom, fixedOf, RowsOf}
 
@@ -93,8 +93,8 @@ unfolding fixedOf
 fixed-fonts code e = rw e
 
 -- what was left by a reading that is the same
-pub left-as : {x : State} {r w : Reading} (t : List ℕ) (k : ℕ) → r ≡ w → x ≡ after t k r → x ≡ after t k w
-left-as t k h e = e ∙ ap (after t k) h
+pub left-as : {x : State} {r w : Reading} (t : List ℕ) (k : ℕ) → r ≡ w → x ≡ shownOver t k r → x ≡ shownOver t k w
+left-as t k h e = e ∙ ap (shownOver t k) h
 
 -- ---- formats, part by part
 

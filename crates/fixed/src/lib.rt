@@ -6,8 +6,8 @@ ghost use Rattle.format.specs.Bits.{high};
 ghost use Rattle.format.specs.Formats.{times};
 ghost use Rattle.format.specs.Items.{run, string};
 ghost use Rattle.format.specs.Bodies.{fontTables};
-ghost use Rattle.table.specs.State.{after};
-ghost use Rattle.table.specs.Run.{left};
+ghost use Rattle.table.specs.State.{shownOver};
+ghost use Rattle.table.specs.Run.{runLeaves};
 ghost use Rattle.table.specs.Fields.{Fits};
 ghost use Rattle.fixed.specs.Fixed.{inOrder, allItems, itemsFrom, fixedOf, RowsOf};
 use bits::BitPlace;
@@ -49,59 +49,66 @@ pub struct Rows {
 }
 
 // The items from row start on, up to row end.
-fn read_items(start: usize, end: usize, s: &[u8], at: BitPlace, t: &mut [u64], k: usize) -> Run
-    requires { ⌜ (start ≤ end) × (end ≤ 18) × Fits (now s) (at .0) k ⌝ }
-    ensures { λ r. ⌜ left (now (t .exit)) r ≡ after (now (t .entry)) k (run high (now (s .entry)) (inOrder (itemsFrom start end)) (at .0)) ⌝ }
+fn read_items(
+    start: usize,
+    end: usize,
+    body: &[u8],
+    at: BitPlace,
+    table: &mut [u64],
+    from: usize,
+) -> Run
+    requires { ⌜ (start ≤ end) × (end ≤ 18) × Fits (now body) (at .0) from ⌝ }
+    ensures { λ r. ⌜ runLeaves (now (table .exit)) r ≡ shownOver (now (table .entry)) from (run high (now (body .entry)) (inOrder (itemsFrom start end)) (at .0)) ⌝ }
 {
     let rows = ITEMS;
     let mut place = at;
-    let mut j = k;
+    let mut index = from;
     let mut row = start;
     while row < end {
         let kind = rows[row];
-        let r = table::read_one(kind, s, place, t, j);
-        let Run::Done(next, i) = r else {
+        let r = table::read_one(kind, body, place, table, index);
+        let Run::Done(next, behind) = r else {
             return r;
         };
         place = next;
-        j = i;
+        index = behind;
         row += 1;
     }
-    Run::Done(place, j)
+    Run::Done(place, index)
 }
 
 // n Strings.
-fn read_strings(n: usize, s: &[u8], at: BitPlace, t: &mut [u64], k: usize) -> Run
-    requires { ⌜ Fits (now s) (at .0) k ⌝ }
-    ensures { λ r. ⌜ left (now (t .exit)) r ≡ after (now (t .entry)) k (run high (now (s .entry)) (times n string) (at .0)) ⌝ }
+fn read_strings(count: usize, body: &[u8], at: BitPlace, table: &mut [u64], from: usize) -> Run
+    requires { ⌜ Fits (now body) (at .0) from ⌝ }
+    ensures { λ r. ⌜ runLeaves (now (table .exit)) r ≡ shownOver (now (table .entry)) from (run high (now (body .entry)) (times count string) (at .0)) ⌝ }
 {
     let mut place = at;
-    let mut j = k;
-    let mut left = n;
+    let mut index = from;
+    let mut left = count;
     while 0 < left {
-        let r = table::text::read_string(s, place, t, j);
-        let Run::Done(behind, i) = r else {
+        let r = table::text::read_string(body, place, table, index);
+        let Run::Done(next, behind) = r else {
             return r;
         };
-        place = behind;
-        j = i;
+        place = next;
+        index = behind;
         left -= 1;
     }
-    Run::Done(place, j)
+    Run::Done(place, index)
 }
 
 // 1: a count, then two Strings each.
-fn read_fonts(s: &[u8], at: BitPlace, t: &mut [u64], k: usize) -> Run
-    requires { ⌜ Fits (now s) (at .0) k ⌝ }
-    ensures { λ r. ⌜ left (now (t .exit)) r ≡ after (now (t .entry)) k (run high (now (s .entry)) fontTables (at .0)) ⌝ }
+fn read_fonts(body: &[u8], at: BitPlace, table: &mut [u64], from: usize) -> Run
+    requires { ⌜ Fits (now body) (at .0) from ⌝ }
+    ensures { λ r. ⌜ runLeaves (now (table .exit)) r ≡ shownOver (now (table .entry)) from (run high (now (body .entry)) fontTables (at .0)) ⌝ }
 {
-    let c = items::read_item(Item::Count(0), s, at);
-    match c {
-        Got::Value(n, next) => {
-            table::put(t, k, n);
-            read_strings(2 * (n as usize), s, next, t, k + 1)
+    let counted = items::read_item(Item::Count(0), body, at);
+    match counted {
+        Got::Value(count, next) => {
+            table::put(table, from, count);
+            read_strings(2 * (count as usize), body, next, table, from + 1)
         }
-        Got::Fault(why) => Run::Stop(why, k),
+        Got::Fault(why) => Run::Stop(why, from),
     }
 }
 
@@ -122,13 +129,13 @@ pub fn rows_of(code: u32) -> Rows
 }
 
 // The items of a tag that is no attribute block; of a container those before its list.
-pub fn read_fixed(code: u32, s: &[u8], at: BitPlace, t: &mut [u64], k: usize) -> Run
-    requires { ⌜ Fits (now s) (at .0) k ⌝ }
-    ensures { λ r. ⌜ left (now (t .exit)) r ≡ after (now (t .entry)) k (run high (now (s .entry)) (fixedOf code) (at .0)) ⌝ }
+pub fn read_fixed(code: u32, body: &[u8], at: BitPlace, table: &mut [u64], from: usize) -> Run
+    requires { ⌜ Fits (now body) (at .0) from ⌝ }
+    ensures { λ r. ⌜ runLeaves (now (table .exit)) r ≡ shownOver (now (table .entry)) from (run high (now (body .entry)) (fixedOf code) (at .0)) ⌝ }
 {
     if code == 1 {
-        return read_fonts(s, at, t, k);
+        return read_fonts(body, at, table, from);
     }
     let rows = rows_of(code);
-    read_items(rows.start, rows.end, s, at, t, k)
+    read_items(rows.start, rows.end, body, at, table, from)
 }

@@ -12,52 +12,54 @@ use Rattle.format.specs.Reading.{Ending, At, Fault, Reading}
 use Rattle.format.specs.Formats.{Item, Format, nothing, item, only, _▹_}
 use Rattle.format.specs.Items.{readItem, readFlag, Num, num, bad, showNum, run}
 use Rattle.format.specs.Bodies.{Kind, Value, Fixed, BitFlag, Simple, Discrete, Attribute, flagsOf, content, allFlags, rows, handOn, readBlock}
-use Rattle.format.specs.WritingItems.{Written, wrote, cannot, writeItem}
+use Rattle.format.specs.Possible.{Possible, this, cannot}
+use Rattle.format.specs.WritingItems.{Written, wrote, writeItem}
 use Rattle.format.specs.WritingFormats.{passing, adjoin, onward, unrun}
 use Rattle.format.specs.WritingBodies.{leftOf, flagsIn, usedUp, writeBlock}
 use Rattle.format.proofs.BitLaws.{Has}
 use Rattle.format.proofs.ItemLaws.{round-trip}
 use Rattle.format.proofs.Trip.{Trip, There, Back, ThereIf, BackIf, has-le, has-append, has-split}
+use Rattle.format.proofs.Absurd.{clash}
 
 -- ---- the place changes only the bits
-abbrev Same : Written → Written → Type 0
-Same (wrote xs bs ys) (wrote xs′ bs′ ys′) = (xs ≡ xs′) × (ys ≡ ys′)
-Same (wrote xs bs ys) cannot = ⊥
-Same cannot (wrote xs bs ys) = ⊥
+abbrev Same : Possible Written → Possible Written → Type 0
+Same (this (wrote xs bs ys)) (this (wrote xs′ bs′ ys′)) = (xs ≡ xs′) × (ys ≡ ys′)
+Same (this (wrote xs bs ys)) cannot = ⊥
+Same cannot (this (wrote xs bs ys)) = ⊥
 Same cannot cannot = Unit {0}
 
-same-refl : (w : Written) → Same w w
-same-refl (wrote xs bs ys) = (refl, refl)
+same-refl : (w : Possible Written) → Same w w
+same-refl (this (wrote xs bs ys)) = (refl, refl)
 same-refl cannot = tt
 
-same-left : (w w′ : Written) → Same w w′ → leftOf w ≡ leftOf w′
-same-left (wrote xs bs ys) (wrote xs′ bs′ ys′) h = h .1
-same-left (wrote xs bs ys) cannot h = absurd h
-same-left cannot (wrote xs bs ys) h = absurd h
+same-left : (w w′ : Possible Written) → Same w w′ → leftOf w ≡ leftOf w′
+same-left (this (wrote xs bs ys)) (this (wrote xs′ bs′ ys′)) h = h .1
+same-left (this (wrote xs bs ys)) cannot h = absurd h
+same-left cannot (this (wrote xs bs ys)) h = absurd h
 same-left cannot cannot h = refl
 
-same-adjoin : (xs : List ℕ) (bs bs′ : List Bool) (w w′ : Written) → Same w w′ → Same (adjoin xs bs w) (adjoin xs bs′ w′)
-same-adjoin xs bs bs′ (wrote xs₁ bs₁ ys₁) (wrote xs₂ bs₂ ys₂) h = (ap (λ (l : List ℕ). xs ++ l) (h .0), h .1)
-same-adjoin xs bs bs′ (wrote xs₁ bs₁ ys₁) cannot h = absurd h
-same-adjoin xs bs bs′ cannot (wrote xs₂ bs₂ ys₂) h = absurd h
+same-adjoin : (xs : List ℕ) (bs bs′ : List Bool) (w w′ : Possible Written) → Same w w′ → Same (adjoin xs bs w) (adjoin xs bs′ w′)
+same-adjoin xs bs bs′ (this (wrote xs₁ bs₁ ys₁)) (this (wrote xs₂ bs₂ ys₂)) h = (ap (λ (l : List ℕ). xs ++ l) (h .0), h .1)
+same-adjoin xs bs bs′ (this (wrote xs₁ bs₁ ys₁)) cannot h = absurd h
+same-adjoin xs bs bs′ cannot (this (wrote xs₂ bs₂ ys₂)) h = absurd h
 same-adjoin xs bs bs′ cannot cannot h = tt
 
-same-onward : (k : List ℕ → List ℕ → ℕ → Written) → ((xs ys : List ℕ) (p q : ℕ) → Same (k xs ys p) (k xs ys q))
-    → (w w′ : Written) (p q : ℕ) → Same w w′ → Same (onward w p k) (onward w′ q k)
-same-onward k s (wrote xs bs ys) (wrote xs′ bs′ ys′) p q h =
+same-onward : (k : List ℕ → List ℕ → ℕ → Possible Written) → ((xs ys : List ℕ) (p q : ℕ) → Same (k xs ys p) (k xs ys q))
+    → (w w′ : Possible Written) (p q : ℕ) → Same w w′ → Same (onward w p k) (onward w′ q k)
+same-onward k s (this (wrote xs bs ys)) (this (wrote xs′ bs′ ys′)) p q h =
     rw (h .0, h .1) (same-adjoin xs′ bs bs′ (k xs′ ys′ (p + length bs)) (k xs′ ys′ (q + length bs′)) (s xs′ ys′ _ _))
-same-onward k s (wrote xs bs ys) cannot p q h = absurd h
-same-onward k s cannot (wrote xs bs ys) p q h = absurd h
+same-onward k s (this (wrote xs bs ys)) cannot p q h = absurd h
+same-onward k s cannot (this (wrote xs bs ys)) p q h = absurd h
 same-onward k s cannot cannot p q h = tt
 
-same-passing : (t : List ℕ → Bool) (w w′ : Written) → Same w w′ → Same (passing t w) (passing t w′)
-same-passing t (wrote xs bs ys) (wrote xs′ bs′ ys′) h = rw (h .0) (go (t xs′))
+same-passing : (t : List ℕ → Bool) (w w′ : Possible Written) → Same w w′ → Same (passing t w) (passing t w′)
+same-passing t (this (wrote xs bs ys)) (this (wrote xs′ bs′ ys′)) h = rw (h .0) (go (t xs′))
   where
-    go : (c : Bool) → Same (pick c (wrote xs′ bs ys) cannot) (pick c (wrote xs′ bs′ ys′) cannot)
+    go : (c : Bool) → Same (pick c (this (wrote xs′ bs ys)) cannot) (pick c (this (wrote xs′ bs′ ys′)) cannot)
     go true = (refl, h .1)
     go false = tt
-same-passing t (wrote xs bs ys) cannot h = absurd h
-same-passing t cannot (wrote xs bs ys) h = absurd h
+same-passing t (this (wrote xs bs ys)) cannot h = absurd h
+same-passing t cannot (this (wrote xs bs ys)) h = absurd h
 same-passing t cannot cannot h = tt
 
 same-item : (o : Order) (i : Item) (ns : List ℕ) (p q : ℕ) → Same (writeItem o i ns p) (writeItem o i ns q)
@@ -86,13 +88,13 @@ left-place : (o : Order) (f : Format) (ns : List ℕ) (p q : ℕ) → leftOf (un
 left-place o f ns p q = same-left (unrun o f ns p) (unrun o f ns q) (same-place o f ns p q)
 
 -- ---- what is read first and not shown; the writer finds it by a guess
-module _ (o : Order) (R : List ℕ → ℕ → Reading) (W : List ℕ → ℕ → Written)
-    (R′ : List ℕ → List ℕ → ℕ → Reading) (W′ : List ℕ → List ℕ → ℕ → Written) (guess : List ℕ → List ℕ)
+module _ (o : Order) (R : List ℕ → ℕ → Reading) (W : List ℕ → ℕ → Possible Written)
+    (R′ : List ℕ → List ℕ → ℕ → Reading) (W′ : List ℕ → List ℕ → ℕ → Possible Written) (guess : List ℕ → List ℕ)
     (t : Trip o R W) (t′ : (xs : List ℕ) → Trip o (R′ xs) (W′ xs)) where
   abbrev firstR : List ℕ → ℕ → Reading
   firstR b p = handOn (R b p .shown) (R b p .ended) (λ xs q. R′ xs b q)
 
-  abbrev firstW : List ℕ → ℕ → Written
+  abbrev firstW : List ℕ → ℕ → Possible Written
   firstW ns p = usedUp (W (guess ns) p) (λ xs bs. adjoin [] bs (W′ xs ns (p + length bs)))
 
   first-back : (ns : List ℕ) (p : ℕ) → BackIf o ns p firstR (firstW ns p)
@@ -107,14 +109,14 @@ module _ (o : Order) (R : List ℕ → ℕ → Reading) (W : List ℕ → ℕ �
             rw (u .reads b (s .0), v .reads b (s .1), length-append, add-assoc);
       }
 
-      more : (xs : List ℕ) (bs : List Bool) → Back o (guess ns) xs bs [] p R → (w : Written) → BackIf o ns (p + length bs) (R′ xs) w → BackIf o ns p firstR (adjoin [] bs w)
+      more : (xs : List ℕ) (bs : List Bool) → Back o (guess ns) xs bs [] p R → (w : Possible Written) → BackIf o ns (p + length bs) (R′ xs) w → BackIf o ns p firstR (adjoin [] bs w)
       more xs bs u cannot v = tt
-      more xs bs u (wrote xs′ bs′ ys′) v = join xs bs xs′ bs′ ys′ u v
+      more xs bs u (this (wrote xs′ bs′ ys′)) v = join xs bs xs′ bs′ ys′ u v
 
-      go : (w : Written) → BackIf o (guess ns) p R w → BackIf o ns p firstR (usedUp w (λ xs bs. adjoin [] bs (W′ xs ns (p + length bs))))
+      go : (w : Possible Written) → BackIf o (guess ns) p R w → BackIf o ns p firstR (usedUp w (λ xs bs. adjoin [] bs (W′ xs ns (p + length bs))))
       go cannot u = tt
-      go (wrote xs bs (y ∷ ys)) u = tt
-      go (wrote xs bs []) u = more xs bs u (W′ xs ns (p + length bs)) (t′ xs .back ns (p + length bs))
+      go (this (wrote xs bs (y ∷ ys))) u = tt
+      go (this (wrote xs bs [])) u = more xs bs u (W′ xs ns (p + length bs)) (t′ xs .back ns (p + length bs))
 
   module _ (right : (b : List ℕ) (p m q : ℕ) → p ≤ 8 * length b → R b p .ended ≡ At m → R′ (R b p .shown) b m .ended ≡ At q
       → (ys : List ℕ) → guess (R′ (R b p .shown) b m .shown ++ ys) ≡ R b p .shown) where
@@ -144,7 +146,7 @@ module _ (o : Order) (R : List ℕ → ℕ → Reading) (W : List ℕ → ℕ �
 
 -- ---- attribute blocks
 never : (A : Type 0) (e q : ℕ) → Fault e ≡ At q → A
-never A e q h = let z : _≡_ {A = ℕ} 0 1 = cc in absurd (omega arith)
+never A e q h = clash cc
 
 module _ (o : Order) where
   -- the flags that the table shows are those that were read

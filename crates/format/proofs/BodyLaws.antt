@@ -13,9 +13,10 @@ use Rattle.format.specs.Reading.{Ending, At, Fault, Reading, shows, foll
 use Rattle.format.specs.Formats.{Item}
 use Rattle.format.specs.Items.{readItem}
 use Rattle.format.specs.Bodies.{Body, fixed, attributes, readPart, usedUp, readBody}
-use Rattle.format.specs.WritingItems.{Written, wrote, cannot, writeItem}
+use Rattle.format.specs.Possible.{Possible, this, cannot}
+use Rattle.format.specs.WritingItems.{Written, wrote, writeItem}
 use Rattle.format.specs.WritingFormats.{onward}
-use Rattle.format.specs.WritingBodies.{writePart, pack, Bytes, bytes, impossible, packed, writeBody}
+use Rattle.format.specs.WritingBodies.{writePart, pack, packed, writeBody}
 use Rattle.format.proofs.BitLaws.{length-dig}
 use Rattle.format.proofs.BlockLaws.{trip-block}
 use Rattle.format.proofs.ByteLaws.{has-pack, pack-has, pack-bytes, length-pack}
@@ -31,7 +32,7 @@ module _ (o : Order) where
   abbrev endR : Body → List ℕ → ℕ → Reading
   endR y b p = follow (readPart o b y p .shown) (readPart o b y p .ended) (λ xs q. readItem o b Item.align q)
 
-  abbrev endW : Body → List ℕ → ℕ → Written
+  abbrev endW : Body → List ℕ → ℕ → Possible Written
   endW y ns p = onward (writePart o y ns p) p (λ xs ys q. writeItem o Item.align ys q)
 
   trip-end : (y : Body) → Trip o (endR y) (endW y)
@@ -40,16 +41,16 @@ module _ (o : Order) where
 
   -- what is read is written again
   abbrev pub ReadIf : Body → List ℕ → List ℕ → Ending → Type 0
-  ReadIf y b xs (At q) = writeBody o y xs ≡ bytes b
+  ReadIf y b xs (At q) = writeBody o y xs ≡ this b
   ReadIf y b xs (Fault e) = Unit {0}
 
   pub body-there : (y : Body) (b : List ℕ) → AllBytes b → ReadIf y b (readBody o y b .shown) (readBody o y b .ended)
   unfolding readBody writeBody readItem
   body-there y b a = go (endR y b 0 .ended) refl
     where
-      at : (q : ℕ) → q ≡ 8 * length b → There o b 0 q (endR y b 0 .shown) (endW y) → packed o (endW y (endR y b 0 .shown) 0) ≡ bytes b
+      at : (q : ℕ) → q ≡ 8 * length b → There o b 0 q (endR y b 0 .shown) (endW y) → packed o (endW y (endR y b 0 .shown) 0) ≡ this b
       at q e u =
-          let w : endW y (endR y b 0 .shown) 0 ≡ wrote (endR y b 0 .shown) (u .bits) [] = rw append-nil at (u .again []) in
+          let w : endW y (endR y b 0 .shown) 0 ≡ this (wrote (endR y b 0 .shown) (u .bits) []) = rw append-nil at (u .again []) in
           let n : length (u .bits) / 8 ≡ length b = omega (arith, u .ends) in
           rw (w, n, pack-has o b (u .bits) a (omega (arith, u .ends)) (u .has))
 
@@ -62,27 +63,27 @@ module _ (o : Order) where
       go (At q) eq = rw eq (test q (rw eq at (trip-end y .there b 0 (omega arith))) (eqb q (8 * length b)) refl)
 
   -- what is written is read again
-  abbrev WriteIf : Body → List ℕ → Bytes → Type 0
-  WriteIf y ns (bytes b) = AllBytes b × (readBody o y b ≡ shows ns (8 * length b))
-  WriteIf y ns impossible = Unit {0}
+  abbrev WriteIf : Body → List ℕ → Possible (List ℕ) → Type 0
+  WriteIf y ns (this b) = AllBytes b × (readBody o y b ≡ shows ns (8 * length b))
+  WriteIf y ns cannot = Unit {0}
 
-  abbrev WholeIf : Written → Type 0
-  WholeIf (wrote xs bs ys) = 8 * (length bs / 8) ≡ length bs
+  abbrev WholeIf : Possible Written → Type 0
+  WholeIf (this (wrote xs bs ys)) = 8 * (length bs / 8) ≡ length bs
   WholeIf cannot = Unit {0}
 
-  whole-bytes : (w : Written) → WholeIf (onward w 0 (λ xs ys q. writeItem o Item.align ys q))
+  whole-bytes : (w : Possible Written) → WholeIf (onward w 0 (λ xs ys q. writeItem o Item.align ys q))
   unfolding writeItem
   whole-bytes cannot = tt
-  whole-bytes (wrote xs bs ys) = rw (length-append, length-dig) (omega arith)
+  whole-bytes (this (wrote xs bs ys)) = rw (length-append, length-dig) (omega arith)
 
   write-if : (y : Body) (ns : List ℕ) → WriteIf y ns (writeBody o y ns)
   unfolding readBody writeBody readItem
   write-if y ns = go (endW y ns 0) refl
     where
-      go : (w : Written) → endW y ns 0 ≡ w → WriteIf y ns (packed o (endW y ns 0))
+      go : (w : Possible Written) → endW y ns 0 ≡ w → WriteIf y ns (packed o (endW y ns 0))
       go cannot eq = rw eq tt
-      go (wrote xs bs (z ∷ ys)) eq = rw eq tt
-      go (wrote xs bs []) eq =
+      go (this (wrote xs bs (z ∷ ys))) eq = rw eq tt
+      go (this (wrote xs bs [])) eq =
           let k : ℕ = length bs / 8 in
           let v : Back o ns xs bs [] 0 (endR y) = rw eq at (trip-end y .back ns 0) in
           let n : 8 * k ≡ length bs = rw eq at (whole-bytes (writePart o y ns 0)) in
@@ -91,5 +92,5 @@ module _ (o : Order) where
           let z : 0 + length bs ≡ length bs = omega arith in
           rw eq (pack-bytes o k bs, rw (r, length-pack, n, m, eq-eqb (0 + length bs) (length bs) (omega arith), z))
 
-  pub body-back : (y : Body) (b ns : List ℕ) → writeBody o y ns ≡ bytes b → AllBytes b × (readBody o y b ≡ shows ns (8 * length b))
+  pub body-back : (y : Body) (b ns : List ℕ) → writeBody o y ns ≡ this b → AllBytes b × (readBody o y b ≡ shows ns (8 * length b))
   body-back y b ns h = subst (WriteIf y ns) h (write-if y ns)

@@ -36,4 +36,4 @@ numbers-append (t ∷ ts) us =
 
 pub tagTable-append : (ts us : List Tag) → tagTable (ts ++ us) ≡ tagTable ts ++ tagTable us
 tagTable-append [] us = refl
-tagTable-append (t ∷ ts) us = ap (λ (l : List ℕ). t .depth ∷ t .code ∷ t .place ∷ t .size ∷ t .length ∷ l) (tagTable-append ts us)
+tagTable-append (t ∷ ts) us = ap (λ (l : List ℕ). t .depth ∷ t .code ∷ t .place ∷ t .headerSize ∷ t .bodyLength ∷ l) (tagTable-append ts us)

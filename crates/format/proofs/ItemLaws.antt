@@ -15,31 +15,32 @@ use Rattle.format.specs.Bits.{Order, ub}
 use Rattle.format.specs.Reading.{shows, stop}
 use Rattle.format.specs.Formats.{Item, Format}
 use Rattle.format.specs.Items.{signExtend, skipped, room, Num, num, bad, showNum, mapNum, readUB, carry, readVar, readItem, sign, notOne, readLE, above, readFlag, exist, Text, text, cut, showText, addText, readText, run}
-use Rattle.format.specs.WritingItems.{dig, unextend, wrote, cannot, Bits, spelt, none, before, spellVar, undo, put, single, spellUB, writeItem, unsign, spellI32, spellLE, spellFlag, textByte, spellTxt, takeText}
+use Rattle.format.specs.Possible.{Possible, this, cannot}
+use Rattle.format.specs.WritingItems.{dig, unextend, wrote, before, spellVar, undo, put, single, spellUB, writeItem, unsign, spellI32, spellLE, spellFlag, textByte, spellTxt, takeText}
 use Rattle.format.specs.WritingFormats.{unrun}
 use Rattle.format.proofs.BitLaws.{Has, ub-lt, length-dig, has-ub, ub-has}
 use Rattle.format.proofs.Trip.{Trip, ThereIf, BackIf, has-le, has-append, has-split, trip-fmt}
 
 -- a number that was read, and the bits that it is spelt with
-pub record NumThere (o : Order) (b : List ℕ) (p v q : ℕ) (S : ℕ → Bits) : Type 0 where
+pub record NumThere (o : Order) (b : List ℕ) (p v q : ℕ) (S : ℕ → Possible (List Bool)) : Type 0 where
   pub bits : List Bool
   pub has : Has o b p bits
   pub ends : q ≡ p + length bits
-  pub again : S v ≡ spelt bits
+  pub again : S v ≡ this bits
 
-abbrev pub NumThereIf : (o : Order) (b : List ℕ) (p : ℕ) (S : ℕ → Bits) → Num → Type 0
+abbrev pub NumThereIf : (o : Order) (b : List ℕ) (p : ℕ) (S : ℕ → Possible (List Bool)) → Num → Type 0
 NumThereIf o b p S (num v q) = NumThere o b p v q S
 NumThereIf o b p S (bad e) = Unit {0}
 
-abbrev pub NumBackIf : (o : Order) (v p : ℕ) (N : List ℕ → ℕ → Num) → Bits → Type 0
-NumBackIf o v p N (spelt bs) = (b : List ℕ) → Has o b p bs → N b p ≡ num v (p + length bs)
-NumBackIf o v p N none = Unit {0}
+abbrev pub NumBackIf : (o : Order) (v p : ℕ) (N : List ℕ → ℕ → Num) → Possible (List Bool) → Type 0
+NumBackIf o v p N (this bs) = (b : List ℕ) → Has o b p bs → N b p ≡ num v (p + length bs)
+NumBackIf o v p N cannot = Unit {0}
 
-pub record NumTrip (o : Order) (N : List ℕ → ℕ → Num) (S : ℕ → Bits) : Type 0 where
+pub record NumTrip (o : Order) (N : List ℕ → ℕ → Num) (S : ℕ → Possible (List Bool)) : Type 0 where
   pub there : (b : List ℕ) (p : ℕ) → p ≤ 8 * length b → NumThereIf o b p S (N b p)
   pub back : (v p : ℕ) → NumBackIf o v p N (S v)
 
-module _ (o : Order) (N : List ℕ → ℕ → Num) (S : ℕ → Bits) (t : NumTrip o N S) where
+module _ (o : Order) (N : List ℕ → ℕ → Num) (S : ℕ → Possible (List Bool)) (t : NumTrip o N S) where
   num-there : (b : List ℕ) (p : ℕ) → p ≤ 8 * length b → ThereIf o b p (showNum (N b p) .shown) (λ ns p. single S ns) (showNum (N b p) .ended)
   num-there b p l = go (N b p) refl
     where
@@ -53,9 +54,9 @@ module _ (o : Order) (N : List ℕ → ℕ → Num) (S : ℕ → Bits) (t : NumT
   num-back [] p = tt
   num-back (v ∷ ns) p = go (S v) refl
     where
-      go : (s : Bits) → S v ≡ s → BackIf o (v ∷ ns) p (λ b p. showNum (N b p)) (put (v ∷ []) (S v) ns)
-      go none eq = rw eq tt
-      go (spelt bs) eq =
+      go : (s : Possible (List Bool)) → S v ≡ s → BackIf o (v ∷ ns) p (λ b p. showNum (N b p)) (put (v ∷ []) (S v) ns)
+      go cannot eq = rw eq tt
+      go (this bs) eq =
           let u : (b : List ℕ) → Has o b p bs → N b p ≡ num v (p + length bs) = rw eq at (t .back v p) in
           rw eq (record { parts = refl; reads = λ b h. rw (u b h) })
 
@@ -63,7 +64,7 @@ module _ (o : Order) (N : List ℕ → ℕ → Num) (S : ℕ → Bits) (t : NumT
   trip-num = record { there = num-there; back = num-back }
 
 -- what a number is shown as: g undoes f at the numbers that are read
-module _ (o : Order) (N : List ℕ → ℕ → Num) (S : ℕ → Bits) (f g : ℕ → ℕ) (inv : (b : List ℕ) (p v q : ℕ) → N b p ≡ num v q → g (f v) ≡ v) (t : NumTrip o N S) where
+module _ (o : Order) (N : List ℕ → ℕ → Num) (S : ℕ → Possible (List Bool)) (f g : ℕ → ℕ) (inv : (b : List ℕ) (p v q : ℕ) → N b p ≡ num v q → g (f v) ≡ v) (t : NumTrip o N S) where
   map-there : (b : List ℕ) (p : ℕ) → p ≤ 8 * length b → NumThereIf o b p (undo f g S) (mapNum f (N b p))
   map-there b p l = go (N b p) refl
     where
@@ -76,10 +77,10 @@ module _ (o : Order) (N : List ℕ → ℕ → Num) (S : ℕ → Bits) (f g : �
   map-back : (v p : ℕ) → NumBackIf o v p (λ b p. mapNum f (N b p)) (undo f g S v)
   map-back v p = go (eqb (f (g v)) v) refl (S (g v)) refl
     where
-      go : (c : Bool) → eqb (f (g v)) v ≡ c → (s : Bits) → S (g v) ≡ s → NumBackIf o v p (λ b p. mapNum f (N b p)) (undo f g S v)
+      go : (c : Bool) → eqb (f (g v)) v ≡ c → (s : Possible (List Bool)) → S (g v) ≡ s → NumBackIf o v p (λ b p. mapNum f (N b p)) (undo f g S v)
       go false e s eq = rw e tt
-      go true e none eq = rw (e, eq) tt
-      go true e (spelt bs) eq =
+      go true e cannot eq = rw (e, eq) tt
+      go true e (this bs) eq =
           let u : (b : List ℕ) → Has o b p bs → N b p ≡ num (g v) (p + length bs) = rw eq at (t .back (g v) p) in
           rw (e, eq) (λ b h. rw (u b h, eqb-true (f (g v)) v e))
 
@@ -197,13 +198,13 @@ module _ (o : Order) (c : ℕ) (small : c < 256) where
           rw (y .0, y .1, e, length-dig))
   var-back v p (suc k) = go (ltb v 128) refl (spellVar o c (v / 128) k) (var-back (v / 128) (p + 8) k)
     where
-      go : (d : Bool) → ltb v 128 ≡ d → (s : Bits) → NumBackIf o (v / 128) (p + 8) (λ b p. readVar o b c p k) s
-          → NumBackIf o v p (λ b p. readVar o b c p (suc k)) (pick (ltb v 128) (spelt (dig o 8 v)) (before (dig o 8 (128 + v % 128)) s))
+      go : (d : Bool) → ltb v 128 ≡ d → (s : Possible (List Bool)) → NumBackIf o (v / 128) (p + 8) (λ b p. readVar o b c p k) s
+          → NumBackIf o v p (λ b p. readVar o b c p (suc k)) (pick (ltb v 128) (this (dig o 8 v)) (before (dig o 8 (128 + v % 128)) s))
       go true e s u = rw e (λ b h.
           let y : (room b p 8 ≡ true) × (ub o b p 8 ≡ v) = var-byte b p v (omega (arith, ltb-true v 128 e)) h in
           rw (y .0, y .1, e, length-dig))
-      go false e none u = rw e tt
-      go false e (spelt bs) u = rw e (λ b h.
+      go false e cannot u = rw e tt
+      go false e (this bs) u = rw e (λ b h.
           let l : 128 + v % 128 < 256 = omega arith in
           let y : (room b p 8 ≡ true) × (ub o b p 8 ≡ 128 + v % 128) × Has o b (p + 8) bs = has-field o b p 8 (128 + v % 128) bs l h in
           let n : (128 + v % 128) % 128 + 128 * (v / 128) ≡ v = omega arith in
@@ -243,9 +244,9 @@ module _ (o : Order) (c : ℕ) (small : c < 256) where
       go true e false e′ (num (suc v) q) u = rw (e, e′, size) (omega (arith, u))
 
 -- ---- I32
-module _ (o : Order) (N : List ℕ → ℕ → Num) (S : ℕ → Bits) (t : NumTrip o N S) where
-  abbrev S₁ : ℕ → Bits
-  S₁ d = pick (eqb d 1) none (S d)
+module _ (o : Order) (N : List ℕ → ℕ → Num) (S : ℕ → Possible (List Bool)) (t : NumTrip o N S) where
+  abbrev S₁ : ℕ → Possible (List Bool)
+  S₁ d = pick (eqb d 1) cannot (S d)
 
   not-one-there : (b : List ℕ) (p : ℕ) → p ≤ 8 * length b → NumThereIf o b p S₁ (notOne (N b p))
   not-one-there b p l = go (N b p) (t .there b p l)
@@ -261,10 +262,10 @@ module _ (o : Order) (N : List ℕ → ℕ → Num) (S : ℕ → Bits) (t : NumT
   not-one-back : (v p : ℕ) → NumBackIf o v p (λ b p. notOne (N b p)) (S₁ v)
   not-one-back v p = go (eqb v 1) refl (S v) (t .back v p)
     where
-      go : (c : Bool) → eqb v 1 ≡ c → (s : Bits) → NumBackIf o v p N s → NumBackIf o v p (λ b p. notOne (N b p)) (pick (eqb v 1) none s)
+      go : (c : Bool) → eqb v 1 ≡ c → (s : Possible (List Bool)) → NumBackIf o v p N s → NumBackIf o v p (λ b p. notOne (N b p)) (pick (eqb v 1) cannot s)
       go true e s u = rw e tt
-      go false e none u = rw e tt
-      go false e (spelt bs) u = rw e (λ b h. rw (u b h, e))
+      go false e cannot u = rw e tt
+      go false e (this bs) u = rw e (λ b h. rw (u b h, e))
 
   num-not-one : NumTrip o (λ b p. notOne (N b p)) S₁
   num-not-one = record { there = not-one-there; back = not-one-back }
@@ -294,15 +295,15 @@ num-i32 o = num-map o _ _ sign unsign inv (num-not-one o _ _ (num-var o 15 (lit<
     inv b p v q e = unsign-sign v (below (readVar o b 15 p 4) (var-lt o 15 (lit< tt) b p 4) v q e)
 
 -- ---- the skip
-pub trip-align : (o : Order) → Trip o (λ b p. pick (eqb (ub o b p (skipped p)) 0) (shows [] (p + skipped p)) (stop 15)) (λ ns p. wrote [] (dig o (skipped p) 0) ns)
+pub trip-align : (o : Order) → Trip o (λ b p. pick (eqb (ub o b p (skipped p)) 0) (shows [] (p + skipped p)) (stop 15)) (λ ns p. this (wrote [] (dig o (skipped p) 0) ns))
 trip-align o = record { there = there; back = back }
   where
     there : (b : List ℕ) (p : ℕ) → p ≤ 8 * length b
-        → ThereIf o b p (pick (eqb (ub o b p (skipped p)) 0) (shows [] (p + skipped p)) (stop 15) .shown) (λ ns p. wrote [] (dig o (skipped p) 0) ns) (pick (eqb (ub o b p (skipped p)) 0) (shows [] (p + skipped p)) (stop 15) .ended)
+        → ThereIf o b p (pick (eqb (ub o b p (skipped p)) 0) (shows [] (p + skipped p)) (stop 15) .shown) (λ ns p. this (wrote [] (dig o (skipped p) 0) ns)) (pick (eqb (ub o b p (skipped p)) 0) (shows [] (p + skipped p)) (stop 15) .ended)
     there b p l = go (eqb (ub o b p (skipped p)) 0) refl
       where
         go : (c : Bool) → eqb (ub o b p (skipped p)) 0 ≡ c
-            → ThereIf o b p (pick (eqb (ub o b p (skipped p)) 0) (shows [] (p + skipped p)) (stop 15) .shown) (λ ns p. wrote [] (dig o (skipped p) 0) ns) (pick (eqb (ub o b p (skipped p)) 0) (shows [] (p + skipped p)) (stop 15) .ended)
+            → ThereIf o b p (pick (eqb (ub o b p (skipped p)) 0) (shows [] (p + skipped p)) (stop 15) .shown) (λ ns p. this (wrote [] (dig o (skipped p) 0) ns)) (pick (eqb (ub o b p (skipped p)) 0) (shows [] (p + skipped p)) (stop 15) .ended)
         go false e = rw e tt
         go true e = rw e (record {
           bits = dig o (skipped p) 0;
@@ -311,14 +312,14 @@ trip-align o = record { there = there; back = back }
           again = λ ys. refl;
         })
 
-    back : (ns : List ℕ) (p : ℕ) → BackIf o ns p (λ b p. pick (eqb (ub o b p (skipped p)) 0) (shows [] (p + skipped p)) (stop 15)) (wrote [] (dig o (skipped p) 0) ns)
+    back : (ns : List ℕ) (p : ℕ) → BackIf o ns p (λ b p. pick (eqb (ub o b p (skipped p)) 0) (shows [] (p + skipped p)) (stop 15)) (this (wrote [] (dig o (skipped p) 0) ns))
     back ns p = record { parts = refl; reads = λ b h. rw (ub-has o b p (skipped p) 0 (pow-pos (skipped p)) h, length-dig) }
 
 -- ---- no bits
-pub num-echo : (o : Order) (n : ℕ) → NumTrip o (λ b p. num n p) (λ v. pick (eqb v n) (spelt []) none)
+pub num-echo : (o : Order) (n : ℕ) → NumTrip o (λ b p. num n p) (λ v. pick (eqb v n) (this []) cannot)
 num-echo o n = record { there = λ b p l. record { bits = []; has = l; ends = sym (add-zero p); again = rw (eq-eqb n n refl) }; back = λ v p. go v p (eqb v n) refl }
   where
-    go : (v p : ℕ) (c : Bool) → eqb v n ≡ c → NumBackIf o v p (λ b p. num n p) (pick (eqb v n) (spelt []) none)
+    go : (v p : ℕ) (c : Bool) → eqb v n ≡ c → NumBackIf o v p (λ b p. num n p) (pick (eqb v n) (this []) cannot)
     go v p false e = rw e tt
     go v p true e = rw e (λ b h. rw (add-zero, eqb-true v n e))
 
@@ -357,9 +358,9 @@ module _ (o : Order) where
       go true e = rw e (λ b h. rw (add-zero, eqb-true v 0 e))
   le-back v p (suc n) = go (spellLE o (v / 256) n) (le-back (v / 256) (p + 8) n)
     where
-      go : (s : Bits) → NumBackIf o (v / 256) (p + 8) (λ b p. readLE o b p n) s → NumBackIf o v p (λ b p. readLE o b p (suc n)) (before (dig o 8 (v % 256)) s)
-      go none u = tt
-      go (spelt bs) u = λ b h.
+      go : (s : Possible (List Bool)) → NumBackIf o (v / 256) (p + 8) (λ b p. readLE o b p n) s → NumBackIf o v p (λ b p. readLE o b p (suc n)) (before (dig o 8 (v % 256)) s)
+      go cannot u = tt
+      go (this bs) u = λ b h.
           let y : (room b p 8 ≡ true) × (ub o b p 8 ≡ v % 256) × Has o b (p + 8) bs = has-field o b p 8 (v % 256) bs (omega arith) h in
           let n : v % 256 + 256 * (v / 256) ≡ v = omega arith in
           let z : p + 8 + length bs ≡ p + (8 + length bs) = omega arith in
@@ -406,14 +407,14 @@ module _ (o : Order) where
       go true e = rw e (λ b h. rw (add-zero, eqb-true v 0 e))
   flag-back v p (suc n) = go (eqb v 0) refl (eqb (v % 2) 1) refl (spellFlag o (v / 2) n) (flag-back (v / 2) (p + 1) n)
     where
-      go : (c : Bool) → eqb v 0 ≡ c → (d : Bool) → eqb (v % 2) 1 ≡ d → (s : Bits) → NumBackIf o (v / 2) (p + 1) (λ b p. readFlag o b p n) s
-          → NumBackIf o v p (λ b p. readFlag o b p (suc n)) (pick (eqb v 0) (spelt (dig o 1 0)) (pick (eqb (v % 2) 1) (before (dig o 1 1) s) none))
+      go : (c : Bool) → eqb v 0 ≡ c → (d : Bool) → eqb (v % 2) 1 ≡ d → (s : Possible (List Bool)) → NumBackIf o (v / 2) (p + 1) (λ b p. readFlag o b p n) s
+          → NumBackIf o v p (λ b p. readFlag o b p (suc n)) (pick (eqb v 0) (this (dig o 1 0)) (pick (eqb (v % 2) 1) (before (dig o 1 1) s) cannot))
       go true e d e′ s u = rw e (λ b h.
           let y : (room b p 1 ≡ true) × (ub o b p 1 ≡ 0) = (le-leb _ _ (rw length-dig at (has-le o b p (dig o 1 0) h)), ub-has o b p 1 0 (lit< tt) h) in
           rw (y .0, y .1, eqb-true v 0 e, length-dig))
       go false e false e′ s u = rw (e, e′) tt
-      go false e true e′ none u = rw (e, e′) tt
-      go false e true e′ (spelt bs) u = rw (e, e′) (λ b h.
+      go false e true e′ cannot u = rw (e, e′) tt
+      go false e true e′ (this bs) u = rw (e, e′) (λ b h.
           let y : (room b p 1 ≡ true) × (ub o b p 1 ≡ 1) × Has o b (p + 1) bs = has-field o b p 1 1 bs (lit< tt) h in
           let n : 1 + 2 * (v / 2) ≡ v = omega (arith, eqb-true (v % 2) 1 e′) in
           let z : p + 1 + length bs ≡ p + (1 + length bs) = omega arith in
@@ -427,7 +428,7 @@ pub record TxtThere (o : Order) (b : List ℕ) (p q : ℕ) (xs : List ℕ) : Typ
   pub bits : List Bool
   pub has : Has o b p bits
   pub ends : q ≡ p + length bits
-  pub again : spellTxt o xs ≡ spelt bits
+  pub again : spellTxt o xs ≡ this bits
 
 abbrev pub TxtThereIf : (o : Order) (b : List ℕ) (p : ℕ) → Text → Type 0
 TxtThereIf o b p (text xs q) = TxtThere o b p q xs
@@ -456,9 +457,9 @@ module _ (o : Order) where
         again = rw (e′, lt-ltb (ub o b p 8) 256 (ub-lt o b p 8), u .again);
       })
 
-  abbrev TxtBackIf : List ℕ → ℕ → Bits → Type 0
-  TxtBackIf xs p (spelt bs) = (length bs ≡ 8 + 8 * length xs) × ((b : List ℕ) (k : ℕ) → length xs < k → Has o b p bs → readText o b p k ≡ text xs (p + length bs))
-  TxtBackIf xs p none = Unit {0}
+  abbrev TxtBackIf : List ℕ → ℕ → Possible (List Bool) → Type 0
+  TxtBackIf xs p (this bs) = (length bs ≡ 8 + 8 * length xs) × ((b : List ℕ) (k : ℕ) → length xs < k → Has o b p bs → readText o b p k ≡ text xs (p + length bs))
+  TxtBackIf xs p cannot = Unit {0}
 
   txt-back : (xs : List ℕ) (p : ℕ) → TxtBackIf xs p (spellTxt o xs)
   unfolding readText spellTxt
@@ -471,12 +472,12 @@ module _ (o : Order) where
           rw (y .0, y .1, length-dig)
   txt-back (x ∷ xs) p = go (eqb x 0) refl (ltb x 256) refl (spellTxt o xs) (txt-back xs (p + 8))
     where
-      go : (c : Bool) → eqb x 0 ≡ c → (d : Bool) → ltb x 256 ≡ d → (s : Bits) → TxtBackIf xs (p + 8) s
-          → TxtBackIf (x ∷ xs) p (pick (textByte x) (before (dig o 8 x) s) none)
+      go : (c : Bool) → eqb x 0 ≡ c → (d : Bool) → ltb x 256 ≡ d → (s : Possible (List Bool)) → TxtBackIf xs (p + 8) s
+          → TxtBackIf (x ∷ xs) p (pick (textByte x) (before (dig o 8 x) s) cannot)
       go true e d e′ s u = rw e tt
       go false e false e′ s u = rw (e, e′) tt
-      go false e true e′ none u = rw (e, e′) tt
-      go false e true e′ (spelt bs) u = rw (e, e′) (rw (length-append, length-dig) (omega (arith, u .0)), at)
+      go false e true e′ cannot u = rw (e, e′) tt
+      go false e true e′ (this bs) u = rw (e, e′) (rw (length-append, length-dig) (omega (arith, u .0)), at)
         where
           at : (b : List ℕ) (k : ℕ) → suc (length xs) < k → Has o b p (dig o 8 x ++ bs) → readText o b p k ≡ text (x ∷ xs) (p + length (dig o 8 x ++ bs))
           at b zero l h = absurd (omega arith)
@@ -502,11 +503,11 @@ module _ (o : Order) where
   txt-trip-back [] p = tt
   txt-trip-back (n ∷ ns) p = go (leb n (length ns)) refl (spellTxt o (take n ns)) (txt-back (take n ns) p)
     where
-      go : (c : Bool) → leb n (length ns) ≡ c → (s : Bits) → TxtBackIf (take n ns) p s
+      go : (c : Bool) → leb n (length ns) ≡ c → (s : Possible (List Bool)) → TxtBackIf (take n ns) p s
           → BackIf o (n ∷ ns) p (λ b p. showText (readText o b p (length b))) (pick (leb n (length ns)) (put (n ∷ take n ns) s (drop n ns)) cannot)
       go false e s u = rw e tt
-      go true e none u = rw e tt
-      go true e (spelt bs) u =
+      go true e cannot u = rw e tt
+      go true e (this bs) u =
           let m : length (take n ns) ≡ n = length-take-le n ns (leb-true n (length ns) e) in
           rw e (record {
             parts = ap (λ (l : List ℕ). n ∷ l) (sym (take-append-drop n ns));

@@ -16,10 +16,12 @@ use Rattle.format.specs.Reading.{Ending, At, Fault}
 use Rattle.format.specs.Formats.{Format}
 use Rattle.format.specs.Items.{run}
 use Rattle.format.specs.Bodies.{readBody}
-use Rattle.format.specs.FileAndTags.{Class, opaque, end, container, known, codes, classOf, isEnd, isContainer, Tag, Outcome, whole, fault, Walk, broken, chain, Head, head, noHead, rawHead, passes, readHead, Owner, file, inside, Inside, endAt, noTags, front, opened, within, afterTag, tagThen, oneTag, walk, walkList}
+use Rattle.format.specs.FileAndTags.{Class, opaque, end, container, known, codes, classOf, isEnd, isContainer, Tag, Outcome, whole, fault, Walk, broken, chain, Head, head, noHead, rawHead, passes, readHead, Owner, file, inside, TagInside, endAt, noTags, front, opened, within, afterTag, tagThen, oneTag, walk, walkList}
 use Rattle.format.specs.Reasons.{startFault, walkFile}
 use Rattle.format.specs.Levels.{endOf, veil, hideFrom, hide, InHidden, here, later, Refuses, alike, apart, Levels}
 use Rattle.format.proofs.WalkLaws.{run-le, RawFits, raw-fits, Between, between-wider, FaultIn, Before, before-later, Placed, placed-within, placed-after, placed}
+use Rattle.format.proofs.StartLaws.{good-start}
+use Rattle.format.proofs.Absurd.{clash}
 
 -- ---- a part of the file, at its place
 pub record Part (f : List ℕ) (a : ℕ) (r : List ℕ) : Type 0 where
@@ -104,7 +106,7 @@ module _ (lo : ℕ) (f : List ℕ) where
     where
       rest : (zl : Outcome) → zl ≡ whole → Li .tags ≡ hideFrom lo f s (Hi .tags) → (z : Outcome) → Kin b Hw Lw z
           → Kin (t .place) (record { tags = (t ∷ Hi .tags) ++ Hw .tags; ended = z }) (chain (t ∷ Li .tags) zl Lw) z
-      rest (fault e n) q r z y = absurd (let w : _≡_ {A = ℕ} 0 1 = cc in omega arith)
+      rest (fault e n) q r z y = clash cc
       rest whole q r whole y = (
         y .0,
         rw (
@@ -130,14 +132,14 @@ module _ (lo : ℕ) (f : List ℕ) where
 
   -- a tag above the lower level
   kin-veiled : (t : Tag) (B : ℕ) (Hi Hw Lw : Walk) → lo < t .code → t .place < endOf t
-      → Placed (inside (t .place)) (t .place + t .size) (endOf t) Hi → Between (endOf t) B (Hw .tags) → Kin (endOf t) Hw Lw (Hw .ended)
+      → Placed (inside (t .place)) (t .place + t .headerSize) (endOf t) Hi → Between (endOf t) B (Hw .tags) → Kin (endOf t) Hw Lw (Hw .ended)
       → Kin (t .place) (chain (t ∷ Hi .tags) (Hi .ended) Hw) (chain (veil f t ∷ []) whole Lw) (chain (t ∷ Hi .tags) (Hi .ended) Hw .ended)
   kin-veiled t B Hi Hw Lw big l u v y = inner (Hi .ended) (u .faults)
     where
       rest : (z : Outcome) → Kin (endOf t) Hw Lw z → Kin (t .place) (record { tags = (t ∷ Hi .tags) ++ Hw .tags; ended = z }) (chain (veil f t ∷ []) whole Lw) z
       rest whole y = (
         y .0,
-        rw (le-ltb (t .place) (t .place) (omega arith), lt-ltb lo (t .code) big, hide-inside (t .place + t .size) (endOf t) (Hi .tags) (Hw .tags) (u .tags), y .1),
+        rw (le-ltb (t .place) (t .place) (omega arith), lt-ltb lo (t .code) big, hide-inside (t .place + t .headerSize) (endOf t) (Hi .tags) (Hw .tags) (u .tags), y .1),
       )
       rest (fault e n) (inl y) = inl y
       rest (fault e n) (inr y) = inr (later y)
@@ -215,7 +217,7 @@ module _ (ch cl : ℕ → Class) (lo : ℕ)
           sure : (s : ℕ) (vs : List ℕ) (Hi Li : Walk) → Between (a + size) (a + size + length body) (Hi .tags) → Kin lo f (a + size) Hi Li (Hi .ended)
               → Kin lo f a (tagThen d code a size (length body) (record { state = s; values = vs; walk = Hi }) Hw) (tagThen d code a size (length body) (record { state = s; values = vs; walk = Li }) Lw)
               (tagThen d code a size (length body) (record { state = s; values = vs; walk = Hi }) Hw .ended)
-          sure s vs Hi Li u x = kin-shown lo f (record { depth = d; code = code; place = a; size = size; length = length body; state = s; values = vs }) (a + size) (a + size + length body) B Hi Li Hw Lw
+          sure s vs Hi Li u x = kin-shown lo f (record { depth = d; code = code; place = a; headerSize = size; bodyLength = length body; state = s; values = vs }) (a + size) (a + size + length body) B Hi Li Hw Lw
               small (omega arith) refl (omega arith) u x v y
 
           nest : (xs : List ℕ) (k : ℕ) (Hi Li : Walk) → Between (a + size + k) (a + size + length body) (Hi .tags) → Kin lo f (a + size + k) Hi Li (Hi .ended)
@@ -290,15 +292,15 @@ module _ (ch cl : ℕ → Class) (lo : ℕ)
               rw (veils code big) (inr (here big x y))
           one-veiled big false = rw (veils code big, going code big) (subst
               (λ (vs : List ℕ). Kin lo f a (tagThen (8 - left) code a size len i (RH left c (a + size + len) left-over))
-              (chain (record { depth = 8 - left; code = code; place = a; size = size; length = len; state = 0; values = vs } ∷ []) whole (RL left c (a + size + len) left-over))
+              (chain (record { depth = 8 - left; code = code; place = a; headerSize = size; bodyLength = len; state = 0; values = vs } ∷ []) whole (RL left c (a + size + len) left-over))
               (tagThen (8 - left) code a size len i (RH left c (a + size + len) left-over) .ended))
               (rw body-length at (part-plain f (a + size) body body-part))
-              (kin-veiled lo f (record { depth = 8 - left; code = code; place = a; size = size; length = len; state = i .state; values = i .values })
+              (kin-veiled lo f (record { depth = 8 - left; code = code; place = a; headerSize = size; bodyLength = len; state = i .state; values = i .values })
               (a + size + len + length left-over) (i .walk) (RH left c (a + size + len) left-over) (RL left c (a + size + len) left-over) big (omega arith)
               (rw body-length at (placed-within o ch (RH (pred left)) (puts (pred left)) (ch code) a (a + size) body (omega arith)))
               (over-between false) (over-kin false)))
             where
-              i : Inside
+              i : TagInside
               i = within o (RH (pred left)) (ch code) a (a + size) body
 
     kin : (k : ℕ) → KinLists (walk o ch k) (walk o cl k)
@@ -359,15 +361,6 @@ going-class lo hi code h = go (ltb hi code)
     go true = refl
     go false = later-codes code (omega arith)
 
-pub long-file : (level : ℕ) (f : List ℕ) → startFault level f ≡ 0 → 9 ≤ length f
-unfolding startFault
-long-file level f = go (ltb 1023 level) (ltb (length f) 9) refl _
-  where
-    go : (c d : Bool) → ltb (length f) 9 ≡ d → (n : ℕ) → _≡_ {A = ℕ} (pick c 1 (pick d 2 n)) 0 → 9 ≤ length f
-    go true d e n h = absurd (omega arith)
-    go false true e n h = absurd (omega arith)
-    go false false e n h = ltb-false (length f) 9 e
-
 same-start : (lo hi : ℕ) (f : List ℕ) → lo ≤ hi → hi ≤ 1023 → startFault hi f ≡ startFault lo f
 unfolding startFault
 same-start lo hi f l m = rw (le-ltb 1023 hi m, le-ltb 1023 lo (omega arith))
@@ -392,7 +385,7 @@ module _ (o : Order) (lo hi : ℕ) (f : List ℕ) (l : lo ≤ hi) (m : hi ≤ 10
           (length (drop 9 f)) 8 file 9 (drop 9 f) tt (room n))
 
       go : (c : Bool) → eqb (startFault lo f) 0 ≡ c → Kin lo f 0 (pick c H (broken (startFault lo f) 0)) (pick c L (broken (startFault lo f) 0)) (pick c H (broken (startFault lo f) 0) .ended)
-      go true e = good (long-file lo f (eqb-true (startFault lo f) 0 e))
+      go true e = good (good-start lo f (eqb-true (startFault lo f) 0 e) .long)
       go false e = inl refl
 
   pub levels : Levels o lo hi f
@@ -411,7 +404,7 @@ module _ (o : Order) (lo hi : ℕ) (f : List ℕ) (l : lo ≤ hi) (m : hi ≤ 10
       refused e n q = go (H .ended) kin-file
         where
           go : (z : Outcome) → Kin lo f 0 H L z → Refuses lo (L .tags) e n z
-          go whole k = absurd (let p : L .ended ≡ whole = k .0 in let w : _≡_ {A = ℕ} 0 1 = cc in omega arith)
+          go whole k = absurd (let p : L .ended ≡ whole = k .0 in clash cc)
           go (fault e′ n′) (inl k) = subst (λ (z : Outcome). Refuses lo (L .tags) e n z) (sym q ∙ k) alike
           go (fault e′ n′) (inr k) = apart k
 
@@ -419,5 +412,5 @@ module _ (o : Order) (lo hi : ℕ) (f : List ℕ) (l : lo ≤ hi) (m : hi ≤ 10
       only e n w q = go (rw q at kin-file)
         where
           go : (L .ended ≡ fault e n) ⊎ InHidden lo n (L .tags) → InHidden lo n (L .tags)
-          go (inl k) = absurd (let z : _≡_ {A = ℕ} 0 1 = cc in omega arith)
+          go (inl k) = clash cc
           go (inr k) = k

@@ -1,4 +1,4 @@
--- The theorems: document 01's examples; the round trip; two levels of one file; how much room tables need; the reasons of refusals.
+-- The theorems: document 01's examples; the round trip; two levels of one file; how much room tables need; the reasons of refusals; a good start; what an answer says.
 pub mod Examples
 pub mod Tested
 pub mod RoundTrip
@@ -6,12 +6,16 @@ pub mod Promises
 pub mod LevelLaws
 pub mod RoomLaws
 pub mod ReasonLaws
+pub mod StartLaws
+pub mod CallLaws
 -- What a proof of the reader or of the writer cites, step by step.
 pub mod EngineLaws
 pub mod ListLaws
 pub mod WalkLaws
 pub mod SizeLaws
--- What these rest on: bits, bytes, and the round trips of items, formats, blocks, bodies, headers and lists.
+pub mod OneLaws
+-- What these rest on: the absurd step, bits, bytes, and the round trips of items, formats, blocks, bodies, headers and lists.
+pub mod Absurd
 pub mod BitLaws
 pub mod ByteLaws
 pub mod Trip

@@ -11,10 +11,11 @@ use Rattle.format.specs.Tests.{pick}
 use Rattle.format.specs.Bits.{Order}
 use Rattle.format.specs.Reading.{Ending, At, Fault}
 use Rattle.format.specs.Items.{run}
-use Rattle.format.specs.FileAndTags.{Class, opaque, end, container, known, isEnd, Walk, broken, Head, head, noHead, readHead, Owner, inside, blame, Inside, front, opened, within, afterTag, tagThen, oneTag, walk, walkList}
+use Rattle.format.specs.FileAndTags.{Class, opaque, end, container, known, isEnd, Walk, broken, Head, head, noHead, readHead, Owner, inside, blame, TagInside, front, opened, within, afterTag, tagThen, oneTag, walk, walkList}
 use Rattle.format.specs.WritingFormats.{unrun}
-use Rattle.format.specs.WritingBodies.{Bytes, bytes, impossible, packed, writeBody}
-use Rattle.format.specs.WritingFiles.{Made, made, unmade, spellHead, fitsHead, allBytes, bodyOf, joined, fronted, fill, outTag, headed, outOne, unwalk, unwalkList}
+use Rattle.format.specs.Possible.{Possible, this, cannot}
+use Rattle.format.specs.WritingBodies.{packed, writeBody}
+use Rattle.format.specs.WritingFiles.{Made, made, spellHead, fitsHead, allBytes, bodyOf, joined, fronted, fill, outTag, headed, outOne, unwalk, unwalkList}
 use Rattle.format.proofs.WalkLaws.{Fits, head-fits}
 
 -- ---- reading
@@ -39,7 +40,7 @@ module _ (o : Order) (class : ℕ → Class) where
     one-alike : (left : ℕ) (c : Owner) (a : ℕ) (g : Head) → Fits class left r g → oneTag o class R left c a r g ≡ oneTag o class R′ left c a r g
     one-alike left c a (noHead e) h = refl
     one-alike left c a (head code len size) h =
-        ap₂ (λ (i : Inside) (w : Walk). tagThen (8 - left) code a size len i w)
+        ap₂ (λ (i : TagInside) (w : Walk). tagThen (8 - left) code a size len i w)
         (within-alike (pred left) (class code) a (a + size) (take len (drop size r))
         (omega (arith, h .0, h .1, length-take-le len (drop size r) (rw length-drop (omega (arith, h .1))))))
         (after-alike left (isEnd (class code)) c (a + size + len) (drop (size + len) r) (rw length-drop (omega (arith, h .0, h .1))))
@@ -78,39 +79,39 @@ module _ (o : Order) (class : ℕ → Class) where
   list-tag left c a r code len size h q = list-one left c a r h ∙ ap (oneTag o class (walkList o class) left c a r) q
 
 -- ---- writing
-abbrev pub Short : ℕ → Made → Type 0
-Short n (made xs b ys) = length ys ≤ n
-Short n unmade = Unit {0}
+abbrev pub Short : ℕ → Possible Made → Type 0
+Short n (this (made xs b ys)) = length ys ≤ n
+Short n cannot = Unit {0}
 
-short-pick : (n : ℕ) (c : Bool) (x : Made) → Short n x → Short n (pick c x unmade)
+short-pick : (n : ℕ) (c : Bool) (x : Possible Made) → Short n x → Short n (pick c x cannot)
 short-pick n true x h = h
 short-pick n false x h = tt
 
-short-wider : (n m : ℕ) (x : Made) → n ≤ m → Short n x → Short m x
-short-wider n m (made xs b ys) l h = omega arith
-short-wider n m unmade l h = tt
+short-wider : (n m : ℕ) (x : Possible Made) → n ≤ m → Short n x → Short m x
+short-wider n m (this (made xs b ys)) l h = omega arith
+short-wider n m cannot l h = tt
 
-short-joined : (n : ℕ) (xs b : List ℕ) (x : Made) → Short n x → Short n (joined xs b x)
-short-joined n xs b (made xs′ b′ ys) h = h
-short-joined n xs b unmade h = tt
+short-joined : (n : ℕ) (xs b : List ℕ) (x : Possible Made) → Short n x → Short n (joined xs b x)
+short-joined n xs b (this (made xs′ b′ ys)) h = h
+short-joined n xs b cannot h = tt
 
 module _ (o : Order) (class : ℕ → Class) where
   -- what is left is no longer than what was given
-  module _ (U : ℕ → List ℕ → Made) (short : (left : ℕ) (ns : List ℕ) → Short (length ns) (U left ns)) where
+  module _ (U : ℕ → List ℕ → Possible Made) (short : (left : ℕ) (ns : List ℕ) → Short (length ns) (U left ns)) where
     short-fill : (left : ℕ) (cl : Class) (s n : ℕ) (vs ys : List ℕ) → Short (length ys) (fill o (U (pred left)) left cl s n vs ys)
-    short-fill left opaque s n vs ys = short-pick _ (eqb s 0) _ (short-pick _ (allBytes vs) (made (s ∷ n ∷ vs) vs ys) (omega arith))
-    short-fill left end s n vs ys = short-pick _ (eqb s 1) _ (short-pick _ (eqb n 0) (made (s ∷ n ∷ vs) [] ys) (omega arith))
+    short-fill left opaque s n vs ys = short-pick _ (eqb s 0) _ (short-pick _ (allBytes vs) (this (made (s ∷ n ∷ vs) vs ys)) (omega arith))
+    short-fill left end s n vs ys = short-pick _ (eqb s 1) _ (short-pick _ (eqb n 0) (this (made (s ∷ n ∷ vs) [] ys)) (omega arith))
     short-fill left (known y) s n vs ys = short-pick _ (eqb s 1) _ (go (writeBody o y vs))
       where
-        go : (b : Bytes) → Short (length ys) (bodyOf (s ∷ n ∷ vs) b ys)
-        go (bytes b) = omega arith
-        go impossible = tt
+        go : (b : Possible (List ℕ)) → Short (length ys) (bodyOf (s ∷ n ∷ vs) b ys)
+        go (this b) = omega arith
+        go cannot = tt
     short-fill left (container f) s n vs ys = go (eqb left 0) (packed o (unrun o (front f) vs 0))
       where
-        go : (c : Bool) (b : Bytes) → Short (length ys) (pick c unmade (pick (eqb s 1) (fronted (s ∷ n ∷ vs) b (U (pred left) ys)) unmade))
+        go : (c : Bool) (b : Possible (List ℕ)) → Short (length ys) (pick c cannot (pick (eqb s 1) (fronted (s ∷ n ∷ vs) b (U (pred left) ys)) cannot))
         go true b = tt
-        go false impossible = short-pick (length ys) (eqb s 1) unmade tt
-        go false (bytes b) = short-pick (length ys) (eqb s 1) _ (short-joined (length ys) (s ∷ n ∷ vs) b (U (pred left) ys) (short (pred left) ys))
+        go false cannot = short-pick (length ys) (eqb s 1) cannot tt
+        go false (this b) = short-pick (length ys) (eqb s 1) _ (short-joined (length ys) (s ∷ n ∷ vs) b (U (pred left) ys) (short (pred left) ys))
 
     short-tag : (left : ℕ) (cl : Class) (ns : List ℕ) → Short (length ns) (outTag o (U (pred left)) left cl ns)
     short-tag left cl [] = tt
@@ -122,10 +123,10 @@ module _ (o : Order) (class : ℕ → Class) where
     short-one left [] = tt
     short-one left (code ∷ ns) = go (isEnd (class code)) (outTag o (U (pred left)) left (class code) ns) (short-tag left (class code) ns)
       where
-        go : (e : Bool) (x : Made) → Short (length ns) x → Short (suc (length ns)) (headed code e x (U left))
-        go e unmade h = tt
-        go true (made xs b ys) h = short-pick (suc (length ns)) (fitsHead code (length b)) (made (code ∷ xs) (spellHead code (length b) ++ b) ys) (omega arith)
-        go false (made xs b ys) h = short-pick (suc (length ns)) (fitsHead code (length b)) (joined (code ∷ xs) (spellHead code (length b) ++ b) (U left ys))
+        go : (e : Bool) (x : Possible Made) → Short (length ns) x → Short (suc (length ns)) (headed code e x (U left))
+        go e cannot h = tt
+        go true (this (made xs b ys)) h = short-pick (suc (length ns)) (fitsHead code (length b)) (this (made (code ∷ xs) (spellHead code (length b) ++ b) ys)) (omega arith)
+        go false (this (made xs b ys)) h = short-pick (suc (length ns)) (fitsHead code (length b)) (joined (code ∷ xs) (spellHead code (length b) ++ b) (U left ys))
             (short-joined (suc (length ns)) (code ∷ xs) (spellHead code (length b) ++ b) (U left ys) (short-wider (length ys) (suc (length ns)) (U left ys) (omega arith) (short left ys)))
 
   short-walk : (k left : ℕ) (ns : List ℕ) → Short (length ns) (unwalk o class k left ns)
@@ -134,30 +135,30 @@ module _ (o : Order) (class : ℕ → Class) where
   short-walk (suc k) left ns = short-one (unwalk o class k) (λ left ns. short-walk k left ns) left ns
 
   -- only lists that are shorter are written
-  module _ (U U′ : ℕ → List ℕ → Made) (short : (left : ℕ) (ns : List ℕ) → Short (length ns) (U left ns)) (m : ℕ)
+  module _ (U U′ : ℕ → List ℕ → Possible Made) (short : (left : ℕ) (ns : List ℕ) → Short (length ns) (U left ns)) (m : ℕ)
       (alike : (left : ℕ) (ns : List ℕ) → length ns ≤ m → U left ns ≡ U′ left ns) where
     fill-alike : (left : ℕ) (cl : Class) (s n : ℕ) (vs ys : List ℕ) → length ys ≤ m → fill o (U (pred left)) left cl s n vs ys ≡ fill o (U′ (pred left)) left cl s n vs ys
     fill-alike left opaque s n vs ys l = refl
     fill-alike left end s n vs ys l = refl
     fill-alike left (known y) s n vs ys l = refl
     fill-alike left (container f) s n vs ys l =
-        ap (λ (x : Made). pick (eqb left 0) unmade (pick (eqb s 1) (fronted (s ∷ n ∷ vs) (packed o (unrun o (front f) vs 0)) x) unmade)) (alike (pred left) ys l)
+        ap (λ (x : Possible Made). pick (eqb left 0) cannot (pick (eqb s 1) (fronted (s ∷ n ∷ vs) (packed o (unrun o (front f) vs 0)) x) cannot)) (alike (pred left) ys l)
 
     tag-alike : (left : ℕ) (cl : Class) (ns : List ℕ) → length ns ≤ m → outTag o (U (pred left)) left cl ns ≡ outTag o (U′ (pred left)) left cl ns
     tag-alike left cl [] l = refl
     tag-alike left cl (s ∷ []) l = refl
-    tag-alike left cl (s ∷ n ∷ ns) l = ap (λ (x : Made). pick (leb n (length ns)) x unmade) (fill-alike left cl s n (take n ns) (drop n ns) (rw length-drop (omega arith)))
+    tag-alike left cl (s ∷ n ∷ ns) l = ap (λ (x : Possible Made). pick (leb n (length ns)) x cannot) (fill-alike left cl s n (take n ns) (drop n ns) (rw length-drop (omega arith)))
 
     out-alike : (left code : ℕ) (ns : List ℕ) → length ns ≤ m → outOne o class U left (code ∷ ns) ≡ outOne o class U′ left (code ∷ ns)
     out-alike left code ns l =
         rest (isEnd (class code)) (outTag o (U (pred left)) left (class code) ns) (short-tag U short left (class code) ns)
-        ∙ ap (λ (x : Made). headed code (isEnd (class code)) x (U′ left)) (tag-alike left (class code) ns l)
+        ∙ ap (λ (x : Possible Made). headed code (isEnd (class code)) x (U′ left)) (tag-alike left (class code) ns l)
       where
-        rest : (e : Bool) (x : Made) → Short (length ns) x → headed code e x (U left) ≡ headed code e x (U′ left)
-        rest e unmade h = refl
-        rest true (made xs b ys) h = refl
-        rest false (made xs b ys) h =
-            ap (λ (x : Made). pick (fitsHead code (length b)) (joined (code ∷ xs) (spellHead code (length b) ++ b) x) unmade) (alike left ys (omega arith))
+        rest : (e : Bool) (x : Possible Made) → Short (length ns) x → headed code e x (U left) ≡ headed code e x (U′ left)
+        rest e cannot h = refl
+        rest true (this (made xs b ys)) h = refl
+        rest false (this (made xs b ys)) h =
+            ap (λ (x : Possible Made). pick (fitsHead code (length b)) (joined (code ∷ xs) (spellHead code (length b) ++ b) x) cannot) (alike left ys (omega arith))
 
   unwalk-bound : (k m left : ℕ) (ns : List ℕ) → length ns ≤ k → length ns ≤ m → unwalk o class k left ns ≡ unwalk o class m left ns
   unfolding unwalk
@@ -171,7 +172,7 @@ module _ (o : Order) (class : ℕ → Class) where
       out-alike (unwalk o class k) (unwalk o class m) (λ left ns. short-walk k left ns) (length ns) (λ left ys n. unwalk-bound k m left ys (omega arith) (omega arith)) left code ns (omega arith)
 
   -- no list is written from no numbers
-  pub unlist-nil : (left : ℕ) → unwalkList o class left [] ≡ unmade
+  pub unlist-nil : (left : ℕ) → unwalkList o class left [] ≡ cannot
   unfolding unwalk
   unlist-nil left = refl
 

@@ -14,12 +14,13 @@ use Rattle.format.specs.Reading.{Ending, At, Fault, shows, stop}
 use Rattle.format.specs.Formats.{Format}
 use Rattle.format.specs.Items.{skipped, readItem, run}
 use Rattle.format.specs.Bodies.{readBody}
-use Rattle.format.specs.FileAndTags.{Class, opaque, end, container, known, isEnd, isContainer, Tag, Outcome, whole, fault, Walk, chain, Head, head, noHead, rawHead, passes, readHead, Owner, inside, Inside, front, opened, within, atEnd, afterTag, tagThen, oneTag, walkList}
+use Rattle.format.specs.FileAndTags.{Class, opaque, end, container, known, isEnd, isContainer, Tag, Outcome, whole, fault, Walk, chain, Head, head, noHead, rawHead, passes, readHead, Owner, inside, TagInside, front, opened, within, atEnd, afterTag, tagThen, oneTag, walkList}
 use Rattle.format.specs.TableOfNumbers.{numbers}
-use Rattle.format.specs.WritingItems.{Written, wrote, cannot, writeItem}
+use Rattle.format.specs.Possible.{Possible, this, cannot}
+use Rattle.format.specs.WritingItems.{Written, wrote, writeItem}
 use Rattle.format.specs.WritingFormats.{unrun}
-use Rattle.format.specs.WritingBodies.{pack, Bytes, bytes, impossible, writeBody}
-use Rattle.format.specs.WritingFiles.{Made, made, unmade, spell16, spell32, spellHead, fitsHead, allBytes, joined, fill, outTag, headed, outOne, unwalkList}
+use Rattle.format.specs.WritingBodies.{pack, writeBody}
+use Rattle.format.specs.WritingFiles.{Made, made, spell16, spell32, spellHead, fitsHead, allBytes, joined, fill, outTag, headed, outOne, unwalkList}
 use Rattle.format.proofs.BitLaws.{length-dig}
 use Rattle.format.proofs.BodyLaws.{body-there, body-back, ReadIf}
 use Rattle.format.proofs.ByteLaws.{has-pack, pack-bytes, length-pack, bytes-append, bytes-take, bytes-drop, has-more, pack-front}
@@ -29,6 +30,7 @@ use Rattle.format.proofs.ItemLaws.{round-trip}
 use Rattle.format.proofs.ListLaws.{list-nil, list-one, unlist-nil, unlist-one}
 use Rattle.format.proofs.Trip.{There, Back, has-le}
 use Rattle.format.proofs.WalkLaws.{Fits, head-fits}
+use Rattle.format.proofs.Absurd.{clash}
 
 all-bytes : (b : List ℕ) → AllBytes b → allBytes b ≡ true
 all-bytes [] h = refl
@@ -56,7 +58,7 @@ cut-back n vs ys e =
     (rw (← e) (take-append-seam vs ys), rw (← e) (drop-append-seam vs ys), le-leb n (length (vs ++ ys)) (rw length-append (omega arith)))
 
 -- the numbers of what stands in a tag
-abbrev pub inNumbers : Inside → List ℕ
+abbrev pub inNumbers : TagInside → List ℕ
 inNumbers i = i .state ∷ length (i .values) ∷ (i .values ++ numbers (i .walk .tags))
 
 abbrev pub WholeIf : Outcome → Type 0 → Type 0
@@ -64,8 +66,8 @@ WholeIf whole A = A
 WholeIf (fault e n) A = Unit {0}
 
 -- the numbers xs are written as the bytes b, whatever follows them
-abbrev pub Again : (List ℕ → Made) → List ℕ → List ℕ → Type 0
-Again W xs b = (ys : List ℕ) → W (xs ++ ys) ≡ made xs b ys
+abbrev pub Again : (List ℕ → Possible Made) → List ℕ → List ℕ → Type 0
+Again W xs b = (ys : List ℕ) → W (xs ++ ys) ≡ this (made xs b ys)
 
 module _ (o : Order) where
   -- the front of a container is whole bytes
@@ -85,21 +87,21 @@ module _ (o : Order) where
       go (Fault e) eq = rw eq tt
       go (At m) eq = rw eq (skip m (eqb (ub o b m (skipped m)) 0))
 
-  abbrev WholeBits : Written → Type 0
-  WholeBits (wrote xs bs ys) = 8 * (length bs / 8) ≡ length bs
+  abbrev WholeBits : Possible Written → Type 0
+  WholeBits (this (wrote xs bs ys)) = 8 * (length bs / 8) ≡ length bs
   WholeBits cannot = Unit {0}
 
   front-bits : (f : Format) (ns : List ℕ) → WholeBits (unrun o (front f) ns 0)
   unfolding unrun writeItem
   front-bits f ns = go (unrun o f ns 0) refl
     where
-      go : (w : Written) → unrun o f ns 0 ≡ w → WholeBits (unrun o (front f) ns 0)
+      go : (w : Possible Written) → unrun o f ns 0 ≡ w → WholeBits (unrun o (front f) ns 0)
       go cannot eq = rw eq tt
-      go (wrote xs bs ys) eq = rw eq (rw (length-append, length-dig) (omega arith))
+      go (this (wrote xs bs ys)) eq = rw eq (rw (length-append, length-dig) (omega arith))
 
   -- values, and the numbers of the list inside
-  again-fill : (W : List ℕ → Made) (left : ℕ) (cl : Class) (s : ℕ) (vs cs body : List ℕ)
-      → ((ys : List ℕ) → fill o W left cl s (length vs) vs (cs ++ ys) ≡ made (s ∷ length vs ∷ (vs ++ cs)) body ys) → Again (outTag o W left cl) (s ∷ length vs ∷ (vs ++ cs)) body
+  again-fill : (W : List ℕ → Possible Made) (left : ℕ) (cl : Class) (s : ℕ) (vs cs body : List ℕ)
+      → ((ys : List ℕ) → fill o W left cl s (length vs) vs (cs ++ ys) ≡ this (made (s ∷ length vs ∷ (vs ++ cs)) body ys)) → Again (outTag o W left cl) (s ∷ length vs ∷ (vs ++ cs)) body
   again-fill W left cl s vs cs body f ys =
       let c : (take (length vs) (vs ++ (cs ++ ys)) ≡ vs) × (drop (length vs) (vs ++ (cs ++ ys)) ≡ cs ++ ys) × (leb (length vs) (length (vs ++ (cs ++ ys))) ≡ true) = cut-back (length vs) vs (cs ++ ys) refl in
       rw (append-assoc vs cs ys, c .2, c .0, c .1) (f ys)
@@ -119,7 +121,7 @@ module _ (o : Order) (class : ℕ → Class) where
         again-fill o (unwalkList o class (pred left)) left opaque 0 body [] body (λ ys. rw (all-bytes body h, append-nil body))
     tag-there left end a s [] l h he hc = again-fill o (unwalkList o class (pred left)) left end 1 [] [] [] (λ ys. refl)
     tag-there left end a s (x ∷ body) l h he hc =
-        absurd (let t : ltb 0 (suc (length body)) ≡ true = lt-ltb 0 (suc (length body)) (omega arith) in let z : _≡_ {A = ℕ} 0 1 = cc in omega arith)
+        absurd (let t : ltb 0 (suc (length body)) ≡ true = lt-ltb 0 (suc (length body)) (omega arith) in clash cc)
     tag-there left (known y) a s body l h he hc = go (readBody o y body .ended) refl (body-there o y body h)
       where
         go : (z : Ending) → readBody o y body .ended ≡ z → ReadIf o y body (readBody o y body .shown) (readBody o y body .ended)
@@ -127,23 +129,23 @@ module _ (o : Order) (class : ℕ → Class) where
             (Again (outTag o (unwalkList o class (pred left)) left (known y)) (inNumbers (within o (walkList o class (pred left)) (known y) a s body)) body)
         go (Fault e) eq u = rw eq tt
         go (At q) eq u =
-            let v : writeBody o y (readBody o y body .shown) ≡ bytes body = rw eq at u in
+            let v : writeBody o y (readBody o y body .shown) ≡ this body = rw eq at u in
             rw eq (again-fill o (unwalkList o class (pred left)) left (known y) 1 (readBody o y body .shown) [] body (λ ys. rw (v, append-nil)))
     tag-there left (container f) a s body l h he hc = go (run o body (front f) 0 .ended) refl
       where
         R : Owner → ℕ → List ℕ → Walk
         R = walkList o class (pred left)
 
-        W : List ℕ → Made
+        W : List ℕ → Possible Made
         W = unwalkList o class (pred left)
 
-        goal : Inside → Type 0
+        goal : TagInside → Type 0
         goal i = WholeIf (i .walk .ended) (Again (outTag o W left (container f)) (inNumbers i) body)
 
         inner : (p : ℕ) (xs cs : List ℕ) → 8 * (p / 8) ≡ p → There o body 0 p xs (λ ns p. unrun o (front f) ns p) → Again W cs (drop (p / 8) body)
             → Again (outTag o W left (container f)) (1 ∷ length xs ∷ (xs ++ cs)) body
         inner p xs cs v u i = again-fill o W left (container f) 1 xs cs body (λ ys.
-            let q : unrun o (front f) xs 0 ≡ wrote xs (u .bits) [] = rw append-nil at (u .again []) in
+            let q : unrun o (front f) xs 0 ≡ this (wrote xs (u .bits) []) = rw append-nil at (u .again []) in
             let n : length (u .bits) / 8 ≡ p / 8 = omega (arith, u .ends) in
             let k : pack o (p / 8) (u .bits) ≡ take (p / 8) body = pack-front o (p / 8) body (u .bits) h (omega (arith, u .ends, has-le o body 0 (u .bits) (u .has))) (omega (arith, u .ends)) (u .has) in
             rw (hc, q, n, k, i ys, take-append-drop (p / 8) body))
@@ -171,7 +173,7 @@ module _ (o : Order) (class : ℕ → Class) where
         R : ℕ → Owner → ℕ → List ℕ → Walk
         R = walkList o class
 
-        U : ℕ → List ℕ → Made
+        U : ℕ → List ℕ → Possible Made
         U = unwalkList o class
 
         body : List ℕ
@@ -180,7 +182,7 @@ module _ (o : Order) (class : ℕ → Class) where
         over : List ℕ
         over = drop (size + len) r
 
-        i : Inside
+        i : TagInside
         i = within o (R (pred left)) (class code) a (a + size) body
 
         body-length : length body ≡ len
@@ -192,14 +194,14 @@ module _ (o : Order) (class : ℕ → Class) where
         fits : (k : ℕ) → k ≡ len → fitsHead code k ≡ true
         fits k e = rw (lt-ltb code 1024 (u .0), lt-ltb k (2 ^ 32) (omega (arith, u .1)))
 
-        split : (w : Walk) → numbers (record { depth = 8 - left; code = code; place = a; size = size; length = len; state = i .state; values = i .values } ∷ (i .walk .tags ++ w .tags)) ≡ code ∷ (inNumbers i ++ numbers (w .tags))
+        split : (w : Walk) → numbers (record { depth = 8 - left; code = code; place = a; headerSize = size; bodyLength = len; state = i .state; values = i .values } ∷ (i .walk .tags ++ w .tags)) ≡ code ∷ (inNumbers i ++ numbers (w .tags))
         split w = ap (λ (l : List ℕ). code ∷ i .state ∷ length (i .values) ∷ l)
             (ap (λ (l : List ℕ). i .values ++ l) (numbers-append (i .walk .tags) (w .tags)) ∙ sym (append-assoc (i .values) (numbers (i .walk .tags)) (numbers (w .tags))))
 
         last : (zs : List ℕ) → isEnd (class code) ≡ true → over ≡ [] → Again (outTag o (U (pred left)) left (class code)) zs body → Again (U left) (code ∷ (zs ++ [])) r
         last zs e q f ys =
             let v : spellHead code len ++ body ≡ r = rw (q, append-nil) at room in
-            unlist-one o class left code ((zs ++ []) ++ ys) ∙ subst (λ (k : List ℕ). outOne o class U left (code ∷ (k ++ ys)) ≡ made (code ∷ k) r ys) (sym (append-nil zs))
+            unlist-one o class left code ((zs ++ []) ++ ys) ∙ subst (λ (k : List ℕ). outOne o class U left (code ∷ (k ++ ys)) ≡ this (made (code ∷ k) r ys)) (sym (append-nil zs))
             (rw (e, f ys, fits (length body) body-length, body-length, v))
 
         more : (zs cs : List ℕ) → isEnd (class code) ≡ false → Again (U left) cs over → Again (outTag o (U (pred left)) left (class code)) zs body → Again (U left) (code ∷ (zs ++ cs)) r
@@ -223,8 +225,8 @@ module _ (o : Order) (class : ℕ → Class) where
             at whole k = more (inNumbers i) cs e k f
 
         content : (z : Outcome) → WholeIf z (Again (outTag o (U (pred left)) left (class code)) (inNumbers i) body)
-            → WholeIf (chain (record { depth = 8 - left; code = code; place = a; size = size; length = len; state = i .state; values = i .values } ∷ i .walk .tags) z (afterTag (isEnd (class code)) c (a + size + len) over (R left c)) .ended)
-            (Again (U left) (numbers (chain (record { depth = 8 - left; code = code; place = a; size = size; length = len; state = i .state; values = i .values } ∷ i .walk .tags) z (afterTag (isEnd (class code)) c (a + size + len) over (R left c)) .tags)) r)
+            → WholeIf (chain (record { depth = 8 - left; code = code; place = a; headerSize = size; bodyLength = len; state = i .state; values = i .values } ∷ i .walk .tags) z (afterTag (isEnd (class code)) c (a + size + len) over (R left c)) .ended)
+            (Again (U left) (numbers (chain (record { depth = 8 - left; code = code; place = a; headerSize = size; bodyLength = len; state = i .state; values = i .values } ∷ i .walk .tags) z (afterTag (isEnd (class code)) c (a + size + len) over (R left c)) .tags)) r)
         content (fault e y) f = tt
         content whole f = subst (λ (xs : List ℕ). WholeIf (afterTag (isEnd (class code)) c (a + size + len) over (R left c) .ended) (Again (U left) xs r))
             (sym (split (afterTag (isEnd (class code)) c (a + size + len) over (R left c)))) (after (isEnd (class code)) refl f)
@@ -256,15 +258,15 @@ abbrev pub Spelt : List ℕ → Walk → Type 0
 Spelt xs w = (w .ended ≡ whole) × (numbers (w .tags) ≡ xs)
 
 module _ (o : Order) (class : ℕ → Class) where
-  abbrev pub ListIf : ℕ → List ℕ → Made → Type 0
-  ListIf left ns (made xs r ys) = (ns ≡ xs ++ ys) × AllBytes r × ((c : Owner) (a : ℕ) → Spelt xs (walkList o class left c a r))
-  ListIf left ns unmade = Unit {0}
+  abbrev pub ListIf : ℕ → List ℕ → Possible Made → Type 0
+  ListIf left ns (this (made xs r ys)) = (ns ≡ xs ++ ys) × AllBytes r × ((c : Owner) (a : ℕ) → Spelt xs (walkList o class left c a r))
+  ListIf left ns cannot = Unit {0}
 
-  abbrev TagIf : ℕ → Class → List ℕ → Made → Type 0
-  TagIf left cl ns (made xs body ys) =
+  abbrev TagIf : ℕ → Class → List ℕ → Possible Made → Type 0
+  TagIf left cl ns (this (made xs body ys)) =
       (ns ≡ xs ++ ys) × AllBytes body × (pick (isEnd cl) (ltb 0 (length body)) false ≡ false) × (pick (isContainer cl) (eqb left 0) false ≡ false)
       × ((a s : ℕ) → (within o (walkList o class (pred left)) cl a s body .walk .ended ≡ whole) × (inNumbers (within o (walkList o class (pred left)) cl a s body) ≡ xs))
-  TagIf left cl ns unmade = Unit {0}
+  TagIf left cl ns cannot = Unit {0}
 
   fill-back : (left : ℕ) (cl : Class) (s k : ℕ) (vs ys : List ℕ) → length vs ≡ k → ListIf (pred left) ys (unwalkList o class (pred left) ys)
       → TagIf left cl (s ∷ k ∷ (vs ++ ys)) (fill o (unwalkList o class (pred left)) left cl s k vs ys)
@@ -283,10 +285,10 @@ module _ (o : Order) (class : ℕ → Class) where
       go true e true e′ (x ∷ vs) l = absurd (omega (arith, eqb-true k 0 e′))
   fill-back left (known y) s k vs ys l i = go (eqb s 1) refl (writeBody o y vs) refl
     where
-      go : (c : Bool) → eqb s 1 ≡ c → (d : Bytes) → writeBody o y vs ≡ d → TagIf left (known y) (s ∷ k ∷ (vs ++ ys)) (fill o (unwalkList o class (pred left)) left (known y) s k vs ys)
+      go : (c : Bool) → eqb s 1 ≡ c → (d : Possible (List ℕ)) → writeBody o y vs ≡ d → TagIf left (known y) (s ∷ k ∷ (vs ++ ys)) (fill o (unwalkList o class (pred left)) left (known y) s k vs ys)
       go false e d e′ = rw e tt
-      go true e impossible e′ = rw (e, e′) tt
-      go true e (bytes b) e′ =
+      go true e cannot e′ = rw (e, e′) tt
+      go true e (this b) e′ =
           let u : AllBytes b × (readBody o y b ≡ shows vs (8 * length b)) = body-back o y b vs e′ in
           rw (e, e′) (refl, u .0, refl, refl, λ a s′. rw (u .1) (refl, rw (eqb-true s 1 e, l, append-nil)))
   fill-back left (container f) s k vs ys l i = go (eqb left 0) refl (eqb s 1) refl (unrun o (front f) vs 0) refl (unwalkList o class (pred left) ys) refl
@@ -294,12 +296,12 @@ module _ (o : Order) (class : ℕ → Class) where
       R : Owner → ℕ → List ℕ → Walk
       R = walkList o class (pred left)
 
-      W : List ℕ → Made
+      W : List ℕ → Possible Made
       W = unwalkList o class (pred left)
 
       join : (xs cs body ys′ : List ℕ) (bs : List Bool) → eqb left 0 ≡ false → s ≡ 1 → 8 * (length bs / 8) ≡ length bs → Back o vs xs bs [] 0 (λ b p. run o b (front f) p)
           → (ys ≡ cs ++ ys′) × AllBytes body × ((c : Owner) (a : ℕ) → Spelt cs (R c a body))
-          → TagIf left (container f) (s ∷ k ∷ (vs ++ ys)) (made (s ∷ k ∷ (vs ++ cs)) (pack o (length bs / 8) bs ++ body) ys′)
+          → TagIf left (container f) (s ∷ k ∷ (vs ++ ys)) (this (made (s ∷ k ∷ (vs ++ cs)) (pack o (length bs / 8) bs ++ body) ys′))
       join xs cs body ys′ bs h e m u i =
           let b : List ℕ = pack o (length bs / 8) bs in
           let r : run o (b ++ body) (front f) 0 ≡ shows xs (0 + length bs) = u .reads (b ++ body) (has-more o b body 0 bs (has-pack o (length bs / 8) bs (sym m))) in
@@ -313,14 +315,14 @@ module _ (o : Order) (class : ℕ → Class) where
             λ a s′. rw (r, z, d, x, e, ← l) (i .2 (inside a) (s′ + length bs / 8) .0, ap (λ (q : List ℕ). 1 ∷ length vs ∷ (vs ++ q)) (i .2 (inside a) (s′ + length bs / 8) .1)),
           )
 
-      go : (b : Bool) → eqb left 0 ≡ b → (c : Bool) → eqb s 1 ≡ c → (q : Written) → unrun o (front f) vs 0 ≡ q → (m : Made) → W ys ≡ m
+      go : (b : Bool) → eqb left 0 ≡ b → (c : Bool) → eqb s 1 ≡ c → (q : Possible Written) → unrun o (front f) vs 0 ≡ q → (m : Possible Made) → W ys ≡ m
           → TagIf left (container f) (s ∷ k ∷ (vs ++ ys)) (fill o W left (container f) s k vs ys)
       go true h c e q e′ m e″ = rw h tt
       go false h false e q e′ m e″ = rw (h, e) tt
       go false h true e cannot e′ m e″ = rw (h, e, e′) tt
-      go false h true e (wrote xs bs (y ∷ zs)) e′ m e″ = rw (h, e, e′) tt
-      go false h true e (wrote xs bs []) e′ unmade e″ = rw (h, e, e′, e″) tt
-      go false h true e (wrote xs bs []) e′ (made cs body ys′) e″ = rw (h, e, e′, e″)
+      go false h true e (this (wrote xs bs (y ∷ zs))) e′ m e″ = rw (h, e, e′) tt
+      go false h true e (this (wrote xs bs [])) e′ cannot e″ = rw (h, e, e′, e″) tt
+      go false h true e (this (wrote xs bs [])) e′ (this (made cs body ys′)) e″ = rw (h, e, e′, e″)
           (join xs cs body ys′ bs h (eqb-true s 1 e) (rw e′ at (front-bits o f vs)) (rw e′ at (round-trip o (front f) .back vs 0)) (rw e″ at i))
 
   tag-back : (left : ℕ) (cl : Class) (ns : List ℕ) → ((ys : List ℕ) → length ys ≤ length ns → ListIf (pred left) ys (unwalkList o class (pred left) ys))
@@ -329,10 +331,10 @@ module _ (o : Order) (class : ℕ → Class) where
   tag-back left cl (s ∷ []) i = tt
   tag-back left cl (s ∷ k ∷ ns) i = go (leb k (length ns)) refl
     where
-      W : List ℕ → Made
+      W : List ℕ → Possible Made
       W = unwalkList o class (pred left)
 
-      go : (c : Bool) → leb k (length ns) ≡ c → TagIf left cl (s ∷ k ∷ ns) (pick (leb k (length ns)) (fill o W left cl s k (take k ns) (drop k ns)) unmade)
+      go : (c : Bool) → leb k (length ns) ≡ c → TagIf left cl (s ∷ k ∷ ns) (pick (leb k (length ns)) (fill o W left cl s k (take k ns) (drop k ns)) cannot)
       go false e = rw e tt
       go true e = rw e (rw (take-append-drop k ns) at
           (fill-back left cl s k (take k ns) (drop k ns) (length-take-le k ns (leb-true k (length ns) e)) (i (drop k ns) (rw length-drop (omega arith)))))
@@ -355,11 +357,11 @@ module _ (o : Order) (class : ℕ → Class) where
       long false = omega arith
 
   -- the numbers of a tag, and of what follows it
-  spelt-then : (d code a size len : ℕ) (i : Inside) (w : Walk) (zs cs : List ℕ) → i .walk .ended ≡ whole → inNumbers i ≡ zs → Spelt cs w → Spelt (code ∷ (zs ++ cs)) (tagThen d code a size len i w)
+  spelt-then : (d code a size len : ℕ) (i : TagInside) (w : Walk) (zs cs : List ℕ) → i .walk .ended ≡ whole → inNumbers i ≡ zs → Spelt cs w → Spelt (code ∷ (zs ++ cs)) (tagThen d code a size len i w)
   spelt-then d code a size len i w zs cs e q u = subst (λ (z : Outcome). Spelt (code ∷ (zs ++ cs)) (chain (t ∷ i .walk .tags) z w)) (sym e) (u .0, split ∙ ap₂ (λ (x y : List ℕ). code ∷ (x ++ y)) q (u .1))
     where
       t : Tag
-      t = record { depth = d; code = code; place = a; size = size; length = len; state = i .state; values = i .values }
+      t = record { depth = d; code = code; place = a; headerSize = size; bodyLength = len; state = i .state; values = i .values }
 
       split : numbers (t ∷ (i .walk .tags ++ w .tags)) ≡ code ∷ (inNumbers i ++ numbers (w .tags))
       split = ap (λ (l : List ℕ). code ∷ i .state ∷ length (i .values) ∷ l)
@@ -369,14 +371,14 @@ module _ (o : Order) (class : ℕ → Class) where
       → ListIf left (code ∷ ns) (outOne o class (unwalkList o class) left (code ∷ ns))
   one-back left code ns lists = go (outTag o (U (pred left)) left (class code) ns) (tag-back left (class code) ns (λ ys l. lists (pred left) ys l))
     where
-      U : ℕ → List ℕ → Made
+      U : ℕ → List ℕ → Possible Made
       U = unwalkList o class
 
       S : List ℕ → List ℕ
       S body = spellHead code (length body)
 
-      last : (zs body ys : List ℕ) → code < 1024 → length body < 2 ^ 32 → isEnd (class code) ≡ true → TagIf left (class code) ns (made zs body ys)
-          → ListIf left (code ∷ ns) (made (code ∷ zs) (spellHead code (length body) ++ body) ys)
+      last : (zs body ys : List ℕ) → code < 1024 → length body < 2 ^ 32 → isEnd (class code) ≡ true → TagIf left (class code) ns (this (made zs body ys))
+          → ListIf left (code ∷ ns) (this (made (code ∷ zs) (spellHead code (length body) ++ body) ys))
       last zs body ys h l e u = (
         ap (λ (k : List ℕ). code ∷ k) (u .0),
         bytes-append (S body) body (spell-bytes code (length body) h l) (u .1),
@@ -386,10 +388,10 @@ module _ (o : Order) (class : ℕ → Class) where
             (spelt-then (8 - left) code a (length (S body)) (length body) _ _ zs [] (u .4 a (a + length (S body)) .0) (u .4 a (a + length (S body)) .1) (rw e (refl, refl))))),
       )
 
-      more : (zs body ys : List ℕ) → code < 1024 → length body < 2 ^ 32 → isEnd (class code) ≡ false → TagIf left (class code) ns (made zs body ys)
-          → (x : Made) → ListIf left ys x → ListIf left (code ∷ ns) (joined (code ∷ zs) (spellHead code (length body) ++ body) x)
-      more zs body ys h l e u unmade v = tt
-      more zs body ys h l e u (made cs rest ys′) v = (
+      more : (zs body ys : List ℕ) → code < 1024 → length body < 2 ^ 32 → isEnd (class code) ≡ false → TagIf left (class code) ns (this (made zs body ys))
+          → (x : Possible Made) → ListIf left ys x → ListIf left (code ∷ ns) (joined (code ∷ zs) (spellHead code (length body) ++ body) x)
+      more zs body ys h l e u cannot v = tt
+      more zs body ys h l e u (this (made cs rest ys′)) v = (
         rw (u .0, v .0, append-assoc),
         bytes-append (S body ++ body) rest (bytes-append (S body) body (spell-bytes code (length body) h l) (u .1)) (v .1),
         λ c a. subst (λ (k : List ℕ). Spelt (code ∷ (zs ++ cs)) (walkList o class left c a k)) (sym (append-assoc (S body) body rest))
@@ -398,8 +400,8 @@ module _ (o : Order) (class : ℕ → Class) where
             (rw e (v .2 c (a + length (S body) + length body))))),
       )
 
-      fit : (zs body ys : List ℕ) → TagIf left (class code) ns (made zs body ys) → length ys ≤ length ns → (c : Bool) → ltb code 1024 ≡ c → (d : Bool) → ltb (length body) (2 ^ 32) ≡ d
-          → (e : Bool) → isEnd (class code) ≡ e → ListIf left (code ∷ ns) (headed code e (made zs body ys) (U left))
+      fit : (zs body ys : List ℕ) → TagIf left (class code) ns (this (made zs body ys)) → length ys ≤ length ns → (c : Bool) → ltb code 1024 ≡ c → (d : Bool) → ltb (length body) (2 ^ 32) ≡ d
+          → (e : Bool) → isEnd (class code) ≡ e → ListIf left (code ∷ ns) (headed code e (this (made zs body ys)) (U left))
       fit zs body ys u s false f d g true e = rw f tt
       fit zs body ys u s false f d g false e = rw f tt
       fit zs body ys u s true f false g true e = rw (f, g) tt
@@ -407,9 +409,9 @@ module _ (o : Order) (class : ℕ → Class) where
       fit zs body ys u s true f true g true e = rw (f, g) (last zs body ys (ltb-true code 1024 f) (ltb-true (length body) (2 ^ 32) g) e u)
       fit zs body ys u s true f true g false e = rw (f, g) (more zs body ys (ltb-true code 1024 f) (ltb-true (length body) (2 ^ 32) g) e u (U left ys) (lists left ys s))
 
-      go : (x : Made) → TagIf left (class code) ns x → ListIf left (code ∷ ns) (headed code (isEnd (class code)) x (U left))
-      go unmade u = tt
-      go (made zs body ys) u = fit zs body ys u (omega (arith, length-append zs ys, ap length (u .0))) (ltb code 1024) refl (ltb (length body) (2 ^ 32)) refl (isEnd (class code)) refl
+      go : (x : Possible Made) → TagIf left (class code) ns x → ListIf left (code ∷ ns) (headed code (isEnd (class code)) x (U left))
+      go cannot u = tt
+      go (this (made zs body ys)) u = fit zs body ys u (omega (arith, length-append zs ys, ap length (u .0))) (ltb code 1024) refl (ltb (length body) (2 ^ 32)) refl (isEnd (class code)) refl
 
   pub list-back : (n left : ℕ) (ns : List ℕ) → length ns ≤ n → ListIf left ns (unwalkList o class left ns)
   list-back zero left [] l = rw (unlist-nil o class left) tt

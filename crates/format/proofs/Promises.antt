@@ -9,7 +9,7 @@ use borrow.Author.Tests.{ltb-true, ltb-false, leb-true, leb-false}
 use native.Mathlib.Omega.{arith}
 use Rattle.format.specs.Bits.{Order}
 use Rattle.format.specs.Reasons.{Left, accepts, refusesWith, FileOf, Writes, tooHigh, impossible, tooShort, written}
-use Rattle.format.specs.WritingBodies.{Bytes}
+use Rattle.format.specs.Possible.{Possible, this, cannot}
 use Rattle.format.specs.WritingFiles.{writeFile}
 use Rattle.format.proofs.RoundTrip.{level-of, back, no-file, one-file}
 
@@ -49,9 +49,9 @@ module _ (o : Order) (level : ℕ) (t m : List ℕ) where
       room f u true e = (accepts m f, written f u (leb-true (length f) (length m) e))
       room f u false e = (refusesWith m 21 (length f), tooShort f u (leb-false (length f) (length m) e))
 
-      low : level ≤ 1023 → (b : Bytes) → writeFile o level t ≡ b → (x : Left) × Writes o level t m x
-      low l (Bytes.bytes f) e = room f (record { bytes = back o level f t e .0; reads = back o level f t e .1 }) (leb (length f) (length m)) refl
-      low l Bytes.impossible e = (refusesWith m 20 0, impossible l (λ f u. no-file o level t e f (u .bytes) (u .reads)))
+      low : level ≤ 1023 → (b : Possible (List ℕ)) → writeFile o level t ≡ b → (x : Left) × Writes o level t m x
+      low l (this f) e = room f (record { bytes = back o level f t e .0; reads = back o level f t e .1 }) (leb (length f) (length m)) refl
+      low l cannot e = (refusesWith m 20 0, impossible l (λ f u. no-file o level t e f (u .bytes) (u .reads)))
 
       high : (c : Bool) → ltb 1023 level ≡ c → (x : Left) × Writes o level t m x
       high true e = (refusesWith m 1 0, tooHigh (ltb-true 1023 level e))

@@ -14,17 +14,18 @@ use Rattle.format.specs.Reading.{Ending, At, Fault, Reading, shows, stop
 use Rattle.format.specs.Formats.{Item, nothing, item, _▸_, times, the}
 use Rattle.format.specs.Items.{skipped, readItem, run, u32, i32, time, float, byte, color, string, count}
 use Rattle.format.specs.Bodies.{fontTables, compositionAttributes, solidColor, Kind, Value, Fixed, BitFlag, Simple, Discrete, Attribute, flagsOf, content, allFlags, rows, handOn, readBlock, Body, fixed, attributes, readPart, usedUp, readBody}
-use Rattle.format.specs.FileAndTags.{Class, opaque, end, container, known, codes, classOf, isEnd, Tag, Outcome, whole, fault, Walk, broken, chain, Head, head, noHead, readHead, Owner, file, inside, Inside, front, opened, within, afterTag, tagThen, oneTag, walk, walkList}
+use Rattle.format.specs.FileAndTags.{Class, opaque, end, container, known, codes, classOf, isEnd, Tag, Outcome, whole, fault, Walk, broken, chain, Head, head, noHead, readHead, Owner, file, inside, TagInside, front, opened, within, afterTag, tagThen, oneTag, walk, walkList}
 use Rattle.format.specs.TableOfNumbers.{numbers, table, tagTable}
 use Rattle.format.specs.Reasons.{startFault, walkFile, gives, result, readFile, readTags}
 use Rattle.format.specs.WritingBodies.{writePart}
 use Rattle.format.proofs.BlockLaws.{as-many}
 use Rattle.format.proofs.BodyLaws.{trip-part}
 use Rattle.format.proofs.EngineLaws.{numbers-append}
-use Rattle.format.proofs.LevelLaws.{long-file}
+use Rattle.format.proofs.StartLaws.{good-start}
 use Rattle.format.proofs.SizeLaws.{FairEnd, FairReading, Fair, fair-item, fair-nothing, fair-echo, fair-more, fair-then, fair-seq, fair-times, fair-byte, fair-content, fair-only}
 use Rattle.format.proofs.Trip.{There, has-le}
 use Rattle.format.proofs.WalkLaws.{run-le, Fits, head-fits}
+use Rattle.format.proofs.Absurd.{clash}
 
 -- ---- attribute blocks
 abbrev pub fixedBy : Kind → ℕ
@@ -172,7 +173,7 @@ module _ (o : Order) where
 
   module _ (class : ℕ → Class) (fair : (code : ℕ) → FairClass (class code)) where
     -- the numbers of what stands in a tag, but for its state and count
-    abbrev inside-count : Inside → ℕ
+    abbrev inside-count : TagInside → ℕ
     inside-count i = length (i .values) + length (numbers (i .walk .tags))
 
     within-room : (R : Owner → ℕ → List ℕ → Walk) → ((c : Owner) (a : ℕ) (r : List ℕ) → Room (length r) (R c a r)) → (cl : Class) → FairClass cl → (a s : ℕ) (body : List ℕ)
@@ -200,12 +201,12 @@ module _ (o : Order) where
     after-room true c a (x ∷ r) next u = record { count = omega arith; tags = omega arith }
 
     -- a tag whose header and body have n bytes, and what follows it in m bytes
-    then-room : (d code a size len m : ℕ) (i : Inside) (w : Walk) → 2 ≤ size → inside-count i ≤ 8 * len + 13 → 2 * length (i .walk .tags) ≤ len → Room m w
+    then-room : (d code a size len m : ℕ) (i : TagInside) (w : Walk) → 2 ≤ size → inside-count i ≤ 8 * len + 13 → 2 * length (i .walk .tags) ≤ len → Room m w
         → Room (size + len + m) (tagThen d code a size len i w)
     then-room d code a size len m i w l h k u = go (i .walk .ended)
       where
         t : Tag
-        t = record { depth = d; code = code; place = a; size = size; length = len; state = i .state; values = i .values }
+        t = record { depth = d; code = code; place = a; headerSize = size; bodyLength = len; state = i .state; values = i .values }
 
         go : (z : Outcome) → Room (size + len + m) (chain (t ∷ i .walk .tags) z w)
         go (fault e n) = record { count = omega (arith, length-append (i .values) (numbers (i .walk .tags))); tags = omega arith }
@@ -268,7 +269,7 @@ module _ (o : Order) where
 
       go : (c : Bool) → eqb (startFault level f) 0 ≡ c → FileRoom f (pick c w (broken (startFault level f) 0)) (pick c w (broken (startFault level f) 0) .ended)
       go false e = tt
-      go true e = good (long-file level f (eqb-true (startFault level f) 0 e)) (w .ended)
+      go true e = good (good-start level f (eqb-true (startFault level f) 0 e) .long) (w .ended)
 
   -- the table of a file of n bytes has at most 8 × n numbers
   pub table-room : (level : ℕ) (f t : List ℕ) → readFile o level f ≡ gives t → length t ≤ 8 * length f
@@ -276,7 +277,7 @@ module _ (o : Order) where
   table-room level f t h = go (walkFile o level f .ended) (file-room level f) h
     where
       go : (z : Outcome) → FileRoom f (walkFile o level f) z → result (table f (walkFile o level f)) z ≡ gives t → length t ≤ 8 * length f
-      go (fault e n) u h = absurd (let z : _≡_ {A = ℕ} 0 1 = cc in omega arith)
+      go (fault e n) u h = clash cc
       go whole u h = let q : t ≡ table f (walkFile o level f) = cc in rw q (omega (arith, u .0, u .1 .count, length-drop 9 f))
 
   pub tag-table-length : (ts : List Tag) → length (tagTable ts) ≡ 5 * length ts
@@ -289,5 +290,5 @@ module _ (o : Order) where
   tags-room level f t h = go (walkFile o level f .ended) (file-room level f) h
     where
       go : (z : Outcome) → FileRoom f (walkFile o level f) z → result (tagTable (walkFile o level f .tags)) z ≡ gives t → length t ≤ 5 * length f
-      go (fault e n) u h = absurd (let z : _≡_ {A = ℕ} 0 1 = cc in omega arith)
+      go (fault e n) u h = clash cc
       go whole u h = let q : t ≡ tagTable (walkFile o level f .tags) = cc in rw q (omega (arith, u .0, u .1 .tags, length-drop 9 f, tag-table-length (walkFile o level f .tags)))

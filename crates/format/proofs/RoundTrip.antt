@@ -7,14 +7,16 @@ use lib.ListN.{length, getD, drop}
 use lib.Dec.{ltb, leb, eqb, lit<}
 use borrow.Author.Tests.{ltb-true, ltb-false, leb-true, eqb-true, lt-ltb, le-ltb, le-leb, eq-eqb}
 use native.Mathlib.Omega.{arith}
-use Rattle.format.specs.Tests.{pick, _and_}
+use Rattle.format.specs.Tests.{pick}
 use Rattle.format.specs.Bits.{AllBytes, Order}
 use Rattle.format.specs.FileAndTags.{classOf, Outcome, whole, fault, le32, file, walkList}
 use Rattle.format.specs.TableOfNumbers.{numbers, table}
-use Rattle.format.specs.Reasons.{startFault, walkFile, gives, refuses, result, readFile}
-use Rattle.format.specs.WritingBodies.{Bytes, bytes, impossible}
-use Rattle.format.specs.WritingFiles.{Made, made, unmade, spell32, unwalkList, wholeFile, writeFile}
+use Rattle.format.specs.Reasons.{startFault, walkFile, gives, result, readFile, IsFile}
+use Rattle.format.specs.Possible.{Possible, this, cannot}
+use Rattle.format.specs.WritingFiles.{Made, made, spell32, unwalkList, wholeFile, writeFile}
 use Rattle.format.proofs.ListTrip.{WholeIf, Again, list-there, Spelt, ListIf, list-back}
+use Rattle.format.proofs.StartLaws.{GoodStart, good-start, start-good, whole-start}
+use Rattle.format.proofs.Absurd.{clash}
 
 split9 : (P : List ℕ → Type 0) → ((a b c d e f g h i : ℕ) (r : List ℕ) → P (a ∷ b ∷ c ∷ d ∷ e ∷ f ∷ g ∷ h ∷ i ∷ r)) → (l : List ℕ) → 9 ≤ length l → P l
 split9 P k [] h = absurd (omega arith)
@@ -28,49 +30,6 @@ split9 P k (a ∷ b ∷ c ∷ d ∷ e ∷ f ∷ g ∷ []) h = absurd (omega arit
 split9 P k (a ∷ b ∷ c ∷ d ∷ e ∷ f ∷ g ∷ h₁ ∷ []) h = absurd (omega arith)
 split9 P k (a ∷ b ∷ c ∷ d ∷ e ∷ f ∷ g ∷ h₁ ∷ i ∷ r) h = k a b c d e f g h₁ i r
 
-record Start (level : ℕ) (f : List ℕ) : Type 0 where
-  low : level ≤ 1023
-  long : 9 ≤ length f
-  signed : getD f 0 0 + 256 * getD f 1 0 + 65536 * getD f 2 0 ≡ 4669776
-  version : getD f 3 0 ≡ 1
-  lengths : le32 (drop 4 f) ≡ length f
-  small : length f ≤ 16777216
-
-good-start : (level : ℕ) (f : List ℕ) → startFault level f ≡ 0 → Start level f
-unfolding startFault
-good-start level f h = go (ltb 1023 level) refl (ltb (length f) 9) refl (eqb (getD f 0 0 + 256 * getD f 1 0 + 65536 * getD f 2 0) 4669776) refl
-    (eqb (getD f 3 0) 1) refl (eqb (le32 (drop 4 f)) (length f)) refl (leb (length f) 16777216) refl h
-  where
-    go : (a : Bool) → ltb 1023 level ≡ a → (b : Bool) → ltb (length f) 9 ≡ b → (c : Bool) → eqb (getD f 0 0 + 256 * getD f 1 0 + 65536 * getD f 2 0) 4669776 ≡ c
-        → (d : Bool) → eqb (getD f 3 0) 1 ≡ d → (e : Bool) → eqb (le32 (drop 4 f)) (length f) ≡ e → (g : Bool) → leb (length f) 16777216 ≡ g
-        → _≡_ {A = ℕ} (pick a 1 (pick b 2 (pick c (pick d (pick (e and g) 0 5) 4) 3))) 0 → Start level f
-    go true p b q c r d s e t g u h = absurd (omega arith)
-    go false p true q c r d s e t g u h = absurd (omega arith)
-    go false p false q false r d s e t g u h = absurd (omega arith)
-    go false p false q true r false s e t g u h = absurd (omega arith)
-    go false p false q true r true s false t g u h = absurd (omega arith)
-    go false p false q true r true s true t false u h = absurd (omega arith)
-    go false p false q true r true s true t true u h = record {
-      low = omega (arith, ltb-false 1023 level p);
-      long = ltb-false (length f) 9 q;
-      signed = eqb-true _ 4669776 r;
-      version = eqb-true _ 1 s;
-      lengths = eqb-true _ _ t;
-      small = leb-true _ _ u;
-    }
-
-start-good : (level : ℕ) (f : List ℕ) → Start level f → startFault level f ≡ 0
-unfolding startFault
-start-good level f s =
-    rw (
-      le-ltb 1023 level (omega (arith, s .low)),
-      le-ltb (length f) 9 (s .long),
-      eq-eqb (getD f 0 0 + 256 * getD f 1 0 + 65536 * getD f 2 0) 4669776 (s .signed),
-      eq-eqb (getD f 3 0) 1 (s .version),
-      eq-eqb (le32 (drop 4 f)) (length f) (s .lengths),
-      le-leb (length f) 16777216 (s .small),
-    )
-
 spell-there : (a b c d l : ℕ) → a < 256 → b < 256 → c < 256 → d < 256 → a + 256 * b + 65536 * (c + 256 * d) ≡ l → spell32 l ≡ a ∷ b ∷ c ∷ d ∷ []
 spell-there a b c d l ha hb hc hd e =
     let m1 : l / 256 ≡ b + 256 * (c + 256 * d) = omega arith in
@@ -81,25 +40,17 @@ spell-there a b c d l ha hb hc hd e =
     let l3 : l / 16777216 ≡ d = omega arith in
     rw (l0, l1, l2, l3)
 
-sign-there : (a b c : ℕ) → a < 256 → b < 256 → c < 256 → a + 256 * b + 65536 * c ≡ 4669776 → (0x50 ≡ a) × (0x41 ≡ b) × (0x47 ≡ c)
-sign-there a b c ha hb hc e =
-    let m0 : (a + 256 * b + 65536 * c) % 256 ≡ a = omega arith in
-    let m2 : (a + 256 * b + 65536 * c) / 65536 ≡ c = omega arith in
-    let x : 0x50 ≡ a = rw e at m0 in
-    let z : 0x47 ≡ c = rw e at m2 in
-    (x, omega arith, z)
-
 spell-back : (l : ℕ) → l < 2 ^ 32 → le32 (spell32 l) ≡ l
 spell-back l h = omega arith
 
 module _ (o : Order) (level : ℕ) where
   -- ---- what is read is written again
   abbrev FileIf : List ℕ → Outcome → List ℕ → Type 0
-  FileIf f whole t = writeFile o level t ≡ bytes f
+  FileIf f whole t = writeFile o level t ≡ this f
   FileIf f (fault e n) t = Unit {0}
 
   -- what follows the first nine bytes
-  rest-there : (a b c d e f g h i : ℕ) (r : List ℕ) → (bs : AllBytes (a ∷ b ∷ c ∷ d ∷ e ∷ f ∷ g ∷ h ∷ i ∷ r)) → Start level (a ∷ b ∷ c ∷ d ∷ e ∷ f ∷ g ∷ h ∷ i ∷ r)
+  rest-there : (a b c d e f g h i : ℕ) (r : List ℕ) → (bs : AllBytes (a ∷ b ∷ c ∷ d ∷ e ∷ f ∷ g ∷ h ∷ i ∷ r)) → GoodStart level (a ∷ b ∷ c ∷ d ∷ e ∷ f ∷ g ∷ h ∷ i ∷ r)
       → FileIf (a ∷ b ∷ c ∷ d ∷ e ∷ f ∷ g ∷ h ∷ i ∷ r) (walkList o (classOf level) 8 file 9 r .ended) (i ∷ numbers (walkList o (classOf level) 8 file 9 r .tags))
   unfolding writeFile
   rest-there a b c d e f g h i r bs s =
@@ -113,18 +64,17 @@ module _ (o : Order) (level : ℕ) where
       go whole u =
           let n : 9 + length r ≡ suc (suc (suc (suc (suc (suc (suc (suc (suc (length r))))))))) = omega arith in
           let p : spell32 (9 + length r) ≡ e ∷ f ∷ g ∷ h ∷ [] = spell-there e f g h (9 + length r) (bs .1 .1 .1 .1 .0) (bs .1 .1 .1 .1 .1 .0) (bs .1 .1 .1 .1 .1 .1 .0) (bs .1 .1 .1 .1 .1 .1 .1 .0) (s .lengths ∙ sym n) in
-          let q : unwalkList o (classOf level) 8 xs ≡ made xs r [] = rw append-nil at (u []) in
-          let sg : (0x50 ≡ a) × (0x41 ≡ b) × (0x47 ≡ c) = sign-there a b c (bs .0) (bs .1 .0) (bs .1 .1 .0) (s .signed) in
+          let q : unwalkList o (classOf level) 8 xs ≡ this (made xs r []) = rw append-nil at (u []) in
           let ed : 1 ≡ d = sym (s .version) in
-          rw (le-ltb 1023 level (omega (arith, s .low)), lt-ltb i 256 (bs .1 .1 .1 .1 .1 .1 .1 .1 .0), q, le-leb (9 + length r) 16777216 (omega (arith, s .small)))
-          (ap (λ (k : List ℕ). bytes (0x50 ∷ 0x41 ∷ 0x47 ∷ 1 ∷ (k ++ i ∷ r))) p ∙ cc (sg .0, sg .1, sg .2, ed))
+          rw (le-ltb 1023 level (omega (arith, s .known)), lt-ltb i 256 (bs .1 .1 .1 .1 .1 .1 .1 .1 .0), q, le-leb (9 + length r) 16777216 (omega (arith, s .limit)))
+          (ap (λ (k : List ℕ). this (0x50 ∷ 0x41 ∷ 0x47 ∷ 1 ∷ (k ++ i ∷ r))) p ∙ cc (s .signed .0, s .signed .1, s .signed .2, ed))
 
   walk-there : (f : List ℕ) → AllBytes f → FileIf f (walkFile o level f .ended) (table f (walkFile o level f))
   unfolding walkFile
   walk-there f b = go (eqb (startFault level f) 0) refl
     where
-      good : (s : Start level f) → AllBytes f → FileIf f (walkList o (classOf level) 8 file 9 (drop 9 f) .ended) (getD f 8 0 ∷ numbers (walkList o (classOf level) 8 file 9 (drop 9 f) .tags))
-      good s = split9 (λ l. Start level l → AllBytes l → FileIf l (walkList o (classOf level) 8 file 9 (drop 9 l) .ended) (getD l 8 0 ∷ numbers (walkList o (classOf level) 8 file 9 (drop 9 l) .tags)))
+      good : (s : GoodStart level f) → AllBytes f → FileIf f (walkList o (classOf level) 8 file 9 (drop 9 f) .ended) (getD f 8 0 ∷ numbers (walkList o (classOf level) 8 file 9 (drop 9 f) .tags))
+      good s = split9 (λ l. GoodStart level l → AllBytes l → FileIf l (walkList o (classOf level) 8 file 9 (drop 9 l) .ended) (getD l 8 0 ∷ numbers (walkList o (classOf level) 8 file 9 (drop 9 l) .tags)))
           (λ a b c d e f g h i r s bs. rest-there a b c d e f g h i r bs s) f (s .long) s
 
       go : (c : Bool) → eqb (startFault level f) 0 ≡ c → FileIf f (walkFile o level f .ended) (table f (walkFile o level f))
@@ -132,32 +82,32 @@ module _ (o : Order) (level : ℕ) where
       go true e = rw e (good (good-start level f (eqb-true (startFault level f) 0 e)) b)
 
   -- (there) a file that is accepted with the table t is what t is written as
-  pub there : (f t : List ℕ) → AllBytes f → readFile o level f ≡ gives t → writeFile o level t ≡ bytes f
+  pub there : (f t : List ℕ) → IsFile f → readFile o level f ≡ gives t → writeFile o level t ≡ this f
   unfolding readFile
   there f t b h = go (walkFile o level f .ended) (walk-there f b) h
     where
-      go : (z : Outcome) → FileIf f z (table f (walkFile o level f)) → result (table f (walkFile o level f)) z ≡ gives t → writeFile o level t ≡ bytes f
+      go : (z : Outcome) → FileIf f z (table f (walkFile o level f)) → result (table f (walkFile o level f)) z ≡ gives t → writeFile o level t ≡ this f
       go whole u e = let q : table f (walkFile o level f) ≡ t = cc in rw q at u
-      go (fault x y) u e = absurd (let z : _≡_ {A = ℕ} 0 1 = cc in omega arith)
+      go (fault x y) u e = clash cc
 
   -- ---- what is written is read again
-  abbrev TableIf : List ℕ → Bytes → Type 0
-  TableIf t (bytes f) = AllBytes f × (readFile o level f ≡ gives t)
-  TableIf t impossible = Unit {0}
+  abbrev TableIf : List ℕ → Possible (List ℕ) → Type 0
+  TableIf t (this f) = AllBytes f × (readFile o level f ≡ gives t)
+  TableIf t cannot = Unit {0}
 
-  table-back : (comp : ℕ) (ns : List ℕ) → level ≤ 1023 → comp < 256 → (x : Made) → ListIf o (classOf level) 8 ns x → TableIf (comp ∷ ns) (wholeFile comp x)
+  table-back : (comp : ℕ) (ns : List ℕ) → level ≤ 1023 → comp < 256 → (x : Possible Made) → ListIf o (classOf level) 8 ns x → TableIf (comp ∷ ns) (wholeFile comp x)
   unfolding readFile walkFile
-  table-back comp ns l h unmade u = tt
-  table-back comp ns l h (made xs r (y ∷ ys)) u = tt
-  table-back comp ns l h (made xs r []) u = go (leb (9 + length r) 16777216) refl
+  table-back comp ns l h cannot u = tt
+  table-back comp ns l h (this (made xs r (y ∷ ys))) u = tt
+  table-back comp ns l h (this (made xs r [])) u = go (leb (9 + length r) 16777216) refl
     where
       f : List ℕ
       f = 0x50 ∷ 0x41 ∷ 0x47 ∷ 1 ∷ (spell32 (9 + length r) ++ comp ∷ r)
 
-      start : 9 + length r ≤ 16777216 → Start level f
-      start s = record { low = l; long = omega arith; signed = refl; version = refl; lengths = spell-back (9 + length r) (omega arith) ∙ omega arith; small = omega arith }
+      start : 9 + length r ≤ 16777216 → GoodStart level f
+      start s = record { known = l; long = omega arith; signed = (refl, refl, refl); version = refl; lengths = spell-back (9 + length r) (omega arith) ∙ omega arith; limit = omega arith }
 
-      go : (c : Bool) → leb (9 + length r) 16777216 ≡ c → TableIf (comp ∷ ns) (pick (leb (9 + length r) 16777216) (bytes f) impossible)
+      go : (c : Bool) → leb (9 + length r) 16777216 ≡ c → TableIf (comp ∷ ns) (pick (leb (9 + length r) 16777216) (this f) cannot)
       go false e = rw e tt
       go true e =
           let s : 9 + length r ≤ 16777216 = leb-true (9 + length r) 16777216 e in
@@ -180,28 +130,28 @@ module _ (o : Order) (level : ℕ) where
           (table-back comp ns (omega (arith, ltb-false 1023 level e)) (ltb-true comp 256 e′) (unwalkList o (classOf level) 8 ns) (list-back o (classOf level) (length ns) 8 ns (omega arith)))
 
   -- (back) what the table t is written as is a file, and it is accepted with t
-  pub back : (f t : List ℕ) → writeFile o level t ≡ bytes f → AllBytes f × (readFile o level f ≡ gives t)
+  pub back : (f t : List ℕ) → writeFile o level t ≡ this f → IsFile f × (readFile o level f ≡ gives t)
   back f t h = subst (TableIf t) h (table-there t)
 
   -- ---- what the writer's two answers mean, by the reader's definition alone
   -- where nothing is written, no file has the table
-  pub no-file : (t : List ℕ) → writeFile o level t ≡ impossible → (f : List ℕ) → AllBytes f → readFile o level f ≡ gives t → ⊥
+  pub no-file : (t : List ℕ) → writeFile o level t ≡ cannot → (f : List ℕ) → IsFile f → readFile o level f ≡ gives t → ⊥
   no-file t h f b e =
-      let g : writeFile o level t ≡ bytes f = there f t b e in
-      let z : _≡_ {A = ℕ} 0 1 = cc in omega arith
+      let g : writeFile o level t ≡ this f = there f t b e in
+      clash cc
 
   -- no two files have one table
-  pub one-file : (t f g : List ℕ) → AllBytes f → AllBytes g → readFile o level f ≡ gives t → readFile o level g ≡ gives t → f ≡ g
+  pub one-file : (t f g : List ℕ) → IsFile f → IsFile g → readFile o level f ≡ gives t → readFile o level g ≡ gives t → f ≡ g
   one-file t f g b c e h =
-      let p : writeFile o level t ≡ bytes f = there f t b e in
-      let q : writeFile o level t ≡ bytes g = there g t c h in
+      let p : writeFile o level t ≡ this f = there f t b e in
+      let q : writeFile o level t ≡ this g = there g t c h in
       cc
 
   -- a level that gives a table is one of 0 to 1023
   pub level-of : (f t : List ℕ) → readFile o level f ≡ gives t → level ≤ 1023
-  unfolding readFile walkFile startFault
-  level-of f t h = go (ltb 1023 level) refl h
+  unfolding readFile
+  level-of f t h = go (walkFile o level f .ended) refl h
     where
-      go : (c : Bool) → ltb 1023 level ≡ c → readFile o level f ≡ gives t → level ≤ 1023
-      go false e h = omega (arith, ltb-false 1023 level e)
-      go true e h = absurd (let r : refuses 1 0 ≡ gives t = rw e at h in let z : _≡_ {A = ℕ} 0 1 = cc in omega arith)
+      go : (z : Outcome) → walkFile o level f .ended ≡ z → result (table f (walkFile o level f)) z ≡ gives t → level ≤ 1023
+      go whole e h = good-start level f (whole-start level f o e) .known
+      go (fault x y) e h = clash cc

@@ -14,6 +14,7 @@ use Rattle.format.specs.Formats.{Item, Format, nothing, item, only, _▹
 use Rattle.format.specs.Items.{signExtend, skipped, room, Num, num, bad, showNum, mapNum, readUB, carry, readVar, sign, notOne, exist, readFlag, above, readLE, Text, text, cut, addText, readText, showText, readItem, judge, run, byteItem, u32, i32, time, float, byte, color, ratio, enum, count, coordinates, path}
 use Rattle.format.specs.Bodies.{Kind, Value, Fixed, BitFlag, Simple, Discrete, DataType, U32s, Times, Floats, Ratios, Bools, Bytes, BlendModes, TrackMatteTypes, MaskModes, Paths, blendMode, value, values, interpolation, interpolations, beziers, aligned, keyframed, contentOf}
 use Rattle.format.proofs.WalkLaws.{run-le}
+use Rattle.format.proofs.Absurd.{clash}
 
 -- n numbers were shown from p on, in a body of L bits, with s numbers for nothing
 abbrev pub FairEnd : ℕ → ℕ → ℕ → ℕ → Ending → Type 0
@@ -231,7 +232,7 @@ module _ (o : Order) where
       wide : (b : List ℕ) (p q : ℕ) (c : Bool) → showNum (mapNum suc (pick c (num (ub o b p 5) (p + 5)) (bad 13))) .ended ≡ At q
           → Fair o 0 (g (the (showNum (mapNum suc (pick c (num (ub o b p 5) (p + 5)) (bad 13))) .shown)))
       wide b p q true e = h (ub o b p 5)
-      wide b p q false e = absurd (let z : _≡_ {A = ℕ} 0 1 = cc in omega arith)
+      wide b p q false e = clash cc
 
       at : (b : List ℕ) (p q : ℕ) → run o b (item Item.width) p .ended ≡ At q → Fair o 0 (g (the (run o b (item Item.width) p .shown)))
       at b p q e = wide b p q (room b p 5) e

@@ -11,31 +11,32 @@ use Rattle.format.specs.Bits.{Order}
 use Rattle.format.specs.Reading.{Ending, At, Fault, Reading, shows, follow}
 use Rattle.format.specs.Formats.{Item, Format, nothing, item, only, _▹_}
 use Rattle.format.specs.Items.{readItem, judge, run}
-use Rattle.format.specs.WritingItems.{Written, wrote, cannot, writeItem}
+use Rattle.format.specs.Possible.{Possible, this, cannot}
+use Rattle.format.specs.WritingItems.{Written, wrote, writeItem}
 use Rattle.format.specs.WritingFormats.{passing, adjoin, onward, unrun}
 use Rattle.format.proofs.BitLaws.{Has}
 
 -- what holds of a reading that ended at q
-pub record There (o : Order) (b : List ℕ) (p q : ℕ) (xs : List ℕ) (W : List ℕ → ℕ → Written) : Type 0 where
+pub record There (o : Order) (b : List ℕ) (p q : ℕ) (xs : List ℕ) (W : List ℕ → ℕ → Possible Written) : Type 0 where
   pub bits : List Bool
   pub has : Has o b p bits
   pub ends : q ≡ p + length bits
-  pub again : (ys : List ℕ) → W (xs ++ ys) p ≡ wrote xs bits ys
+  pub again : (ys : List ℕ) → W (xs ++ ys) p ≡ this (wrote xs bits ys)
 
 pub record Back (o : Order) (ns xs : List ℕ) (bs : List Bool) (ys : List ℕ) (p : ℕ) (R : List ℕ → ℕ → Reading) : Type 0 where
   pub parts : ns ≡ xs ++ ys
   pub reads : (b : List ℕ) → Has o b p bs → R b p ≡ shows xs (p + length bs)
 
 -- nothing is claimed of a fault, nor of numbers that cannot be written
-abbrev pub ThereIf : (o : Order) (b : List ℕ) (p : ℕ) (xs : List ℕ) (W : List ℕ → ℕ → Written) → Ending → Type 0
+abbrev pub ThereIf : (o : Order) (b : List ℕ) (p : ℕ) (xs : List ℕ) (W : List ℕ → ℕ → Possible Written) → Ending → Type 0
 ThereIf o b p xs W (At q) = There o b p q xs W
 ThereIf o b p xs W (Fault e) = Unit {0}
 
-abbrev pub BackIf : (o : Order) (ns : List ℕ) (p : ℕ) (R : List ℕ → ℕ → Reading) → Written → Type 0
-BackIf o ns p R (wrote xs bs ys) = Back o ns xs bs ys p R
+abbrev pub BackIf : (o : Order) (ns : List ℕ) (p : ℕ) (R : List ℕ → ℕ → Reading) → Possible Written → Type 0
+BackIf o ns p R (this (wrote xs bs ys)) = Back o ns xs bs ys p R
 BackIf o ns p R cannot = Unit {0}
 
-pub record Trip (o : Order) (R : List ℕ → ℕ → Reading) (W : List ℕ → ℕ → Written) : Type 0 where
+pub record Trip (o : Order) (R : List ℕ → ℕ → Reading) (W : List ℕ → ℕ → Possible Written) : Type 0 where
   pub there : (b : List ℕ) (p : ℕ) → p ≤ 8 * length b → ThereIf o b p (R b p .shown) W (R b p .ended)
   pub back : (ns : List ℕ) (p : ℕ) → BackIf o ns p R (W ns p)
 
@@ -53,13 +54,13 @@ has-split o b p (x ∷ cs) bs h =
     let t : Has o b (suc p) cs × Has o b (suc p + length cs) bs = has-split o b (suc p) cs bs (h .1) in
     ((h .0, t .0), subst (λ (n : ℕ). Has o b n bs) (omega arith) (t .1))
 
-module _ (o : Order) (R : List ℕ → ℕ → Reading) (W : List ℕ → ℕ → Written)
-    (R′ : List ℕ → List ℕ → ℕ → Reading) (W′ : List ℕ → List ℕ → ℕ → Written)
+module _ (o : Order) (R : List ℕ → ℕ → Reading) (W : List ℕ → ℕ → Possible Written)
+    (R′ : List ℕ → List ℕ → ℕ → Reading) (W′ : List ℕ → List ℕ → ℕ → Possible Written)
     (t : Trip o R W) (t′ : (xs : List ℕ) → Trip o (R′ xs) (W′ xs)) where
   abbrev seqR : List ℕ → ℕ → Reading
   seqR b p = follow (R b p .shown) (R b p .ended) (λ xs q. R′ xs b q)
 
-  abbrev seqW : List ℕ → ℕ → Written
+  abbrev seqW : List ℕ → ℕ → Possible Written
   seqW ns p = onward (W ns p) p (λ xs ys q. W′ xs ys q)
 
   seq-there : (b : List ℕ) (p : ℕ) → p ≤ 8 * length b → ThereIf o b p (seqR b p .shown) seqW (seqR b p .ended)
@@ -95,30 +96,30 @@ module _ (o : Order) (R : List ℕ → ℕ → Reading) (W : List ℕ → ℕ �
             rw (u .reads b (s .0), v .reads b (s .1), length-append, add-assoc);
       }
 
-      more : (xs : List ℕ) (bs : List Bool) (ys : List ℕ) → Back o ns xs bs ys p R → (w : Written) → W′ xs ys (p + length bs) ≡ w → BackIf o ns p seqR (adjoin xs bs w)
+      more : (xs : List ℕ) (bs : List Bool) (ys : List ℕ) → Back o ns xs bs ys p R → (w : Possible Written) → W′ xs ys (p + length bs) ≡ w → BackIf o ns p seqR (adjoin xs bs w)
       more xs bs ys u cannot eq = tt
-      more xs bs ys u (wrote xs′ bs′ ys′) eq = join xs bs ys xs′ bs′ ys′ u (rw eq at (t′ xs .back ys (p + length bs)))
+      more xs bs ys u (this (wrote xs′ bs′ ys′)) eq = join xs bs ys xs′ bs′ ys′ u (rw eq at (t′ xs .back ys (p + length bs)))
 
-      go : (w : Written) → W ns p ≡ w → BackIf o ns p seqR (seqW ns p)
+      go : (w : Possible Written) → W ns p ≡ w → BackIf o ns p seqR (seqW ns p)
       go cannot eq = rw eq tt
-      go (wrote xs bs ys) eq = rw eq (more xs bs ys (rw eq at (t .back ns p)) (W′ xs ys (p + length bs)) refl)
+      go (this (wrote xs bs ys)) eq = rw eq (more xs bs ys (rw eq at (t .back ns p)) (W′ xs ys (p + length bs)) refl)
 
   pub trip-seq : Trip o seqR seqW
   trip-seq = record { there = seq-there; back = seq-back }
 
 -- no bits and no numbers
-pub trip-nothing : (o : Order) → Trip o (λ b p. shows [] p) (λ ns p. wrote [] [] ns)
+pub trip-nothing : (o : Order) → Trip o (λ b p. shows [] p) (λ ns p. this (wrote [] [] ns))
 trip-nothing o = record {
   there = λ b p l. record { bits = []; has = l; ends = sym (add-zero p); again = λ ys. refl };
   back = λ ns p. record { parts = refl; reads = λ b h. rw add-zero };
 }
 
 -- a test
-module _ (o : Order) (R : List ℕ → ℕ → Reading) (W : List ℕ → ℕ → Written) (c : List ℕ → Bool) (e : ℕ) (t : Trip o R W) where
+module _ (o : Order) (R : List ℕ → ℕ → Reading) (W : List ℕ → ℕ → Possible Written) (c : List ℕ → Bool) (e : ℕ) (t : Trip o R W) where
   abbrev onlyR : List ℕ → ℕ → Reading
   onlyR b p = judge c e (R b p .shown) (R b p .ended)
 
-  abbrev onlyW : List ℕ → ℕ → Written
+  abbrev onlyW : List ℕ → ℕ → Possible Written
   onlyW ns p = passing c (W ns p)
 
   only-there : (b : List ℕ) (p : ℕ) → p ≤ 8 * length b → ThereIf o b p (onlyR b p .shown) onlyW (onlyR b p .ended)
@@ -133,11 +134,11 @@ module _ (o : Order) (R : List ℕ → ℕ → Reading) (W : List ℕ → ℕ �
   only-back : (ns : List ℕ) (p : ℕ) → BackIf o ns p onlyR (onlyW ns p)
   only-back ns p = go (W ns p) (t .back ns p)
     where
-      go : (w : Written) → BackIf o ns p R w → BackIf o ns p onlyR (passing c w)
+      go : (w : Possible Written) → BackIf o ns p R w → BackIf o ns p onlyR (passing c w)
       go cannot u = tt
-      go (wrote xs bs ys) u = at (c xs) refl
+      go (this (wrote xs bs ys)) u = at (c xs) refl
         where
-          at : (d : Bool) → c xs ≡ d → BackIf o ns p onlyR (pick (c xs) (wrote xs bs ys) cannot)
+          at : (d : Bool) → c xs ≡ d → BackIf o ns p onlyR (pick (c xs) (this (wrote xs bs ys)) cannot)
           at false eq = rw eq tt
           at true eq = rw eq (record { parts = u .parts; reads = λ b h. rw (u .reads b h, eq) })
 

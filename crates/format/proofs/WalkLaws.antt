@@ -14,7 +14,7 @@ use Rattle.format.specs.Reading.{Ending, At, Fault}
 use Rattle.format.specs.Formats.{Format}
 use Rattle.format.specs.Items.{run}
 use Rattle.format.specs.Bodies.{readBody}
-use Rattle.format.specs.FileAndTags.{Class, opaque, end, container, known, isEnd, isContainer, Tag, Outcome, whole, fault, Walk, broken, chain, Head, head, noHead, le16, le32, rawHead, passes, readHead, Owner, file, inside, blame, Inside, endAt, noTags, front, opened, within, afterTag, tagThen, oneTag, walk}
+use Rattle.format.specs.FileAndTags.{Class, opaque, end, container, known, isEnd, isContainer, Tag, Outcome, whole, fault, Walk, broken, chain, Head, head, noHead, le16, le32, rawHead, passes, readHead, Owner, file, inside, blame, TagInside, endAt, noTags, front, opened, within, afterTag, tagThen, oneTag, walk}
 use Rattle.format.specs.Levels.{endOf}
 use Rattle.format.specs.WritingFormats.{unrun}
 use Rattle.format.proofs.ItemLaws.{round-trip}
@@ -26,9 +26,9 @@ run-le o b f p q l e =
     let u : There o b p q (run o b f p .shown) (λ ns p. unrun o f ns p) = rw e at (round-trip o f .there b p l) in
     (omega (arith, u .ends), omega (arith, u .ends, has-le o b p (u .bits) (u .has)))
 
--- ---- a header as it stands lies in the room
+-- ---- a header as it stands lies in the room, and its code is that of its first two bytes
 abbrev pub RawFits : List ℕ → Head → Type 0
-RawFits r (head code len size) = (2 ≤ size) × (size ≤ length r)
+RawFits r (head code len size) = (2 ≤ size) × (size ≤ length r) × (code ≡ le16 r / 64)
 RawFits r (noHead e) = Unit {0}
 
 pub raw-fits : (r : List ℕ) → RawFits r (rawHead r)
@@ -39,13 +39,14 @@ raw-fits r = go (ltb (length r) 2) refl (eqb (le16 r % 64) 63) (ltb (length r) 6
     go true h d e l g = tt
     go false h true true l g = tt
     go false h true false l true = tt
-    go false h true false l false = (lit≤ tt, ltb-false (length r) 6 l)
-    go false h false e l g = (lit≤ tt, ltb-false (length r) 2 h)
+    go false h true false l false = (lit≤ tt, ltb-false (length r) 6 l, refl)
+    go false h false e l g = (lit≤ tt, ltb-false (length r) 2 h, refl)
 
 -- one that passed has its body in the room too; End has none, and a container has a depth left
 abbrev pub Fits : (ℕ → Class) → ℕ → List ℕ → Head → Type 0
 Fits class left r (head code len size) =
     (2 ≤ size) × (size + len ≤ length r) × (pick (isEnd (class code)) (ltb 0 len) false ≡ false) × (pick (isContainer (class code)) (eqb left 0) false ≡ false)
+    × (code ≡ le16 r / 64)
 Fits class left r (noHead e) = Unit {0}
 
 pub head-fits : (class : ℕ → Class) (left : ℕ) (r : List ℕ) → Fits class left r (readHead class left r)
@@ -60,7 +61,7 @@ head-fits class left r = go (rawHead r) (raw-fits r)
         test true eq d p e q = tt
         test false eq true p e q = tt
         test false eq false p true q = tt
-        test false eq false p false q = (h .0, omega (arith, h .1, ltb-false (length (drop size r)) len eq, length-drop size r), p, q)
+        test false eq false p false q = (h .0, omega (arith, h .1, ltb-false (length (drop size r)) len eq, length-drop size r), p, q, h .2)
 
 -- ---- tags between two places
 abbrev pub Between : ℕ → ℕ → List Tag → Type 0
@@ -112,12 +113,12 @@ placed-blame file a b e h l = record { tags = tt; faults = tt }
 placed-blame (inside x) a b e h l = record { tags = tt; faults = (omega arith, omega arith) }
 
 -- a tag, with what stands in it, and what follows
-placed-then : (c : Owner) (b d code a size len : ℕ) (i : Inside) (w : Walk) → Before c a → 1 ≤ size → a + size + len ≤ b
+placed-then : (c : Owner) (b d code a size len : ℕ) (i : TagInside) (w : Walk) → Before c a → 1 ≤ size → a + size + len ≤ b
     → Placed (inside a) (a + size) (a + size + len) (i .walk) → Placed c (a + size + len) b w → Placed c a b (tagThen d code a size len i w)
 placed-then c b d code a size len i w h l m u v = go (i .walk .ended) (u .faults)
   where
     t : Tag
-    t = record { depth = d; code = code; place = a; size = size; length = len; state = i .state; values = i .values }
+    t = record { depth = d; code = code; place = a; headerSize = size; bodyLength = len; state = i .state; values = i .values }
 
     inner : Between a b (t ∷ i .walk .tags)
     inner = (omega arith, omega arith, m, between-wider (a + size) (a + size + len) a b (i .walk .tags) (omega arith) m (u .tags))

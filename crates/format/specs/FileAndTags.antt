@@ -9,7 +9,7 @@ use Rattle.format.specs.Tests.{pick, _and_}
 use Rattle.format.specs.Bits.{Order}
 use Rattle.format.specs.Reading.{Ending, At, Fault}
 use Rattle.format.specs.Formats.{Format, _▸_}
-use Rattle.format.specs.Items.{u32, byte, run}
+use Rattle.format.specs.Items.{u32, byte, run, toByte}
 use Rattle.format.specs.Bodies.{fontTables, compositionAttributes, solidColor, imageReference, compositionReference, layerAttributes, textPathOption, maskBlock, aligned, Body, fixed, attributes, readBody}
 
 -- ---- Header, 9 bytes: "PAG", version byte (1), length of the whole file as a little-endian 32-bit number, compression byte (reserved: any
@@ -23,7 +23,7 @@ abbrev pub le32 : List ℕ → ℕ
 le32 r = le16 r + 65536 * (getD r 2 0 + 256 * getD r 3 0)
 
 abbrev pub signatureRight : List ℕ → Bool
-signatureRight f = eqb (getD f 0 0 + 256 * getD f 1 0 + 65536 * getD f 2 0) (0x50 + 256 * 0x41 + 65536 * 0x47)
+signatureRight f = eqb (getD f 0 0) 0x50 and eqb (getD f 1 0) 0x41 and eqb (getD f 2 0) 0x47
 
 abbrev pub versionRight : List ℕ → Bool
 versionRight f = eqb (getD f 3 0) 1
@@ -116,13 +116,13 @@ readHead class left r = passes class left r (rawHead r)
 
 -- ---- What a walk gives.
 
--- size: of the header. length: of the body. state: 1 read, 0 opaque
+-- state: 1 read, 0 opaque
 pub record Tag : Type 0 where
   pub depth : ℕ
   pub code : ℕ
   pub place : ℕ
-  pub size : ℕ
-  pub length : ℕ
+  pub headerSize : ℕ
+  pub bodyLength : ℕ
   pub state : ℕ
   pub values : List ℕ
 
@@ -173,7 +173,7 @@ afterTag false c a r next = next a r
 -- ---- Lists nest, and any tag may stand in any list.
 
 -- what stands in a tag: its state, its values, and the walk of the list inside it
-pub record Inside : Type 0 where
+pub record TagInside : Type 0 where
   pub state : ℕ
   pub values : List ℕ
   pub walk : Walk
@@ -188,21 +188,21 @@ abbrev pub front : Format → Format
 front f = f ▸ aligned
 
 -- the container at place a, whose own numbers are xs; its list, read by R, has the rest of the body, which stands at s
-abbrev pub opened : (Owner → ℕ → List ℕ → Walk) → ℕ → ℕ → List ℕ → List ℕ → Ending → Inside
-opened R a s body xs (At p) = record { state = 1; values = xs; walk = R (inside a) (s + p / 8) (drop (p / 8) body) }
+abbrev pub opened : (Owner → ℕ → List ℕ → Walk) → ℕ → ℕ → List ℕ → List ℕ → Ending → TagInside
+opened R a s body xs (At p) = record { state = 1; values = xs; walk = R (inside a) (s + toByte p) (drop (toByte p) body) }
 opened R a s body xs (Fault e) = record { state = 1; values = xs; walk = broken e a }
 
 -- by class: the tag at place a, with its body at s
-abbrev pub within : Order → (Owner → ℕ → List ℕ → Walk) → Class → ℕ → ℕ → List ℕ → Inside
+abbrev pub within : Order → (Owner → ℕ → List ℕ → Walk) → Class → ℕ → ℕ → List ℕ → TagInside
 within o R opaque a s body = record { state = 0; values = body; walk = noTags whole }
 within o R end a s body = record { state = 1; values = []; walk = noTags whole }
 within o R (known y) a s body = record { state = 1; values = readBody o y body .shown; walk = noTags (endAt a (readBody o y body .ended)) }
 within o R (container f) a s body = opened R a s body (run o body (front f) 0 .shown) (run o body (front f) 0 .ended)
 
 -- the tag with this header and what stands in it, and the walk w of what follows it
-abbrev pub tagThen : ℕ → ℕ → ℕ → ℕ → ℕ → Inside → Walk → Walk
+abbrev pub tagThen : ℕ → ℕ → ℕ → ℕ → ℕ → TagInside → Walk → Walk
 tagThen d code a size len i w =
-    chain (record { depth = d; code = code; place = a; size = size; length = len; state = i .state; values = i .values } ∷ i .walk .tags) (i .walk .ended) w
+    chain (record { depth = d; code = code; place = a; headerSize = size; bodyLength = len; state = i .state; values = i .values } ∷ i .walk .tags) (i .walk .ended) w
 
 -- one tag, by its header, and the rest of its list; lists are read by R
 abbrev pub oneTag : Order → (ℕ → Class) → (ℕ → Owner → ℕ → List ℕ → Walk) → ℕ → Owner → ℕ → List ℕ → Head → Walk
@@ -212,7 +212,7 @@ oneTag o class R left c a r (head code len size) =
     (afterTag (isEnd (class code)) c (a + size + len) (drop (size + len) r) (R left c))
 
 -- the list at place a, whose room is r. Room that is used up without End is 7.
--- k bounds the number of tags; it does not matter if it is at least the room's length: `list-one` of proofs/ListLaws is this rule without it.
+-- k bounds the number of tags; it does not matter if it is at least the room's length: `list-nil` and `list-one` of proofs/ListLaws are this rule without it.
 unfoldable pub walk : Order → (ℕ → Class) → ℕ → ℕ → Owner → ℕ → List ℕ → Walk
 walk o class zero left c a r = broken 7 (blame c a)
 walk o class (suc k) left c a [] = broken 7 (blame c a)

@@ -132,9 +132,14 @@ readSB o b p n = mapNum (signExtend n) (readUB o b p n)
 abbrev pub readWidth : Order → List ℕ → ℕ → Num
 readWidth o b p = mapNum suc (readUB o b p 5)
 
--- ---- A byte item starts at the next whole byte; skipped bits are zero (15), also at a body's end (`readBody` of Bodies).
+-- ---- A byte item starts at the next whole byte; skipped bits are zero (15), also at a body's end (`readBody` of Bodies). Bit places and byte
+-- places are counted apart, and only this rule turns one into the other.
 abbrev pub skipped : ℕ → ℕ
 skipped p = (8 - p % 8) % 8
+
+-- the byte place of a whole byte, from its bit place
+abbrev pub toByte : ℕ → ℕ
+toByte p = p / 8
 
 abbrev pub readAlign : Order → List ℕ → ℕ → Reading
 readAlign o b p = pick (eqb (ub o b p (skipped p)) 0) (shows [] (p + skipped p)) (stop 15)
@@ -153,8 +158,11 @@ color = times 3 byte
 abbrev pub count : ℕ → ℕ → Format
 count lo hi = only (λ ns. leb lo (the ns) and leb (the ns) hi) 17 u32
 
+abbrev pub byVerb : List ℕ
+byVerb = 0 ∷ 2 ∷ 2 ∷ 1 ∷ 1 ∷ 4 ∷ 4 ∷ 6 ∷ []
+
 abbrev pub coordinatesOf : ℕ → ℕ
-coordinatesOf verb = getD (0 ∷ 2 ∷ 2 ∷ 1 ∷ 1 ∷ 4 ∷ 4 ∷ 6 ∷ []) verb 0
+coordinatesOf verb = getD byVerb verb 0
 
 abbrev pub coordinates : List ℕ → ℕ
 coordinates [] = 0

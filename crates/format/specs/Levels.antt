@@ -12,7 +12,7 @@ use Rattle.format.specs.Reasons.{walkFile}
 
 -- the place after a tag
 abbrev pub endOf : Tag → ℕ
-endOf t = t .place + t .size + t .length
+endOf t = t .place + t .headerSize + t .bodyLength
 
 -- the tag made opaque: state 0, and its values are the plain bytes of its body in the file f
 abbrev pub veil : List ℕ → Tag → Tag
@@ -20,10 +20,10 @@ veil f t = record {
   depth = t .depth;
   code = t .code;
   place = t .place;
-  size = t .size;
-  length = t .length;
+  headerSize = t .headerSize;
+  bodyLength = t .bodyLength;
   state = 0;
-  values = take (t .length) (drop (t .place + t .size) f);
+  values = take (t .bodyLength) (drop (t .place + t .headerSize) f);
 }
 
 -- the tags in file order: those that start before e stand inside the last tag that was hidden, and are left out;

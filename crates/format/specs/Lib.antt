@@ -11,7 +11,8 @@ pub mod TableOfNumbers
 pub mod Reasons
 -- What is demanded of two levels of one file.
 pub mod Levels
--- Not to be believed, only used: how the bytes of a table are found. No promise to a caller cites these.
+-- Not to be believed, only used: how the bytes of a table are found. Contracts of the writer's inner functions cite these; those of `write` and of the exports do not.
+pub mod Possible
 pub mod WritingItems
 pub mod WritingFormats
 pub mod WritingBodies

@@ -94,9 +94,14 @@ into m (refuses e n) = refusesWith m e n
 
 -- ---- The writer tries 1, 20, 21; the whole lent table slice is the table.
 
+-- a file is a list of bytes. Every `&[u8]` is one, as `is_file` of crate answers shows: in a contract its list is one of numbers, and that they are
+-- below 256 is known where code looks at one of them
+abbrev pub IsFile : List ℕ → Type 0
+IsFile f = AllBytes f
+
 -- f is a file that this level reads as exactly the table t
 pub record FileOf (o : Order) (level : ℕ) (t f : List ℕ) : Type 0 where
-  pub bytes : AllBytes f
+  pub bytes : IsFile f
   pub reads : readFile o level f ≡ gives t
 
 -- what `write` may leave, by the reader's definition alone: for the table t and the lent output m

@@ -17,4 +17,4 @@ table f w = compression f ∷ numbers (w .tags)
 -- ---- A second call fills a tag table, five numbers a tag: depth, code, place, header size, body length.
 abbrev pub tagTable : List Tag → List ℕ
 tagTable [] = []
-tagTable (t ∷ ts) = t .depth ∷ t .code ∷ t .place ∷ t .size ∷ t .length ∷ tagTable ts
+tagTable (t ∷ ts) = t .depth ∷ t .code ∷ t .place ∷ t .headerSize ∷ t .bodyLength ∷ tagTable ts

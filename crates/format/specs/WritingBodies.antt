@@ -6,13 +6,14 @@ use lib.ListN.{length, getD, drop}
 use Rattle.format.specs.Bits.{Order, join}
 use Rattle.format.specs.Formats.{Item}
 use Rattle.format.specs.Bodies.{Attribute, content, allFlags, rows, Body, fixed, attributes}
-use Rattle.format.specs.WritingItems.{Written, wrote, cannot, writeItem}
+use Rattle.format.specs.Possible.{Possible, this, cannot}
+use Rattle.format.specs.WritingItems.{Written, wrote, writeItem}
 use Rattle.format.specs.WritingFormats.{adjoin, onward, unrun}
 
 -- ---- attribute blocks
 
-abbrev pub leftOf : Written → List ℕ
-leftOf (wrote xs bs ys) = ys
+abbrev pub leftOf : Possible Written → List ℕ
+leftOf (this (wrote xs bs ys)) = ys
 leftOf cannot = []
 
 -- the flag numbers, as they stand in the table before each content
@@ -22,15 +23,15 @@ flagsIn o (a ∷ rest) [] = []
 flagsIn o (a ∷ rest) (φ ∷ ns) = φ ∷ flagsIn o rest (leftOf (unrun o (content a φ) ns 0))
 
 -- all numbers were used up
-abbrev pub usedUp : Written → (List ℕ → List Bool → Written) → Written
-usedUp (wrote xs bs []) k = k xs bs
-usedUp (wrote xs bs (y ∷ ys)) k = cannot
+abbrev pub usedUp : Possible Written → (List ℕ → List Bool → Possible Written) → Possible Written
+usedUp (this (wrote xs bs [])) k = k xs bs
+usedUp (this (wrote xs bs (y ∷ ys))) k = cannot
 usedUp cannot k = cannot
 
-unfoldable pub writeBlock : Order → List Attribute → List ℕ → ℕ → Written
+unfoldable pub writeBlock : Order → List Attribute → List ℕ → ℕ → Possible Written
 writeBlock o attrs ns p = usedUp (unrun o (allFlags attrs) (flagsIn o attrs ns) p) (λ φs bs. adjoin [] bs (unrun o (rows attrs φs) ns (p + length bs)))
 
-unfoldable pub writePart : Order → Body → List ℕ → ℕ → Written
+unfoldable pub writePart : Order → Body → List ℕ → ℕ → Possible Written
 writePart o (fixed f) ns p = unrun o f ns p
 writePart o (attributes attrs) ns p = writeBlock o attrs ns p
 
@@ -51,16 +52,11 @@ unfoldable pub pack : Order → ℕ → List Bool → List ℕ
 pack o zero bs = []
 pack o (suc k) bs = val o 8 bs ∷ pack o k (drop 8 bs)
 
--- the bytes, if there are any
-pub data Bytes : Type 0 where
-  bytes : List ℕ → Bytes
-  impossible : Bytes
-
 -- all numbers are used up
-abbrev pub packed : Order → Written → Bytes
-packed o (wrote xs bs []) = bytes (pack o (length bs / 8) bs)
-packed o (wrote xs bs (y ∷ ys)) = impossible
-packed o cannot = impossible
+abbrev pub packed : Order → Possible Written → Possible (List ℕ)
+packed o (this (wrote xs bs [])) = this (pack o (length bs / 8) bs)
+packed o (this (wrote xs bs (y ∷ ys))) = cannot
+packed o cannot = cannot
 
-unfoldable pub writeBody : Order → Body → List ℕ → Bytes
+unfoldable pub writeBody : Order → Body → List ℕ → Possible (List ℕ)
 writeBody o y ns = packed o (onward (writePart o y ns 0) 0 (λ xs ys p. writeItem o Item.align ys p))

@@ -8,12 +8,12 @@ use Rattle.format.specs.Tests.{pick}
 use Rattle.format.specs.Bits.{Order}
 use Rattle.format.specs.FileAndTags.{Class, opaque, end, container, known, classOf, isEnd, front}
 use Rattle.format.specs.WritingFormats.{unrun}
-use Rattle.format.specs.WritingBodies.{Bytes, bytes, impossible, packed, writeBody}
+use Rattle.format.specs.Possible.{Possible, this, cannot}
+use Rattle.format.specs.WritingBodies.{packed, writeBody}
 
 -- the numbers that were used up, the bytes that they are written as, and the numbers that are left
 pub data Made : Type 0 where
   made : List ℕ → List ℕ → List ℕ → Made
-  unmade : Made
 
 abbrev pub spell16 : ℕ → List ℕ
 spell16 n = n % 256 ∷ n / 256 ∷ []
@@ -33,59 +33,59 @@ allBytes [] = true
 allBytes (x ∷ xs) = pick (ltb x 256) (allBytes xs) false
 
 -- the numbers xs, written as these bytes
-abbrev pub bodyOf : List ℕ → Bytes → List ℕ → Made
-bodyOf xs (bytes b) ys = made xs b ys
-bodyOf xs impossible ys = unmade
+abbrev pub bodyOf : List ℕ → Possible (List ℕ) → List ℕ → Possible Made
+bodyOf xs (this b) ys = this (made xs b ys)
+bodyOf xs cannot ys = cannot
 
 -- and what follows
-abbrev pub joined : List ℕ → List ℕ → Made → Made
-joined xs b (made xs′ b′ ys) = made (xs ++ xs′) (b ++ b′) ys
-joined xs b unmade = unmade
+abbrev pub joined : List ℕ → List ℕ → Possible Made → Possible Made
+joined xs b (this (made xs′ b′ ys)) = this (made (xs ++ xs′) (b ++ b′) ys)
+joined xs b cannot = cannot
 
-abbrev pub fronted : List ℕ → Bytes → Made → Made
-fronted xs (bytes b) m = joined xs b m
-fronted xs impossible m = unmade
+abbrev pub fronted : List ℕ → Possible (List ℕ) → Possible Made → Possible Made
+fronted xs (this b) m = joined xs b m
+fronted xs cannot m = cannot
 
 -- a tag of state s with the n values vs, before the numbers ys; a list is written by W; left: the depths below
-abbrev pub fill : Order → (List ℕ → Made) → ℕ → Class → ℕ → ℕ → List ℕ → List ℕ → Made
-fill o W left opaque s n vs ys = pick (eqb s 0) (pick (allBytes vs) (made (s ∷ n ∷ vs) vs ys) unmade) unmade
-fill o W left end s n vs ys = pick (eqb s 1) (pick (eqb n 0) (made (s ∷ n ∷ vs) [] ys) unmade) unmade
-fill o W left (known y) s n vs ys = pick (eqb s 1) (bodyOf (s ∷ n ∷ vs) (writeBody o y vs) ys) unmade
+abbrev pub fill : Order → (List ℕ → Possible Made) → ℕ → Class → ℕ → ℕ → List ℕ → List ℕ → Possible Made
+fill o W left opaque s n vs ys = pick (eqb s 0) (pick (allBytes vs) (this (made (s ∷ n ∷ vs) vs ys)) cannot) cannot
+fill o W left end s n vs ys = pick (eqb s 1) (pick (eqb n 0) (this (made (s ∷ n ∷ vs) [] ys)) cannot) cannot
+fill o W left (known y) s n vs ys = pick (eqb s 1) (bodyOf (s ∷ n ∷ vs) (writeBody o y vs) ys) cannot
 fill o W left (container f) s n vs ys =
-    pick (eqb left 0) unmade (pick (eqb s 1) (fronted (s ∷ n ∷ vs) (packed o (unrun o (front f) vs 0)) (W ys)) unmade)
+    pick (eqb left 0) cannot (pick (eqb s 1) (fronted (s ∷ n ∷ vs) (packed o (unrun o (front f) vs 0)) (W ys)) cannot)
 
 -- state, count and values of a tag
-abbrev pub outTag : Order → (List ℕ → Made) → ℕ → Class → List ℕ → Made
-outTag o W left class [] = unmade
-outTag o W left class (s ∷ []) = unmade
-outTag o W left class (s ∷ n ∷ ns) = pick (leb n (length ns)) (fill o W left class s n (take n ns) (drop n ns)) unmade
+abbrev pub outTag : Order → (List ℕ → Possible Made) → ℕ → Class → List ℕ → Possible Made
+outTag o W left class [] = cannot
+outTag o W left class (s ∷ []) = cannot
+outTag o W left class (s ∷ n ∷ ns) = pick (leb n (length ns)) (fill o W left class s n (take n ns) (drop n ns)) cannot
 
 -- the code and the header before a body; then, unless it is End, the rest of the list
-abbrev pub headed : ℕ → Bool → Made → (List ℕ → Made) → Made
-headed code e unmade k = unmade
-headed code true (made xs body ys) k = pick (fitsHead code (length body)) (made (code ∷ xs) (spellHead code (length body) ++ body) ys) unmade
-headed code false (made xs body ys) k = pick (fitsHead code (length body)) (joined (code ∷ xs) (spellHead code (length body) ++ body) (k ys)) unmade
+abbrev pub headed : ℕ → Bool → Possible Made → (List ℕ → Possible Made) → Possible Made
+headed code e cannot k = cannot
+headed code true (this (made xs body ys)) k = pick (fitsHead code (length body)) (this (made (code ∷ xs) (spellHead code (length body) ++ body) ys)) cannot
+headed code false (this (made xs body ys)) k = pick (fitsHead code (length body)) (joined (code ∷ xs) (spellHead code (length body) ++ body) (k ys)) cannot
 
 -- one tag and what follows it; lists are written by U
-abbrev pub outOne : Order → (ℕ → Class) → (ℕ → List ℕ → Made) → ℕ → List ℕ → Made
-outOne o class U left [] = unmade
+abbrev pub outOne : Order → (ℕ → Class) → (ℕ → List ℕ → Possible Made) → ℕ → List ℕ → Possible Made
+outOne o class U left [] = cannot
 outOne o class U left (code ∷ ns) = headed code (isEnd (class code)) (outTag o (U (pred left)) left (class code) ns) (U left)
 
 -- k bounds the number of tags
-unfoldable pub unwalk : Order → (ℕ → Class) → ℕ → ℕ → List ℕ → Made
-unwalk o class zero left ns = unmade
+unfoldable pub unwalk : Order → (ℕ → Class) → ℕ → ℕ → List ℕ → Possible Made
+unwalk o class zero left ns = cannot
 unwalk o class (suc k) left ns = outOne o class (unwalk o class k) left ns
 
-abbrev pub unwalkList : Order → (ℕ → Class) → ℕ → List ℕ → Made
+abbrev pub unwalkList : Order → (ℕ → Class) → ℕ → List ℕ → Possible Made
 unwalkList o class left ns = unwalk o class (length ns) left ns
 
 -- the whole table is used up, and the file is not too long
-abbrev pub wholeFile : ℕ → Made → Bytes
-wholeFile comp (made xs body []) = pick (leb (9 + length body) 16777216) (bytes (0x50 ∷ 0x41 ∷ 0x47 ∷ 1 ∷ (spell32 (9 + length body) ++ comp ∷ body))) impossible
-wholeFile comp (made xs body (y ∷ ys)) = impossible
-wholeFile comp unmade = impossible
+abbrev pub wholeFile : ℕ → Possible Made → Possible (List ℕ)
+wholeFile comp (this (made xs body [])) = pick (leb (9 + length body) 16777216) (this (0x50 ∷ 0x41 ∷ 0x47 ∷ 1 ∷ (spell32 (9 + length body) ++ comp ∷ body))) cannot
+wholeFile comp (this (made xs body (y ∷ ys))) = cannot
+wholeFile comp cannot = cannot
 
 -- the file of a table at a level, if there is one
-unfoldable pub writeFile : Order → ℕ → List ℕ → Bytes
-writeFile o level [] = impossible
-writeFile o level (comp ∷ ns) = pick (ltb 1023 level) impossible (pick (ltb comp 256) (wholeFile comp (unwalkList o (classOf level) 8 ns)) impossible)
+unfoldable pub writeFile : Order → ℕ → List ℕ → Possible (List ℕ)
+writeFile o level [] = cannot
+writeFile o level (comp ∷ ns) = pick (ltb 1023 level) cannot (pick (ltb comp 256) (wholeFile comp (unwalkList o (classOf level) 8 ns)) cannot)

@@ -8,6 +8,7 @@ use Rattle.format.specs.Tests.{pick}
 use Rattle.format.specs.Bits.{Order, high, low}
 use Rattle.format.specs.Formats.{Item}
 use Rattle.format.specs.Items.{signExtend, skipped, sign}
+use Rattle.format.specs.Possible.{Possible, this, cannot}
 
 -- a field of n + 1 bits taken apart: its first bit, and the field of the other n
 abbrev pub first : Order → ℕ → ℕ → ℕ
@@ -23,27 +24,22 @@ unfoldable pub dig : Order → ℕ → ℕ → List Bool
 dig o zero v = []
 dig o (suc n) v = eqb (first o n v) 1 ∷ dig o n (rest o n v)
 
--- the bits of an item, if it can be written
-pub data Bits : Type 0 where
-  spelt : List Bool → Bits
-  none : Bits
-
-abbrev pub before : List Bool → Bits → Bits
-before xs (spelt bs) = spelt (xs ++ bs)
-before xs none = none
+abbrev pub before : List Bool → Possible (List Bool) → Possible (List Bool)
+before xs (this bs) = this (xs ++ bs)
+before xs cannot = cannot
 
 -- UB[n]
-abbrev pub spellUB : Order → ℕ → ℕ → Bits
-spellUB o n v = pick (ltb v (2 ^ n)) (spelt (dig o n v)) none
+abbrev pub spellUB : Order → ℕ → ℕ → Possible (List Bool)
+spellUB o n v = pick (ltb v (2 ^ n)) (this (dig o n v)) cannot
 
 -- U32 and U64: at most k + 1 bytes, the last of these at most c
-unfoldable pub spellVar : Order → ℕ → ℕ → ℕ → Bits
-spellVar o c v zero = pick (leb v c) (spelt (dig o 8 v)) none
-spellVar o c v (suc k) = pick (ltb v 128) (spelt (dig o 8 v)) (before (dig o 8 (128 + v % 128)) (spellVar o c (v / 128) k))
+unfoldable pub spellVar : Order → ℕ → ℕ → ℕ → Possible (List Bool)
+spellVar o c v zero = pick (leb v c) (this (dig o 8 v)) cannot
+spellVar o c v (suc k) = pick (ltb v 128) (this (dig o 8 v)) (before (dig o 8 (128 + v % 128)) (spellVar o c (v / 128) k))
 
 -- g undoes f: v is spelt as g v, if f shows that as v
-abbrev pub undo : (ℕ → ℕ) → (ℕ → ℕ) → (ℕ → Bits) → ℕ → Bits
-undo f g s v = pick (eqb (f (g v)) v) (s (g v)) none
+abbrev pub undo : (ℕ → ℕ) → (ℕ → ℕ) → (ℕ → Possible (List Bool)) → ℕ → Possible (List Bool)
+undo f g s v = pick (eqb (f (g v)) v) (s (g v)) cannot
 
 -- SB[n]
 abbrev pub unextend : ℕ → ℕ → ℕ
@@ -53,48 +49,47 @@ unextend n v = pick (ltb (v * 2) (2 ^ n)) v (v - (2 ^ 64 - 2 ^ n))
 abbrev pub unsign : ℕ → ℕ
 unsign v = pick (ltb v (2 ^ 63)) (v * 2) ((2 ^ 64 - v) * 2 + 1)
 
-abbrev pub spellI32 : Order → ℕ → Bits
-spellI32 o = undo sign unsign (λ d. pick (eqb d 1) none (spellVar o 15 d 4))
+abbrev pub spellI32 : Order → ℕ → Possible (List Bool)
+spellI32 o = undo sign unsign (λ d. pick (eqb d 1) cannot (spellVar o 15 d 4))
 
 -- flags
-unfoldable pub spellFlag : Order → ℕ → ℕ → Bits
-spellFlag o v zero = pick (eqb v 0) (spelt []) none
-spellFlag o v (suc n) = pick (eqb v 0) (spelt (dig o 1 0)) (pick (eqb (v % 2) 1) (before (dig o 1 1) (spellFlag o (v / 2) n)) none)
+unfoldable pub spellFlag : Order → ℕ → ℕ → Possible (List Bool)
+spellFlag o v zero = pick (eqb v 0) (this []) cannot
+spellFlag o v (suc n) = pick (eqb v 0) (this (dig o 1 0)) (pick (eqb (v % 2) 1) (before (dig o 1 1) (spellFlag o (v / 2) n)) cannot)
 
 -- n bytes, lowest first
-unfoldable pub spellLE : Order → ℕ → ℕ → Bits
-spellLE o v zero = pick (eqb v 0) (spelt []) none
+unfoldable pub spellLE : Order → ℕ → ℕ → Possible (List Bool)
+spellLE o v zero = pick (eqb v 0) (this []) cannot
 spellLE o v (suc n) = before (dig o 8 (v % 256)) (spellLE o (v / 256) n)
 
 -- a String: its bytes are 1 to 255, and a zero byte ends it
 abbrev pub textByte : ℕ → Bool
 textByte x = pick (eqb x 0) false (ltb x 256)
 
-unfoldable pub spellTxt : Order → List ℕ → Bits
-spellTxt o [] = spelt (dig o 8 0)
-spellTxt o (x ∷ xs) = pick (textByte x) (before (dig o 8 x) (spellTxt o xs)) none
+unfoldable pub spellTxt : Order → List ℕ → Possible (List Bool)
+spellTxt o [] = this (dig o 8 0)
+spellTxt o (x ∷ xs) = pick (textByte x) (before (dig o 8 x) (spellTxt o xs)) cannot
 
 -- the numbers that were used up, the bits that they are written as, and the numbers that are left
 pub data Written : Type 0 where
   wrote : List ℕ → List Bool → List ℕ → Written
-  cannot : Written
 
-abbrev pub put : List ℕ → Bits → List ℕ → Written
-put xs (spelt bs) ys = wrote xs bs ys
-put xs none ys = cannot
+abbrev pub put : List ℕ → Possible (List Bool) → List ℕ → Possible Written
+put xs (this bs) ys = this (wrote xs bs ys)
+put xs cannot ys = cannot
 
 -- one number
-abbrev pub single : (ℕ → Bits) → List ℕ → Written
+abbrev pub single : (ℕ → Possible (List Bool)) → List ℕ → Possible Written
 single f [] = cannot
 single f (v ∷ ns) = put (v ∷ []) (f v) ns
 
 -- a length, and that many bytes
-abbrev pub takeText : Order → List ℕ → Written
+abbrev pub takeText : Order → List ℕ → Possible Written
 takeText o [] = cannot
 takeText o (n ∷ ns) = pick (leb n (length ns)) (put (n ∷ take n ns) (spellTxt o (take n ns)) (drop n ns)) cannot
 
-unfoldable pub writeItem : Order → Item → List ℕ → ℕ → Written
-writeItem o Item.align ns p = wrote [] (dig o (skipped p) 0) ns
+unfoldable pub writeItem : Order → Item → List ℕ → ℕ → Possible Written
+writeItem o Item.align ns p = this (wrote [] (dig o (skipped p) 0) ns)
 writeItem o (Item.UB n) ns p = single (spellUB o n) ns
 writeItem o (Item.SB n) ns p = single (undo (signExtend n) (unextend n) (spellUB o n)) ns
 writeItem o Item.width ns p = single (undo suc pred (spellUB o 5)) ns
@@ -102,6 +97,6 @@ writeItem o Item.U32 ns p = single (λ v. spellVar o 15 v 4) ns
 writeItem o Item.U64 ns p = single (λ v. spellVar o 1 v 9) ns
 writeItem o Item.I32 ns p = single (spellI32 o) ns
 writeItem o (Item.flag n) ns p = single (λ v. spellFlag o v n) ns
-writeItem o (Item.echo n) ns p = single (λ v. pick (eqb v n) (spelt []) none) ns
+writeItem o (Item.echo n) ns p = single (λ v. pick (eqb v n) (this []) cannot) ns
 writeItem o (Item.LE n) ns p = single (λ v. spellLE o v n) ns
 writeItem o Item.string ns p = takeText o ns

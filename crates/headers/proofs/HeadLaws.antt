@@ -12,13 +12,16 @@ use borrow.Author.Tests.{ltb-false, lt-ltb, le-ltb, eq-eqb, ne-eqb}
 use Rattle.format.specs.Tests.{pick}
 use Rattle.format.specs.FileAndTags as paper
 use Rattle.format.specs.FileAndTags.{head, noHead, le16, le32, rawHead, passes, readHead}
-use Rattle.classes.specs.Classes.{named, ends, contains}
+use Rattle.classes.specs.Classes.{named, bare, ends, contains}
 use Rattle.classes.specs.declared.Class.{Class}
 use Rattle.classes.specs.declared.Class.the-variants.{End, Container}
 use Rattle.classes.proofs.ClassLaws.{ends-named, contains-named}
+use Rattle.format.proofs.WalkLaws.{RawFits, raw-fits}
+use Rattle.format.proofs.Absurd.{clash}
+use Rattle.headers.specs.declared.Header.{Header}
 use Rattle.headers.specs.declared.Head.{Head}
 use Rattle.headers.specs.declared.Head.the-variants.{Tag, Fault}
-use Rattle.headers.specs.Heads.{seenHead, passesBy, headBy}
+use Rattle.headers.specs.Heads.{asHead, headBy}
 
 -- ---- Numbers.
 
@@ -73,122 +76,61 @@ module _ (s : List ℕ) (i rest : ℕ) (fits : i + rest ≡ length s) where
           rw p
           (rw (le-ltb rest 2 two, eq-eqb (n % 64) 63 full, le-ltb rest 6 six, le-ltb long 63 h) at (tied (drop i s) rest n long room number next))
 
--- ---- A header that is read stands in the room.
-
-abbrev pub StandsIf : List ℕ → paper.Head → Type 0
-StandsIf r (head code len size) = (2 ≤ size) × (size ≤ 6) × (size ≤ length r)
-StandsIf r (noHead e) = Unit {0}
-
-pub head-stands : (r : List ℕ) → StandsIf r (rawHead r)
-head-stands r = go (ltb (length r) 2) refl (eqb (le16 r % 64) 63) refl (ltb (length r) 6) refl (ltb (le32 (drop 2 r)) 63) refl
-  where
-    go : (z : Bool) → ltb (length r) 2 ≡ z → (y : Bool) → eqb (le16 r % 64) 63 ≡ y → (x : Bool) → ltb (length r) 6 ≡ x → (w : Bool) → ltb (le32 (drop 2 r)) 63 ≡ w
-        → StandsIf r (rawHead r)
-    go true e y f x g w h = rw e tt
-    go false e false f x g w h = rw (e, f) (omega arith, omega arith, ltb-false (length r) 2 e)
-    go false e true f true g w h = rw (e, f, g) tt
-    go false e true f false g true h = rw (e, f, g, h) tt
-    go false e true f false g false h = rw (e, f, g, h) (omega arith, omega arith, ltb-false (length r) 6 g)
-
 -- ---- No second answer fits.
 
-pub seen-one : (a b : Head) → seenHead a ≡ seenHead b → a ≡ b
-seen-one (Tag c l z) (Tag c′ l′ z′) e = cc
-seen-one (Tag c l z) (Fault r) e = cc
-seen-one (Fault r) (Tag c l z) e = cc
-seen-one (Fault r) (Fault r′) e = cc
+pub head-one : (a b : Head) → asHead a ≡ asHead b → a ≡ b
+head-one (Tag g) (Tag h) e = let c : g .code ≡ h .code = cc in let l : g .length ≡ h .length = cc in let z : g .size ≡ h .size = cc in λ i. Tag (record { code = c i; length = l i; size = z i })
+head-one (Tag g) (Fault r) e = clash cc
+head-one (Fault r) (Tag g) e = clash cc
+head-one (Fault r) (Fault r′) e = cc
 
--- ---- whether a header passes, by the name of its class
+-- ---- Whether a header passes, by the name of its class.
 
 -- what follows the header at i
 pub rest-is : (s : List ℕ) (i size : ℕ) → length (drop size (drop i s)) ≡ length s - i - size
 rest-is s i size = rw (length-drop, length-drop)
 
-pub size-fits : (s : List ℕ) (i : ℕ) {h : Head} {code len size : ℕ} → seenHead h ≡ rawHead (drop i s) → h ≡ Tag code len size → size ≤ length s - i
-size-fits s i {size = size} at is =
-    let u : (2 ≤ size) × (size ≤ 6) × (size ≤ length (drop i s)) = subst (StandsIf (drop i s)) (sym at ∙ ap seenHead is) (head-stands (drop i s)) in
-    omega (arith, u .2, length-drop i s)
+pub size-fits : (s : List ℕ) (i : ℕ) {h : Head} {H : Header} → asHead h ≡ rawHead (drop i s) → h ≡ Tag H → H .size ≤ length s - i
+size-fits s i {H = H} at is =
+    let u : RawFits (drop i s) (asHead (Tag H)) = subst (RawFits (drop i s)) (sym at ∙ ap asHead is) (raw-fits (drop i s)) in
+    omega (arith, u .1, length-drop i s)
 
--- the header that stands at r is code, len and size; rest bytes follow it
-module _ (left : ℕ) (r : List ℕ) {h : Head} {code len size rest : ℕ} (class : Class) (at : seenHead h ≡ rawHead r) (is : h ≡ Tag code len size) (follow : length (drop size r) ≡ rest) where
-  stands : rawHead r ≡ head code len size
-  stands = sym at ∙ ap seenHead is
+-- H is the header that stands at r; rest bytes follow it
+module _ (left : ℕ) (r : List ℕ) {h : Head} {H : Header} {rest : ℕ} (class : Class) (at : asHead h ≡ rawHead r) (is : h ≡ Tag H) (follow : length (drop (H .size) r) ≡ rest) where
+  stands : rawHead r ≡ asHead (Tag H)
+  stands = sym at ∙ ap asHead is
 
-  pub head-over : rest < len → noHead 9 ≡ headBy class left r
-  head-over h = rw (stands, follow, lt-ltb rest len h)
+  pub head-over : rest < H .length → noHead 9 ≡ headBy class left r
+  head-over h = rw (stands, follow, lt-ltb rest (H .length) h)
 
-  module _ (fits : len ≤ rest) where
-    pub head-end-body : class ≡ End → 0 < len → noHead 10 ≡ headBy class left r
-    head-end-body e h = rw (stands, follow, le-ltb rest len fits, e, lt-ltb 0 len h)
+  module _ (fits : H .length ≤ rest) where
+    pub head-end-body : class ≡ End → 0 < H .length → noHead 10 ≡ headBy class left r
+    head-end-body e h = rw (stands, follow, le-ltb rest (H .length) fits, e, lt-ltb 0 (H .length) h)
 
     pub head-deep : class ≡ Container → left ≡ 0 → noHead 12 ≡ headBy class left r
-    head-deep e h = rw (stands, follow, le-ltb rest len fits, e, h)
+    head-deep e h = rw (stands, follow, le-ltb rest (H .length) fits, e, h)
 
-    pub head-end : class ≡ End → len ≤ 0 → head code len size ≡ headBy class left r
-    head-end e l = rw (stands, follow, le-ltb rest len fits, e, le-ltb 0 len l)
+    pub head-end : class ≡ End → H .length ≤ 0 → asHead (Tag H) ≡ headBy class left r
+    head-end e l = rw (stands, follow, le-ltb rest (H .length) fits, e, le-ltb 0 (H .length) l)
 
-    pub head-container : class ≡ Container → (left ≡ 0 → ⊥) → head code len size ≡ headBy class left r
-    head-container e l = rw (stands, follow, le-ltb rest len fits, e, ne-eqb left 0 l)
+    pub head-container : class ≡ Container → (left ≡ 0 → ⊥) → asHead (Tag H) ≡ headBy class left r
+    head-container e l = rw (stands, follow, le-ltb rest (H .length) fits, e, ne-eqb left 0 l)
 
     -- a class that is neither passes
-    pub head-other : ends class ≡ false → contains class ≡ false → head code len size ≡ headBy class left r
-    head-other e f = rw (stands, follow, le-ltb rest len fits, e, f)
+    pub head-other : ends class ≡ false → contains class ≡ false → asHead (Tag H) ≡ headBy class left r
+    head-other e f = rw (stands, follow, le-ltb rest (H .length) fits, e, f)
 
-pub head-none : (left : ℕ) (r : List ℕ) {h : Head} {e : ℕ} (class : Class) → seenHead h ≡ rawHead r → h ≡ Fault e → seenHead h ≡ headBy class left r
-head-none left r class at is = ap seenHead is ∙ rw (sym at ∙ ap seenHead is)
+pub head-none : (left : ℕ) (r : List ℕ) {h : Head} {e : ℕ} (class : Class) → asHead h ≡ rawHead r → h ≡ Fault e → asHead h ≡ headBy class left r
+head-none left r class at is = ap asHead is ∙ rw (sym at ∙ ap asHead is)
 
 -- ---- The definitions' header, by the name of the class of its code, whatever the classes are.
 pub head-by : (class : ℕ → paper.Class) (left : ℕ) (r : List ℕ) → readHead class left r ≡ headBy (named (class (le16 r / 64))) left r
-head-by class left r = go (ltb (length r) 2) (eqb (le16 r % 64) 63) (ltb (length r) 6) (ltb (le32 (drop 2 r)) 63)
+head-by class left r = go (rawHead r) (raw-fits r)
   where
-    code : ℕ
-    code = le16 r / 64
-
-    one : (len size : ℕ) → passes class left r (head code len size) ≡ passesBy (named (class code)) left r (head code len size)
-    one len size = rw (ends-named (class code), contains-named (class code))
-
-    go : (a b c d : Bool)
-        → passes class left r (pick a (noHead 6) (pick b (pick c (noHead 6) (pick d (noHead 8) (head code (le32 (drop 2 r)) 6))) (head code (le16 r % 64) 2)))
-        ≡ passesBy (named (class code)) left r (pick a (noHead 6) (pick b (pick c (noHead 6) (pick d (noHead 8) (head code (le32 (drop 2 r)) 6))) (head code (le16 r % 64) 2)))
-    go true b c d = refl
-    go false true true d = refl
-    go false true false true = refl
-    go false true false false = one (le32 (drop 2 r)) 6
-    go false false c d = one (le16 r % 64) 2
+    go : (h : paper.Head) → RawFits r h → passes class left r h ≡ passes (λ code. bare (named (class (le16 r / 64)))) left r h
+    go (noHead e) u = refl
+    go (head code len size) u = rw (u .2, ends-named (class (le16 r / 64)), contains-named (class (le16 r / 64)))
 
 -- ---- The code of the header at i, by its two bytes.
 pub code-of : (s : List ℕ) (i j a b : ℕ) {n : ℕ} → i + 1 ≡ j → a ≡ getD s i 0 → b ≡ getD s j 0 → n ≡ a + 256 * b → n / 64 ≡ le16 (drop i s) / 64
 code-of s i j a b q x y e = ap (λ (m : ℕ). m / 64) (e ∙ two-bytes s i j a b q x y)
-
--- ---- A header that passes stands in the room with its body, and its code is that of its first two bytes.
-abbrev RawBy : List ℕ → paper.Head → Type 0
-RawBy r (head code len size) = (2 ≤ size) × (size ≤ length r) × (code ≡ le16 r / 64)
-RawBy r (noHead e) = Unit {0}
-
-raw-by : (r : List ℕ) → RawBy r (rawHead r)
-raw-by r = go (ltb (length r) 2) refl (eqb (le16 r % 64) 63) (ltb (length r) 6) refl (ltb (le32 (drop 2 r)) 63)
-  where
-    go : (a : Bool) → ltb (length r) 2 ≡ a → (b c : Bool) → ltb (length r) 6 ≡ c → (d : Bool)
-        → RawBy r (pick a (noHead 6) (pick b (pick c (noHead 6) (pick d (noHead 8) (head (le16 r / 64) (le32 (drop 2 r)) 6))) (head (le16 r / 64) (le16 r % 64) 2)))
-    go true e b c f d = tt
-    go false e true true f d = tt
-    go false e true false f true = tt
-    go false e true false f false = (omega arith, ltb-false (length r) 6 f, refl)
-    go false e false c f d = (omega arith, ltb-false (length r) 2 e, refl)
-
-abbrev pub FitsBy : List ℕ → paper.Head → Type 0
-FitsBy r (head code len size) = (2 ≤ size) × (size + len ≤ length r) × (code ≡ le16 r / 64)
-FitsBy r (noHead e) = Unit {0}
-
-pub fits-by : (class : Class) (left : ℕ) (r : List ℕ) → FitsBy r (headBy class left r)
-fits-by class left r = go (rawHead r) (raw-by r)
-  where
-    go : (h : paper.Head) → RawBy r h → FitsBy r (passesBy class left r h)
-    go (noHead e) u = tt
-    go (head code len size) u = test (ltb (length (drop size r)) len) refl (pick (ends class) (ltb 0 len) false) (pick (contains class) (eqb left 0) false)
-      where
-        test : (a : Bool) → ltb (length (drop size r)) len ≡ a → (b c : Bool) → FitsBy r (pick a (noHead 9) (pick b (noHead 10) (pick c (noHead 12) (head code len size))))
-        test true e b c = tt
-        test false e true c = tt
-        test false e false true = tt
-        test false e false false = (u .0, omega (arith, u .1, ltb-false (length (drop size r)) len e, length-drop size r), u .2)

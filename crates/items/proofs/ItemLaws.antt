@@ -14,8 +14,9 @@ use Rattle.format.specs.Formats as formats
 use Rattle.format.specs.Formats.{only}
 use Rattle.format.specs.Items.{Num, num, bad, room, skipped, above, readLE, readU32, readUB, mapNum, notOne, sign, byteItem, readItem, readAlign, judge, showNum, run}
 use Rattle.format.proofs.BitLaws.{ub-lt}
-use Rattle.bits.specs.Places.{seen}
-use Rattle.bits.proofs.FieldLaws.{seen-one}
+use Rattle.format.proofs.Absurd.{clash}
+use Rattle.bits.specs.Places.{numOf}
+use Rattle.bits.proofs.FieldLaws.{num-one}
 use Rattle.bits.specs.declared.BitPlace.{BitPlace}
 use Rattle.bits.specs.declared.Got.{Got}
 use Rattle.bits.specs.declared.Got.the-variants.{Value, Fault}
@@ -25,21 +26,21 @@ use Rattle.items.specs.declared.Item.the-variants.{U32, I32, Time, Float
 use Rattle.items.proofs.VarLaws.{IsByte, byte-is, room-is, room-not, Below, var-below}
 
 -- ---- what an answer tells a caller
-module _ {r : Got} {w : Reading} (so : showNum (seen r) ≡ w) where
+module _ {r : Got} {w : Reading} (so : showNum (numOf r) ≡ w) where
   pub got-value : {v : ℕ} {q : BitPlace} → r ≡ Value v q → w ≡ shows (v ∷ []) (q .0)
-  got-value e = sym so ∙ ap (λ (g : Got). showNum (seen g)) e
+  got-value e = sym so ∙ ap (λ (g : Got). showNum (numOf g)) e
 
   pub got-fault : {e : ℕ} → r ≡ Fault e → w ≡ stop e
-  got-fault e = sym so ∙ ap (λ (g : Got). showNum (seen g)) e
+  got-fault e = sym so ∙ ap (λ (g : Got). showNum (numOf g)) e
 
 -- no second answer fits a promise that shows a number or a reason
-pub shown-one : (a b : Got) → showNum (seen a) ≡ showNum (seen b) → a ≡ b
-shown-one a b e = seen-one a b (go (seen a) (seen b) (ap (λ (r : Reading). r .shown) e) (ap (λ (r : Reading). r .ended) e))
+pub shown-one : (a b : Got) → showNum (numOf a) ≡ showNum (numOf b) → a ≡ b
+shown-one a b e = num-one a b (go (numOf a) (numOf b) (ap (λ (r : Reading). r .shown) e) (ap (λ (r : Reading). r .ended) e))
   where
     go : (m n : Num) → showNum m .shown ≡ showNum n .shown → showNum m .ended ≡ showNum n .ended → m ≡ n
     go (num v p) (num w q) c z = let d : v ≡ w = cc in let f : p ≡ q = cc in λ i. num (d i) (f i)
-    go (num v p) (bad e) c z = absurd (let w : _≡_ {A = ℕ} 0 1 = cc in omega arith)
-    go (bad e) (num v p) c z = absurd (let w : _≡_ {A = ℕ} 0 1 = cc in omega arith)
+    go (num v p) (bad e) c z = clash cc
+    go (bad e) (num v p) c z = clash cc
     go (bad e) (bad f) c z = let d : e ≡ f = cc in ap bad d
 
 -- ---- a Float: bytes, lowest first
@@ -98,7 +99,7 @@ module _ {w : Num} {d q : ℕ} (so : num d q ≡ w) where
   pub i32-odd : {r : ℕ} → (d ≡ 1 → ⊥) → (d % 2 ≡ 0 → ⊥) → d < 2 ^ 64 → r < 2 ^ 64 → (r + d / 2) % 2 ^ 64 ≡ 0 → num r q ≡ mapNum sign (notOne w)
   i32-odd n e l m f = rw (← so, ne-eqb d 1 n, ne-eqb (d % 2) 0 e) (ap (λ (x : ℕ). num x q) (omega arith))
 
-pub i32-bad : {r : Got} {w : Num} {e : ℕ} → r ≡ Fault e → seen r ≡ w → seen r ≡ mapNum sign (notOne w)
+pub i32-bad : {r : Got} {w : Num} {e : ℕ} → r ≡ Fault e → numOf r ≡ w → numOf r ≡ mapNum sign (notOne w)
 i32-bad h so = rw (← so, h)
 
 -- ---- an item is its bytes from the next whole byte on, in its range
@@ -151,15 +152,15 @@ item-clean : (b : List ℕ) (p : ℕ) (k : Item) {q : ℕ} (n : Num) → readAli
 unfolding run readItem
 item-clean b p k {q} n skip bytes = item-is b p k n (λ i so. rw (skip, bytes) (so q))
 
-module _ (b : List ℕ) (p : ℕ) (k : Item) {q : ℕ} {r : Got} (skip : readAlign high b p ≡ shows [] q) (bytes : seen r ≡ spelt k b q) where
-  pub item-bad : {e : ℕ} → r ≡ Fault e → showNum (seen r) ≡ run high b (formatOf k) p
-  item-bad h = sym (item-clean b p k (seen r) skip bytes ∙ rw h)
+module _ (b : List ℕ) (p : ℕ) (k : Item) {q : ℕ} {r : Got} (skip : readAlign high b p ≡ shows [] q) (bytes : numOf r ≡ spelt k b q) where
+  pub item-bad : {e : ℕ} → r ≡ Fault e → showNum (numOf r) ≡ run high b (formatOf k) p
+  item-bad h = sym (item-clean b p k (numOf r) skip bytes ∙ rw h)
 
   pub item-in : {v : ℕ} {z : BitPlace} → r ≡ Value v z → rangeFault k v ≡ 0 → shows (v ∷ []) (z .0) ≡ run high b (formatOf k) p
-  item-in h e = sym (item-clean b p k (seen r) skip bytes ∙ rw (h, e))
+  item-in h e = sym (item-clean b p k (numOf r) skip bytes ∙ rw (h, e))
 
   pub item-out : {v e : ℕ} {z : BitPlace} → r ≡ Value v z → e ≡ rangeFault k v → (e ≡ 0 → ⊥) → stop e ≡ run high b (formatOf k) p
-  item-out {v} {e} h f n = sym (item-clean b p k (seen r) skip bytes ∙ rw (h, ← f, ne-eqb e 0 n))
+  item-out {v} {e} h f n = sym (item-clean b p k (numOf r) skip bytes ∙ rw (h, ← f, ne-eqb e 0 n))
 
 -- ---- bounds of the numbers that are shown
 spelt-below : (k : Item) (b : List ℕ) (q : ℕ) → Below (2 ^ 64) (spelt k b q)

@@ -3,8 +3,8 @@ ghost use mathlib.Core.Path.{_≡_};
 ghost use Prim.Native.Nat.{_*_};
 ghost use Rattle.format.specs.Bits.{high};
 ghost use Rattle.format.specs.Items.{showNum, run, readLE, readUB};
-ghost use Rattle.bits.specs.Places.{Inside, seen};
-ghost use Rattle.items.specs.Kinds.{formatOf, spelt, between as «within», rangeFault};
+ghost use Rattle.bits.specs.Places.{PlaceIn, numOf};
+ghost use Rattle.items.specs.Kinds.{formatOf, spelt, between as within, rangeFault};
 
 mod var;
 
@@ -26,30 +26,30 @@ pub enum Item {
 }
 
 // One byte.
-fn read_byte(s: &[u8], byte: BytePlace, bit: BitPlace) -> Got
-    requires { ⌜ Inside (now s) (bit .0) × (bit .0 ≡ 8 * byte .0) ⌝ }
-    ensures { λ r. ⌜ seen r ≡ readUB high (now (s .entry)) (bit .0) 8 ⌝ }
+fn read_byte(body: &[u8], byte: BytePlace, bit: BitPlace) -> Got
+    requires { ⌜ PlaceIn (now body) (bit .0) × (bit .0 ≡ 8 * byte .0) ⌝ }
+    ensures { λ r. ⌜ numOf r ≡ readUB high (now (body .entry)) (bit .0) 8 ⌝ }
 {
     let i = byte.0;
-    if s.len() <= i {
+    if body.len() <= i {
         return Got::Fault(13);
     }
-    Got::Value(bits::byte_at(s, i), BitPlace(bit.0 + 8))
+    Got::Value(bits::byte_at(body, i), BitPlace(bit.0 + 8))
 }
 
 // A Float: four bytes, lowest first, kept as their pattern.
-fn read_float(s: &[u8], byte: BytePlace, bit: BitPlace) -> Got
-    requires { ⌜ Inside (now s) (bit .0) × (bit .0 ≡ 8 * byte .0) ⌝ }
-    ensures { λ r. ⌜ seen r ≡ readLE high (now (s .entry)) (bit .0) 4 ⌝ }
+fn read_float(body: &[u8], byte: BytePlace, bit: BitPlace) -> Got
+    requires { ⌜ PlaceIn (now body) (bit .0) × (bit .0 ≡ 8 * byte .0) ⌝ }
+    ensures { λ r. ⌜ numOf r ≡ readLE high (now (body .entry)) (bit .0) 4 ⌝ }
 {
     let i = byte.0;
-    if s.len() - i < 4 {
+    if body.len() - i < 4 {
         return Got::Fault(13);
     }
-    let b0 = bits::byte_at(s, i);
-    let b1 = bits::byte_at(s, i + 1);
-    let b2 = bits::byte_at(s, i + 2);
-    let b3 = bits::byte_at(s, i + 3);
+    let b0 = bits::byte_at(body, i);
+    let b1 = bits::byte_at(body, i + 1);
+    let b2 = bits::byte_at(body, i + 2);
+    let b3 = bits::byte_at(body, i + 3);
     Got::Value(
         b0 + 256 * (b1 + 256 * (b2 + 256 * b3)),
         BitPlace(bit.0 + 32),
@@ -57,43 +57,43 @@ fn read_float(s: &[u8], byte: BytePlace, bit: BitPlace) -> Got
 }
 
 // An item's bytes (13) and their spelling (14), from a whole byte on.
-fn read_spelling(kind: Item, s: &[u8], byte: BytePlace, bit: BitPlace) -> Got
-    requires { ⌜ Inside (now s) (bit .0) × (bit .0 ≡ 8 * byte .0) ⌝ }
-    ensures { λ r. ⌜ seen r ≡ spelt kind (now (s .entry)) (bit .0) ⌝ }
+fn read_spelling(kind: Item, body: &[u8], byte: BytePlace, bit: BitPlace) -> Got
+    requires { ⌜ PlaceIn (now body) (bit .0) × (bit .0 ≡ 8 * byte .0) ⌝ }
+    ensures { λ r. ⌜ numOf r ≡ spelt kind (now (body .entry)) (bit .0) ⌝ }
 {
     match kind {
-        Item::U32 => var::read_u32(s, byte, bit),
-        Item::Count(_) => var::read_u32(s, byte, bit),
-        Item::I32 => var::read_i32(s, byte, bit),
-        Item::Time => var::read_u64(s, byte, bit),
-        Item::Float => read_float(s, byte, bit),
-        Item::Byte => read_byte(s, byte, bit),
-        Item::Enum(_) => read_byte(s, byte, bit),
-        Item::BlendMode => read_byte(s, byte, bit),
+        Item::U32 => var::read_u32(body, byte, bit),
+        Item::Count(_) => var::read_u32(body, byte, bit),
+        Item::I32 => var::read_i32(body, byte, bit),
+        Item::Time => var::read_u64(body, byte, bit),
+        Item::Float => read_float(body, byte, bit),
+        Item::Byte => read_byte(body, byte, bit),
+        Item::Enum(_) => read_byte(body, byte, bit),
+        Item::BlendMode => read_byte(body, byte, bit),
     }
 }
 
 // Is v from a to z?
-fn between(a: u64, v: u64, z: u64) -> bool
-    ensures { λ r. ⌜ r ≡ «within» a v z ⌝ }
+fn between(least: u64, value: u64, most: u64) -> bool
+    ensures { λ r. ⌜ r ≡ within least value most ⌝ }
 {
-    if a <= v { v <= z } else { false }
+    if least <= value { value <= most } else { false }
 }
 
 // The reason that a number out of its range gets, 0 for a number in its range.
-pub fn out_of_range(kind: Item, v: u64) -> u32
-    ensures { λ r. ⌜ r ≡ rangeFault kind v ⌝ }
+pub fn out_of_range(kind: Item, value: u64) -> u32
+    ensures { λ r. ⌜ r ≡ rangeFault kind value ⌝ }
 {
     match kind {
-        Item::Enum(top) => if v <= top { 0 } else { 16 },
-        Item::BlendMode => if v <= 16 {
+        Item::Enum(top) => if value <= top { 0 } else { 16 },
+        Item::BlendMode => if value <= 16 {
             0
-        } else if between(21, v, 26) {
+        } else if between(21, value, 26) {
             0
         } else {
             16
         },
-        Item::Count(least) => if between(least, v, 4096) { 0 } else { 17 },
+        Item::Count(least) => if between(least, value, 4096) { 0 } else { 17 },
         Item::U32 => 0,
         Item::I32 => 0,
         Item::Time => 0,
@@ -103,21 +103,21 @@ pub fn out_of_range(kind: Item, v: u64) -> u32
 }
 
 // An item: skipped bits (15), its bytes (13), its spelling (14), its range (16, 17).
-pub fn read_item(kind: Item, s: &[u8], at: BitPlace) -> Got
-    requires { ⌜ Inside (now s) (at .0) ⌝ }
-    ensures { λ r. ⌜ showNum (seen r) ≡ run high (now (s .entry)) (formatOf kind) (at .0) ⌝ }
+pub fn read_item(kind: Item, body: &[u8], at: BitPlace) -> Got
+    requires { ⌜ PlaceIn (now body) (at .0) ⌝ }
+    ensures { λ r. ⌜ showNum (numOf r) ≡ run high (now (body .entry)) (formatOf kind) (at .0) ⌝ }
 {
-    let a = bits::align(s, at);
-    let Aligned::Clean(byte, bit) = a else {
+    let aligned = bits::align(body, at);
+    let Aligned::Clean(byte, bit) = aligned else {
         return Got::Fault(15);
     };
-    let r = read_spelling(kind, s, byte, bit);
-    let Got::Value(v, next) = r else {
+    let r = read_spelling(kind, body, byte, bit);
+    let Got::Value(value, next) = r else {
         return r;
     };
-    let why = out_of_range(kind, v);
+    let why = out_of_range(kind, value);
     if why == 0 {
-        Got::Value(v, next)
+        Got::Value(value, next)
     } else {
         Got::Fault(why)
     }

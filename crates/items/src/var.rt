@@ -3,33 +3,33 @@ ghost use mathlib.Core.Path.{_≡_};
 ghost use Prim.Native.Nat.{_-_, _*_, _^_, _≤_, _<_};
 ghost use Rattle.format.specs.Bits.{high};
 ghost use Rattle.format.specs.Items.{readVar, readU32, readU64, notOne, mapNum, sign};
-ghost use Rattle.bits.specs.Places.{Inside, seen};
+ghost use Rattle.bits.specs.Places.{PlaceIn, numOf};
 ghost use Rattle.items.specs.Kinds.{canEnd, cap};
 use bits::BitPlace;
 use bits::BytePlace;
 use bits::Got;
 
 // May b end a spelling of several bytes, with `left` more allowed after it? Only the shortest is taken, and the last byte is at most `top`.
-fn ends(b: u64, left: u64, top: u64) -> bool
-    ensures { λ r. ⌜ r ≡ canEnd left top b ⌝ }
+fn ends(byte: u64, left: u64, top: u64) -> bool
+    ensures { λ r. ⌜ r ≡ canEnd left top byte ⌝ }
 {
-    if b == 0 {
+    if byte == 0 {
         return false;
     }
-    if 0 < left { true } else { b <= top }
+    if 0 < left { true } else { byte <= top }
 }
 
 // A first byte, and at most `most` more, the last of these at most `top`.
-fn read_var(s: &[u8], byte: BytePlace, bit: BitPlace, most: u64, top: u64) -> Got
-    requires { ⌜ Inside (now s) (bit .0) × (bit .0 ≡ 8 * byte .0) × (1 ≤ most) × (1 ≤ top) × (top < 128) × (128 * cap (most - 1) top ≤ 2 ^ 64) ⌝ }
-    ensures { λ r. ⌜ seen r ≡ readVar high (now (s .entry)) top (bit .0) most ⌝ }
+fn read_var(body: &[u8], byte: BytePlace, bit: BitPlace, most: u64, top: u64) -> Got
+    requires { ⌜ PlaceIn (now body) (bit .0) × (bit .0 ≡ 8 * byte .0) × (1 ≤ most) × (1 ≤ top) × (top < 128) × (128 * cap (most - 1) top ≤ 2 ^ 64) ⌝ }
+    ensures { λ r. ⌜ numOf r ≡ readVar high (now (body .entry)) top (bit .0) most ⌝ }
 {
     let mut i = byte.0;
     let mut next = bit.0;
-    if s.len() <= i {
+    if body.len() <= i {
         return Got::Fault(13);
     }
-    let b = bits::byte_at(s, i);
+    let b = bits::byte_at(body, i);
     i += 1;
     next += 8;
     if b < 128 {
@@ -39,10 +39,10 @@ fn read_var(s: &[u8], byte: BytePlace, bit: BitPlace, most: u64, top: u64) -> Go
     let mut weight = 128u64;
     let mut left = most;
     loop {
-        if s.len() <= i {
+        if body.len() <= i {
             return Got::Fault(13);
         }
-        let b = bits::byte_at(s, i);
+        let b = bits::byte_at(body, i);
         i += 1;
         next += 8;
         left -= 1;
@@ -61,27 +61,27 @@ fn read_var(s: &[u8], byte: BytePlace, bit: BitPlace, most: u64, top: u64) -> Go
 }
 
 // U32: at most 5 bytes, the fifth at most 15.
-pub(crate) fn read_u32(s: &[u8], byte: BytePlace, bit: BitPlace) -> Got
-    requires { ⌜ Inside (now s) (bit .0) × (bit .0 ≡ 8 * byte .0) ⌝ }
-    ensures { λ r. ⌜ seen r ≡ readU32 high (now (s .entry)) (bit .0) ⌝ }
+pub(crate) fn read_u32(body: &[u8], byte: BytePlace, bit: BitPlace) -> Got
+    requires { ⌜ PlaceIn (now body) (bit .0) × (bit .0 ≡ 8 * byte .0) ⌝ }
+    ensures { λ r. ⌜ numOf r ≡ readU32 high (now (body .entry)) (bit .0) ⌝ }
 {
-    read_var(s, byte, bit, 4, 15)
+    read_var(body, byte, bit, 4, 15)
 }
 
 // U64: at most 10 bytes, the tenth at most 1.
-pub(crate) fn read_u64(s: &[u8], byte: BytePlace, bit: BitPlace) -> Got
-    requires { ⌜ Inside (now s) (bit .0) × (bit .0 ≡ 8 * byte .0) ⌝ }
-    ensures { λ r. ⌜ seen r ≡ readU64 high (now (s .entry)) (bit .0) ⌝ }
+pub(crate) fn read_u64(body: &[u8], byte: BytePlace, bit: BitPlace) -> Got
+    requires { ⌜ PlaceIn (now body) (bit .0) × (bit .0 ≡ 8 * byte .0) ⌝ }
+    ensures { λ r. ⌜ numOf r ≡ readU64 high (now (body .entry)) (bit .0) ⌝ }
 {
-    read_var(s, byte, bit, 9, 1)
+    read_var(body, byte, bit, 9, 1)
 }
 
 // I32: a U32 d; the magnitude is d / 2, odd d is negative, minus zero is refused.
-pub(crate) fn read_i32(s: &[u8], byte: BytePlace, bit: BitPlace) -> Got
-    requires { ⌜ Inside (now s) (bit .0) × (bit .0 ≡ 8 * byte .0) ⌝ }
-    ensures { λ r. ⌜ seen r ≡ mapNum sign (notOne (readU32 high (now (s .entry)) (bit .0))) ⌝ }
+pub(crate) fn read_i32(body: &[u8], byte: BytePlace, bit: BitPlace) -> Got
+    requires { ⌜ PlaceIn (now body) (bit .0) × (bit .0 ≡ 8 * byte .0) ⌝ }
+    ensures { λ r. ⌜ numOf r ≡ mapNum sign (notOne (readU32 high (now (body .entry)) (bit .0))) ⌝ }
 {
-    let r = read_u32(s, byte, bit);
+    let r = read_u32(body, byte, bit);
     let Got::Value(d, next) = r else {
         return r;
     };

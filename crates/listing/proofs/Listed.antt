@@ -56,11 +56,11 @@ refusal-laid b k e n {u} {v} {i} {j} c d f =
 
 -- a tag's record: five fields and a tab after each, its state, its values
 tag-line : (t : Tag) → tagLine t
-    ≡ (tabbed (t .depth ∷ t .place ∷ t .size ∷ t .length ∷ t .code ∷ []) ++ field (t .state) (ender (length (t .values)))) ++ values (t .values)
+    ≡ (tabbed (t .depth ∷ t .place ∷ t .headerSize ∷ t .bodyLength ∷ t .code ∷ []) ++ field (t .state) (ender (length (t .values)))) ++ values (t .values)
 tag-line t =
-    ap (before (t .depth ∷ t .place ∷ t .size ∷ t .length ∷ t .code ∷ [])) (line-values (t .state) (t .values))
-    ∙ before-tabbed (t .depth ∷ t .place ∷ t .size ∷ t .length ∷ t .code ∷ []) (field (t .state) (ender (length (t .values))) ++ values (t .values))
-    ∙ sym (append-assoc (tabbed (t .depth ∷ t .place ∷ t .size ∷ t .length ∷ t .code ∷ [])) (field (t .state) (ender (length (t .values)))) (values (t .values)))
+    ap (before (t .depth ∷ t .place ∷ t .headerSize ∷ t .bodyLength ∷ t .code ∷ [])) (line-values (t .state) (t .values))
+    ∙ before-tabbed (t .depth ∷ t .place ∷ t .headerSize ∷ t .bodyLength ∷ t .code ∷ []) (field (t .state) (ender (length (t .values))) ++ values (t .values))
+    ∙ sym (append-assoc (tabbed (t .depth ∷ t .place ∷ t .headerSize ∷ t .bodyLength ∷ t .code ∷ [])) (field (t .state) (ender (length (t .values)))) (values (t .values)))
 
 -- ---- the steps on tables whose rest is known
 
@@ -98,9 +98,9 @@ module _ (n : ℕ) (t g : List ℕ) where
       rest-step n t g (cursor k m 0) (more-yes t g (cursor k m 0) l (omega arith))
       ∙ ap (λ (y : Step). y .text ++ rest n t g (y .to)) s
       ∙ rw (at-first t k e, at-drop t k 1 e, at-drop t k 2 e, at-first g m d, at-drop g m 2 d, at-drop g m 3 d, at-drop g m 4 d)
-      (ap (λ (y : List ℕ). (tabbed (x .depth ∷ x .place ∷ x .size ∷ x .length ∷ x .code ∷ []) ++ field (x .state) (ender (length (x .values)))) ++ y)
+      (ap (λ (y : List ℕ). (tabbed (x .depth ∷ x .place ∷ x .headerSize ∷ x .bodyLength ∷ x .code ∷ []) ++ field (x .state) (ender (length (x .values)))) ++ y)
       (values-rest (x .values) (numbers ts) (k + 3) (m + 5) v (omega arith) r ∙ ap (λ (y : List ℕ). values (x .values) ++ y) (lines-rest ts (k + 3 + length (x .values)) (m + 5) w (drop-more g m 5 d) (omega arith)))
-      ∙ sym (append-assoc (tabbed (x .depth ∷ x .place ∷ x .size ∷ x .length ∷ x .code ∷ []) ++ field (x .state) (ender (length (x .values)))) (values (x .values)) (tagLines ts))
+      ∙ sym (append-assoc (tabbed (x .depth ∷ x .place ∷ x .headerSize ∷ x .bodyLength ∷ x .code ∷ []) ++ field (x .state) (ender (length (x .values)))) (values (x .values)) (tagLines ts))
       ∙ ap (λ (y : List ℕ). y ++ tagLines ts) (sym (tag-line x)))
 
 -- the first line of a file of version 1

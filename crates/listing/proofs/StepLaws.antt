@@ -10,9 +10,10 @@ use lib.Seq.{sets}
 use lib.Dec.{ltb, leb, eqb}
 use borrow.Author.Tests.{eqb-true, ltb-true, lt-ltb, le-ltb, le-leb, lt-leb, eq-eqb, ne-eqb}
 use Rattle.format.specs.Tests.{pick, _and_}
+use Rattle.format.proofs.Absurd.{clash}
 use Rattle.table.proofs.EngineLaws.{sets-append}
 use Rattle.listing.specs.declared.Cursor.{Cursor}
-use Rattle.listing.specs.Steps.{Laid, laid, lays, field, tabbed, ender, Step, cursor, firstStep, headStep, valueStep, step, more, stay, joined, fill, partOf, State, state, after}
+use Rattle.listing.specs.Steps.{Laid, laid, lays, field, tabbed, ender, Step, cursor, firstStep, headStep, valueStep, step, more, stay, joined, fill, partOf, AfterPart, afterPart, textOver}
 use Rattle.listing.proofs.TextLaws.{lays-then}
 
 -- ---- the two texts that several calls write
@@ -54,23 +55,23 @@ module _ (n : ℕ) (t g : List ℕ) (c : Cursor) where
       go false e false = omega arith
 
 -- ---- what a step leaves
-pub after-text : (b : List ℕ) (k : ℕ) (s : Step) {u : List ℕ} {j : ℕ} {d : Cursor} → laid u j ≡ lays b k (s .text) → d ≡ s .to → state u j d ≡ after b k s
-unfolding after lays
-after-text b k s e f = λ i. state (e i .lent) (e i .next) (f i)
+pub after-text : (b : List ℕ) (k : ℕ) (s : Step) {u : List ℕ} {j : ℕ} {d : Cursor} → laid u j ≡ lays b k (s .text) → d ≡ s .to → afterPart u j d ≡ textOver b k s
+unfolding textOver lays
+after-text b k s e f = λ i. afterPart (e i .lent) (e i .next) (f i)
 
 module _ (n : ℕ) (b t g : List ℕ) (k : ℕ) (c : Cursor) where
-  pub first-done : {u : List ℕ} {j : ℕ} → c .number ≡ 0 → laid u j ≡ lays b k (firstStep n t .text) → state u j (cursor 1 0 0) ≡ after b k (step n t g c)
-  first-done h e = after-text b k (firstStep n t) e refl ∙ ap (after b k) (sym (step-first n t g c h))
+  pub first-done : {u : List ℕ} {j : ℕ} → c .number ≡ 0 → laid u j ≡ lays b k (firstStep n t .text) → afterPart u j (cursor 1 0 0) ≡ textOver b k (step n t g c)
+  first-done h e = after-text b k (firstStep n t) e refl ∙ ap (textOver b k) (sym (step-first n t g c h))
 
   pub head-done : (x : ℕ) {u : List ℕ} {j : ℕ} → (c .number ≡ 0 → ⊥) → c .left ≡ 0 → laid u j ≡ lays b k (headStep t g (c .number) (c .row) .text) → x ≡ getD t (c .number + 2) 0
-      → state u j (cursor (c .number + 3) (c .row + 5) x) ≡ after b k (step n t g c)
+      → afterPart u j (cursor (c .number + 3) (c .row + 5) x) ≡ textOver b k (step n t g c)
   head-done x h i e f =
-      after-text b k (headStep t g (c .number) (c .row)) e (ap (cursor (c .number + 3) (c .row + 5)) f) ∙ ap (after b k) (sym (step-head n t g c h i))
+      after-text b k (headStep t g (c .number) (c .row)) e (ap (cursor (c .number + 3) (c .row + 5)) f) ∙ ap (textOver b k) (sym (step-head n t g c h i))
 
   pub value-done : (x y : ℕ) {u : List ℕ} {j : ℕ} → (c .number ≡ 0 → ⊥) → (c .left ≡ 0 → ⊥) → x ≡ getD t (c .number) 0 → y ≡ ender (c .left - 1) → laid u j ≡ lays b k (field x y)
-      → state u j (cursor (c .number + 1) (c .row) (c .left - 1)) ≡ after b k (step n t g c)
+      → afterPart u j (cursor (c .number + 1) (c .row) (c .left - 1)) ≡ textOver b k (step n t g c)
   value-done x y h i e f d =
-      after-text b k (valueStep t (c .number) (c .row) (c .left)) (d ∙ rw (e, f)) refl ∙ ap (after b k) (sym (step-value n t g c h i))
+      after-text b k (valueStep t (c .number) (c .row) (c .left)) (d ∙ rw (e, f)) refl ∙ ap (textOver b k) (sym (step-value n t g c h i))
 
 -- ---- there is more, or not
 pub more-yes : (t g : List ℕ) (c : Cursor) → c .number < length t → c .row ≤ length g → more t g c ≡ true
@@ -84,7 +85,7 @@ more-number t g c = go (ltb (c .number) (length t)) refl
   where
     go : (a : Bool) → ltb (c .number) (length t) ≡ a → (a and leb (c .row) (length g)) ≡ true → c .number < length t
     go true e h = ltb-true (c .number) (length t) e
-    go false e h = absurd (let z : _≡_ {A = ℕ} 0 1 = cc in omega arith)
+    go false e h = clash cc
 
 pub more-over : (t g : List ℕ) (c : Cursor) → length g < c .row → more t g c ≡ false
 more-over t g c h = go (ltb (c .number) (length t))
@@ -109,7 +110,7 @@ module _ (n : ℕ) (t g : List ℕ) where
   part-step room c h i = go (length t) refl
     where
       go : (k : ℕ) → length t ≡ k → fill k room n t g c ≡ joined (step n t g c) (fill k (room - length (step n t g c .text)) n t g (step n t g c .to))
-      go zero e = absurd (let z : _≡_ {A = ℕ} 0 1 = cc (more-none t g c (omega arith)) in omega arith)
+      go zero e = clash (cc (more-none t g c (omega arith)))
       go (suc k) e =
           rw (h, le-leb 128 room i)
           (ap (joined (step n t g c)) (fill-bound k (suc k) (room - length (step n t g c .text)) (step n t g c .to) (omega (arith, step-further n t g c)) (omega (arith, step-further n t g c))))
@@ -122,31 +123,31 @@ module _ (n : ℕ) (t g : List ℕ) where
       go zero = refl
       go (suc k) = rw h
 
-  after-joined : (b : List ℕ) (k : ℕ) (s r : Step) → after b k (joined s r) ≡ after (sets b k (s .text)) (k + length (s .text)) r
-  unfolding after
-  after-joined b k s r = λ i. state (sets-append b k (s .text) (r .text) i) ((ap (λ (m : ℕ). k + m) (length-append (s .text) (r .text)) ∙ sym (add-assoc k (length (s .text)) (length (r .text)))) i) (r .to)
+  after-joined : (b : List ℕ) (k : ℕ) (s r : Step) → textOver b k (joined s r) ≡ textOver (sets b k (s .text)) (k + length (s .text)) r
+  unfolding textOver
+  after-joined b k s r = λ i. afterPart (sets-append b k (s .text) (r .text) i) ((ap (λ (m : ℕ). k + m) (length-append (s .text) (r .text)) ∙ sym (add-assoc k (length (s .text)) (length (r .text)))) i) (r .to)
 
   -- for code: a part that starts; that started with most bytes of room, after k of them; and that ends
-  pub part-start : (b : List ℕ) (most : ℕ) (c : Cursor) → after b 0 (partOf most n t g c) ≡ after b 0 (partOf (most - 0) n t g c)
-  part-start b most c = ap (λ (m : ℕ). after b 0 (partOf m n t g c)) (omega arith)
+  pub part-start : (b : List ℕ) (most : ℕ) (c : Cursor) → textOver b 0 (partOf most n t g c) ≡ textOver b 0 (partOf (most - 0) n t g c)
+  part-start b most c = ap (λ (m : ℕ). textOver b 0 (partOf m n t g c)) (omega arith)
 
-  pub step-less : (b : List ℕ) (k : ℕ) (c : Cursor) {u : List ℕ} {j : ℕ} {d : Cursor} → c .number < length t → state u j d ≡ after b k (step n t g c)
+  pub step-less : (b : List ℕ) (k : ℕ) (c : Cursor) {u : List ℕ} {j : ℕ} {d : Cursor} → c .number < length t → afterPart u j d ≡ textOver b k (step n t g c)
       → length t - d .number < length t - c .number
-  unfolding after
-  step-less b k c h e = omega (arith, step-further n t g c, ap (λ (s : State). s .to .number) e)
+  unfolding textOver
+  step-less b k c h e = omega (arith, step-further n t g c, ap (λ (s : AfterPart). s .to .number) e)
 
-  pub part-next : (b : List ℕ) (most k : ℕ) (c : Cursor) {u : List ℕ} {j : ℕ} {d : Cursor} {z : State} → c .number < length t → c .row ≤ length g → 128 ≤ most - k
-      → state u j d ≡ after b k (step n t g c) → z ≡ after b k (partOf (most - k) n t g c) → z ≡ after u j (partOf (most - j) n t g d)
-  unfolding after
+  pub part-next : (b : List ℕ) (most k : ℕ) (c : Cursor) {u : List ℕ} {j : ℕ} {d : Cursor} {z : AfterPart} → c .number < length t → c .row ≤ length g → 128 ≤ most - k
+      → afterPart u j d ≡ textOver b k (step n t g c) → z ≡ textOver b k (partOf (most - k) n t g c) → z ≡ textOver u j (partOf (most - j) n t g d)
+  unfolding textOver
   part-next b most k c {u} {j} {d} {z} h i l e f =
-      f ∙ ap (after b k) (part-step (most - k) c (more-yes t g c h i) l)
+      f ∙ ap (textOver b k) (part-step (most - k) c (more-yes t g c h i) l)
       ∙ after-joined b k (step n t g c) (partOf (most - k - length (step n t g c .text)) n t g (step n t g c .to))
-      ∙ ap (λ (m : ℕ). after (sets b k (step n t g c .text)) (k + length (step n t g c .text)) (partOf m n t g (step n t g c .to))) (omega arith)
-      ∙ ap (λ (s : State). after (s .lent) (s .used) (partOf (most - s .used) n t g (s .to))) (sym e)
+      ∙ ap (λ (m : ℕ). textOver (sets b k (step n t g c .text)) (k + length (step n t g c .text)) (partOf m n t g (step n t g c .to))) (omega arith)
+      ∙ ap (λ (s : AfterPart). textOver (s .lent) (s .used) (partOf (most - s .used) n t g (s .to))) (sym e)
 
-  pub part-end : (b : List ℕ) (room k : ℕ) (c : Cursor) {z : State} → (more t g c and leb 128 room) ≡ false → z ≡ after b k (partOf room n t g c) → state b k c ≡ z
-  unfolding after
-  part-end b room k c h f = ap (λ (m : ℕ). state b m c) (sym (add-zero k)) ∙ ap (after b k) (sym (part-none room c h)) ∙ sym f
+  pub part-end : (b : List ℕ) (room k : ℕ) (c : Cursor) {z : AfterPart} → (more t g c and leb 128 room) ≡ false → z ≡ textOver b k (partOf room n t g c) → afterPart b k c ≡ z
+  unfolding textOver
+  part-end b room k c h f = ap (λ (m : ℕ). afterPart b m c) (sym (add-zero k)) ∙ ap (textOver b k) (sym (part-none room c h)) ∙ sym f
 
   -- why a part ends: no room, no row, no number
   pub no-room : (room : ℕ) (c : Cursor) → room < 128 → (more t g c and leb 128 room) ≡ false

@@ -20,7 +20,7 @@ firstLine f = line (0x50 ∷ 0x41 ∷ 0x47 ∷ []) (map decimal (getD f 3 0 ∷ 
 
 -- ---- Then per tag depth, place, header size, body length, code, state, values.
 abbrev pub tagLine : Tag → List ℕ
-tagLine t = line (decimal (t .depth)) (map decimal (t .place ∷ t .size ∷ t .length ∷ t .code ∷ t .state ∷ t .values))
+tagLine t = line (decimal (t .depth)) (map decimal (t .place ∷ t .headerSize ∷ t .bodyLength ∷ t .code ∷ t .state ∷ t .values))
 
 abbrev pub tagLines : List Tag → List ℕ
 tagLines [] = []

@@ -99,16 +99,16 @@ abbrev pub partOf : ℕ → ℕ → List ℕ → List ℕ → Cursor → Step
 partOf room n t g c = fill (length t) room n t g c
 
 -- what a part leaves: the lent bytes, how many are used, and where the next part starts
-pub record State : Type 0 where
+pub record AfterPart : Type 0 where
   pub lent : List ℕ
   pub used : ℕ
   pub to : Cursor
 
-abbrev pub state : List ℕ → ℕ → Cursor → State
-state b k c = record { lent = b; used = k; to = c }
+abbrev pub afterPart : List ℕ → ℕ → Cursor → AfterPart
+afterPart b k c = record { lent = b; used = k; to = c }
 
-abbrev pub left : List ℕ → Part → State
-left b p = state b (p .used) (p .to)
+abbrev pub partLeaves : List ℕ → Part → AfterPart
+partLeaves b p = afterPart b (p .used) (p .to)
 
-unfoldable pub after : List ℕ → ℕ → Step → State
-after b k s = state (sets b k (s .text)) (k + length (s .text)) (s .to)
+unfoldable pub textOver : List ℕ → ℕ → Step → AfterPart
+textOver b k s = afterPart (sets b k (s .text)) (k + length (s .text)) (s .to)

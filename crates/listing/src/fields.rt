@@ -5,55 +5,55 @@ ghost use lib.ListN.{length};
 ghost use Rattle.listing.specs.Decimal.{decimal};
 ghost use Rattle.listing.specs.Steps.{laid, lays, field, tabbed};
 
-// The digits of n from index k on: those before the last, and the last. The answer is the index after them.
-fn put_decimal(out: &mut [u8], k: usize, n: u64) -> usize
-    requires { ⌜ k + length (decimal n) ≤ length (now out) ⌝ }
-    ensures { λ r. ⌜ laid (now (out .exit)) r ≡ lays (now (out .entry)) k (decimal n) ⌝ }
+// The digits of a value, from an index on: those before the last, and the last. The answer is the index after them.
+fn put_decimal(out: &mut [u8], from: usize, value: u64) -> usize
+    requires { ⌜ from + length (decimal value) ≤ length (now out) ⌝ }
+    ensures { λ r. ⌜ laid (now (out .exit)) r ≡ lays (now (out .entry)) from (decimal value) ⌝ }
 {
-    let digit = 48 + (n % 10) as u8;
-    if n < 10 {
-        out[k] = digit;
-        return k + 1;
+    let digit = 48 + (value % 10) as u8;
+    if value < 10 {
+        out[from] = digit;
+        return from + 1;
     }
-    let last = put_decimal(out, k, n / 10);
+    let last = put_decimal(out, from, value / 10);
     out[last] = digit;
     last + 1
 }
 
 // A number, and the byte that ends its field.
-pub(crate) fn put_field(out: &mut [u8], k: usize, n: u64, end: u8) -> usize
-    requires { ⌜ k + 21 ≤ length (now out) ⌝ }
-    ensures { λ r. ⌜ (laid (now (out .exit)) r ≡ lays (now (out .entry)) k (field n end)) × (r ≤ k + 21) ⌝ }
+pub(crate) fn put_field(out: &mut [u8], from: usize, value: u64, end: u8) -> usize
+    requires { ⌜ from + 21 ≤ length (now out) ⌝ }
+    ensures { λ r. ⌜ (laid (now (out .exit)) r ≡ lays (now (out .entry)) from (field value end)) × (r ≤ from + 21) ⌝ }
 {
-    let last = put_decimal(out, k, n);
+    let last = put_decimal(out, from, value);
     out[last] = end;
     last + 1
 }
 
 // Numbers, each ended by a tab.
-pub(crate) fn put_tabbed(out: &mut [u8], k: usize, ns: &[u64]) -> usize
-    requires { ⌜ k + 21 * length (now ns) ≤ length (now out) ⌝ }
-    ensures { λ r. ⌜ (laid (now (out .exit)) r ≡ lays (now (out .entry)) k (tabbed (now (ns .entry)))) × (r ≤ k + 21 * length (now (ns .entry))) ⌝ }
+pub(crate) fn put_tabbed(out: &mut [u8], from: usize, values: &[u64]) -> usize
+    requires { ⌜ from + 21 * length (now values) ≤ length (now out) ⌝ }
+    ensures { λ r. ⌜ (laid (now (out .exit)) r ≡ lays (now (out .entry)) from (tabbed (now (values .entry)))) × (r ≤ from + 21 * length (now (values .entry))) ⌝ }
 {
-    let mut j = k;
+    let mut index = from;
     let mut i = 0;
-    while i < ns.len() {
-        j = put_field(out, j, ns[i], 9);
+    while i < values.len() {
+        index = put_field(out, index, values[i], 9);
         i += 1;
     }
-    j
+    index
 }
 
 // Bytes as they are.
-pub(crate) fn put_word(out: &mut [u8], k: usize, word: &[u8]) -> usize
-    requires { ⌜ k + length (now word) ≤ length (now out) ⌝ }
-    ensures { λ r. ⌜ (laid (now (out .exit)) r ≡ lays (now (out .entry)) k (now (word .entry))) × (r ≡ k + length (now (word .entry))) ⌝ }
+pub(crate) fn put_word(out: &mut [u8], from: usize, word: &[u8]) -> usize
+    requires { ⌜ from + length (now word) ≤ length (now out) ⌝ }
+    ensures { λ r. ⌜ (laid (now (out .exit)) r ≡ lays (now (out .entry)) from (now (word .entry))) × (r ≡ from + length (now (word .entry))) ⌝ }
 {
-    let n = word.len();
+    let len = word.len();
     let mut i = 0;
-    while i < n {
-        out[k + i] = word[i];
+    while i < len {
+        out[from + i] = word[i];
         i += 1;
     }
-    k + n
+    from + len
 }

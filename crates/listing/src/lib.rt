@@ -3,7 +3,7 @@ ghost use mathlib.Core.Path.{_≡_};
 ghost use Prim.Native.Nat.{_+_, _≤_, _<_};
 ghost use lib.ListN.{length, getD};
 ghost use Rattle.listing.specs.Listing.{refusal, tooLong};
-ghost use Rattle.listing.specs.Steps.{laid, lays, ender, firstStep, headStep, step, partOf, left, after};
+ghost use Rattle.listing.specs.Steps.{laid, lays, ender, firstStep, headStep, step, partOf, partLeaves, textOver};
 use fields::put_field;
 use fields::put_tabbed;
 use fields::put_word;
@@ -24,17 +24,21 @@ pub struct Part {
 }
 
 // A number of the table, 0 past its end.
-fn number_at(t: &[u64], i: usize) -> u64
-    ensures { λ r. ⌜ r ≡ getD (now (t .entry)) i 0 ⌝ }
+fn number_at(table: &[u64], index: usize) -> u64
+    ensures { λ r. ⌜ r ≡ getD (now (table .entry)) index 0 ⌝ }
 {
-    if i < t.len() { t[i] } else { 0 }
+    if index < table.len() { table[index] } else { 0 }
 }
 
 // A number of the tag table, 0 past its end.
-fn row_at(g: &[u32], i: usize) -> u64
-    ensures { λ r. ⌜ r ≡ getD (now (g .entry)) i 0 ⌝ }
+fn row_at(rows: &[u32], index: usize) -> u64
+    ensures { λ r. ⌜ r ≡ getD (now (rows .entry)) index 0 ⌝ }
 {
-    if i < g.len() { g[i] as u64 } else { 0 }
+    if index < rows.len() {
+        rows[index] as u64
+    } else {
+        0
+    }
 }
 
 // A tab where fields follow in the record, else a newline.
@@ -44,43 +48,62 @@ fn ender_of(left: u64) -> u8
     if left == 0 { 10 } else { 9 }
 }
 
-// The first line of a file of n bytes.
-fn put_first(n: u64, t: &[u64], out: &mut [u8], k: usize) -> usize
-    requires { ⌜ k + 128 ≤ length (now out) ⌝ }
-    ensures { λ r. ⌜ (laid (now (out .exit)) r ≡ lays (now (out .entry)) k (firstStep n (now (t .entry)) .text)) × (r ≤ k + 128) ⌝ }
+// The first line of a file of `len` bytes.
+fn put_first(len: u64, table: &[u64], out: &mut [u8], from: usize) -> usize
+    requires { ⌜ from + 128 ≤ length (now out) ⌝ }
+    ensures { λ r. ⌜ (laid (now (out .exit)) r ≡ lays (now (out .entry)) from (firstStep len (now (table .entry)) .text)) × (r ≤ from + 128) ⌝ }
 {
-    let a = put_word(out, k, b"PAG\t");
-    let numbers = [1, n];
-    let b = put_tabbed(out, a, &numbers);
-    put_field(out, b, number_at(t, 0), 10)
+    let word_end = put_word(out, from, b"PAG\t");
+    let numbers = [1, len];
+    let numbers_end = put_tabbed(out, word_end, &numbers);
+    put_field(out, numbers_end, number_at(table, 0), 10)
 }
 
-// A tag's first six fields: its row stands at m, its numbers at i.
-fn put_head(t: &[u64], i: usize, g: &[u32], m: usize, out: &mut [u8], k: usize) -> usize
-    requires { ⌜ (k + 128 ≤ length (now out)) × (i < length (now t)) × (m ≤ length (now g)) ⌝ }
-    ensures { λ r. ⌜ (laid (now (out .exit)) r ≡ lays (now (out .entry)) k (headStep (now (t .entry)) (now (g .entry)) i m .text)) × (r ≤ k + 128) ⌝ }
+// A tag's first six fields: its row stands at `row` of the tag table, its numbers at `index` of the table.
+fn put_head(
+    table: &[u64],
+    index: usize,
+    rows: &[u32],
+    row: usize,
+    out: &mut [u8],
+    from: usize,
+) -> usize
+    requires { ⌜ (from + 128 ≤ length (now out)) × (index < length (now table)) × (row ≤ length (now rows)) ⌝ }
+    ensures { λ r. ⌜ (laid (now (out .exit)) r ≡ lays (now (out .entry)) from (headStep (now (table .entry)) (now (rows .entry)) index row .text)) × (r ≤ from + 128) ⌝ }
 {
     let numbers = [
-        row_at(g, m),
-        row_at(g, m + 2),
-        row_at(g, m + 3),
-        row_at(g, m + 4),
-        number_at(t, i),
+        row_at(rows, row),
+        row_at(rows, row + 2),
+        row_at(rows, row + 3),
+        row_at(rows, row + 4),
+        number_at(table, index),
     ];
-    let a = put_tabbed(out, k, &numbers);
-    put_field(out, a, number_at(t, i + 1), ender_of(number_at(t, i + 2)))
+    let numbers_end = put_tabbed(out, from, &numbers);
+    put_field(
+        out,
+        numbers_end,
+        number_at(table, index + 1),
+        ender_of(number_at(table, index + 2)),
+    )
 }
 
 // One step: the first line, a tag's first six fields, or one value. Six fields of 20 digits have 126 bytes with what ends each, so 128 are enough.
-fn put_step(n: u64, t: &[u64], g: &[u32], c: Cursor, out: &mut [u8], k: usize) -> Part
-    requires { ⌜ (k + 128 ≤ length (now out)) × (c .number < length (now t)) × (c .row ≤ length (now g)) ⌝ }
-    ensures { λ r. ⌜ (left (now (out .exit)) r ≡ after (now (out .entry)) k (step n (now (t .entry)) (now (g .entry)) c)) × (r .used ≤ k + 128) ⌝ }
+fn put_step(
+    len: u64,
+    table: &[u64],
+    rows: &[u32],
+    cursor: Cursor,
+    out: &mut [u8],
+    from: usize,
+) -> Part
+    requires { ⌜ (from + 128 ≤ length (now out)) × (cursor .number < length (now table)) × (cursor .row ≤ length (now rows)) ⌝ }
+    ensures { λ r. ⌜ (partLeaves (now (out .exit)) r ≡ textOver (now (out .entry)) from (step len (now (table .entry)) (now (rows .entry)) cursor)) × (r .used ≤ from + 128) ⌝ }
 {
-    let i = c.number;
-    let m = c.row;
-    let left = c.left;
-    if i == 0 {
-        let used = put_first(n, t, out, k);
+    let index = cursor.number;
+    let row = cursor.row;
+    let left = cursor.left;
+    if index == 0 {
+        let used = put_first(len, table, out, from);
         return Part {
             used: used,
             to: Cursor {
@@ -91,48 +114,51 @@ fn put_step(n: u64, t: &[u64], g: &[u32], c: Cursor, out: &mut [u8], k: usize) -
         };
     }
     if left == 0 {
-        let used = put_head(t, i, g, m, out, k);
+        let used = put_head(table, index, rows, row, out, from);
         return Part {
             used: used,
             to: Cursor {
-                number: i + 3,
-                row: m + 5,
-                left: number_at(t, i + 2),
+                number: index + 3,
+                row: row + 5,
+                left: number_at(table, index + 2),
             },
         };
     }
-    let used = put_field(out, k, number_at(t, i), ender_of(left - 1));
+    let used = put_field(out, from, number_at(table, index), ender_of(left - 1));
     Part {
         used: used,
         to: Cursor {
-            number: i + 1,
-            row: m,
+            number: index + 1,
+            row: row,
             left: left - 1,
         },
     }
 }
 
-// The part of the listing that starts at a cursor, of a file of n bytes: as many steps as the lent bytes have room for.
-pub fn put_part(n: u64, t: &[u64], g: &[u32], from: Cursor, out: &mut [u8]) -> Part
-    ensures { λ r. ⌜ (left (now (out .exit)) r ≡ after (now (out .entry)) 0 (partOf (length (now (out .entry))) n (now (t .entry)) (now (g .entry)) from)) × (r .used ≤ length (now (out .entry))) ⌝ }
+// The part of the listing that starts at a cursor, of a file of `len` bytes: as many steps as the lent bytes have room for.
+pub fn put_part(len: u64, table: &[u64], rows: &[u32], start: Cursor, out: &mut [u8]) -> Part
+    ensures { λ r. ⌜ (partLeaves (now (out .exit)) r ≡ textOver (now (out .entry)) 0 (partOf (length (now (out .entry))) len (now (table .entry)) (now (rows .entry)) start)) × (r .used ≤ length (now (out .entry))) ⌝ }
 {
-    let mut c = from;
+    let mut cursor = start;
     let mut used = 0;
-    while c.number < t.len() && c.row <= g.len() && 128 <= out.len() - used {
-        let p = put_step(n, t, g, c, out, used);
-        c = p.to;
-        used = p.used;
+    while cursor.number < table.len() && cursor.row <= rows.len() && 128 <= out.len() - used {
+        let part = put_step(len, table, rows, cursor, out, used);
+        cursor = part.to;
+        used = part.used;
     }
-    Part { used: used, to: c }
+    Part {
+        used: used,
+        to: cursor,
+    }
 }
 
 // The line of a refusal.
 pub fn put_refusal(reason: u32, number: u64, out: &mut [u8; 64]) -> usize
     ensures { λ r. ⌜ (laid (now (out .exit)) r ≡ lays (now (out .entry)) 0 (refusal reason number)) × (r ≤ 64) ⌝ }
 {
-    let a = put_word(out, 0, b"refused\t");
-    let b = put_field(out, a, reason as u64, 9);
-    put_field(out, b, number, 10)
+    let word_end = put_word(out, 0, b"refused\t");
+    let reason_end = put_field(out, word_end, reason as u64, 9);
+    put_field(out, reason_end, number, 10)
 }
 
 // The line for input that is too long.

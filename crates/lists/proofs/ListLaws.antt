@@ -1,4 +1,4 @@
--- A list, read tag by tag: the tags that have been seen, laid over the two tables, and the walk of what is left.
+-- A list, read tag by tag: the tags that were passed, laid over the two tables, and the walk of what is left.
 use Prim.Native.Nat.{ℕ, zero, suc, pred, _+_, _-_, _*_, _/_, _≤_, _<_}
 use mathlib.Core.List.{List, [], _∷_, _++_, append-nil}
 use mathlib.Core.Path.{_≡_, refl, ap, sym, subst, _∙_}
@@ -12,15 +12,16 @@ use borrow.Author.Tests.{eqb-true, eqb-false}
 use Rattle.format.specs.Tests.{pick}
 use Rattle.format.specs.Bits.{high}
 use Rattle.format.specs.Reading.{Ending, At, Fault}
-use Rattle.format.specs.Items.{run}
+use Rattle.format.specs.Items.{run, toByte}
 use Rattle.format.specs.Bodies.{readBody}
 use Rattle.format.specs.FileAndTags as paper
-use Rattle.format.specs.FileAndTags.{le16, container, Tag, Outcome, whole, fault, Walk, noTags, broken, chain, head, noHead, readHead, blame, atEnd, afterTag, Inside, endAt, front, opened, within, tagThen, walkList}
+use Rattle.format.specs.FileAndTags.{le16, container, Tag, Outcome, whole, fault, Walk, noTags, broken, chain, head, noHead, readHead, blame, atEnd, afterTag, TagInside, endAt, front, opened, within, tagThen, walkList}
 use Rattle.format.specs.TableOfNumbers.{numbers, tagTable}
 use Rattle.format.proofs.EngineLaws.{chain-chain, numbers-append, tagTable-append}
 use Rattle.format.proofs.ListLaws.{list-nil, list-fault, list-tag}
 use Rattle.format.proofs.RoomLaws.{Room, walk-room, tag-table-length}
 use Rattle.format.proofs.WalkLaws.{run-le, Fits, head-fits}
+use Rattle.format.proofs.Absurd.{clash}
 use Rattle.table.proofs.EngineLaws.{sets-append}
 use Rattle.attributes.specs.Rows.{attributesOf}
 use Rattle.fixed.specs.Fixed.{fixedOf}
@@ -28,13 +29,15 @@ use Rattle.bodies.specs.Leaf.{leafBody}
 use Rattle.classes.specs.Classes.{named, ends, contains, classBy}
 use Rattle.classes.specs.declared.Class.{Class}
 use Rattle.classes.specs.declared.Class.the-variants.{Opaque, End, Container, Fixed, Attributes}
-use Rattle.classes.specs.declared.Reads.{Reads}
+use Rattle.classes.specs.declared.Scope.{Scope}
 use Rattle.classes.proofs.ClassLaws.{Right, spelt, ends-named, contains-named, fair-by, taken-by}
 use Rattle.headers.specs.Heads.{headBy}
-use Rattle.headers.proofs.HeadLaws.{head-by, FitsBy, fits-by}
+use Rattle.headers.proofs.HeadLaws.{head-by}
 use Rattle.tags.specs.Shown.{stateOf, valuesOf}
-use Rattle.lists.specs.Lists.{ownerOf, tagShown, stepOf, Stepped, stepped, tagAt, lastOf, Listed, listed, walkedOf, laid, Bounds}
+use Rattle.bits.specs.declared.BytePlace.{BytePlace}
+use Rattle.lists.specs.Lists.{ownerOf, byteAt, tagShown, stepOf, Stepped, stepped, tagAt, lastOf, Listed, listed, walkedOf, walkOver, Bounds}
 use Rattle.lists.specs.declared.Owner.{Owner}
+use Rattle.lists.specs.declared.Opened.{Opened}
 use Rattle.lists.specs.declared.Step.{Step}
 use Rattle.lists.specs.declared.Step.the-variants as step
 use Rattle.lists.specs.declared.Walked.{Walked}
@@ -72,11 +75,11 @@ abbrev walkOf : (paper.Owner → ℕ → List ℕ → Walk) → Class → ℕ �
 walkOf R c a s body (Fault e) = broken e a
 walkOf R Opaque a s body (At p) = noTags whole
 walkOf R End a s body (At p) = noTags whole
-walkOf R Container a s body (At p) = R (paper.inside a) (s + p / 8) (drop (p / 8) body)
+walkOf R Container a s body (At p) = R (paper.inside a) (s + toByte p) (drop (toByte p) body)
 walkOf R Fixed a s body (At p) = noTags whole
 walkOf R Attributes a s body (At p) = noTags whole
 
-abbrev insideOf : (paper.Owner → ℕ → List ℕ → Walk) → Class → ℕ → ℕ → ℕ → List ℕ → Inside
+abbrev insideOf : (paper.Owner → ℕ → List ℕ → Walk) → Class → ℕ → ℕ → ℕ → List ℕ → TagInside
 insideOf R c code a s body =
     record { state = stateOf c; values = valuesOf c code body .shown; walk = walkOf R c a s body (valuesOf c code body .ended) }
 
@@ -85,12 +88,12 @@ right : Right leafBody (λ code. container (fixedOf code))
 unfolding leafBody fixedOf attributesOf
 right = refl
 
-within-is : (R : paper.Owner → ℕ → List ℕ → Walk) (reads : Reads) (level code a s : ℕ) (body : List ℕ)
-    → within high R (classBy reads level code) a s body ≡ insideOf R (named (classBy reads level code)) code a s body
-within-is R reads level code a s body =
-    ap (λ (c : paper.Class). within high R c a s body) (taken-by leafBody fixedOf right reads level code) ∙ go (named (classBy reads level code))
+within-is : (R : paper.Owner → ℕ → List ℕ → Walk) (scope : Scope) (level code a s : ℕ) (body : List ℕ)
+    → within high R (classBy scope level code) a s body ≡ insideOf R (named (classBy scope level code)) code a s body
+within-is R scope level code a s body =
+    ap (λ (c : paper.Class). within high R c a s body) (taken-by leafBody fixedOf right scope level code) ∙ go (named (classBy scope level code))
   where
-    leaf : (xs : List ℕ) (z : Ending) → _≡_ {A = Inside} (record { state = 1; values = xs; walk = noTags (endAt a z) }) (record { state = 1; values = xs; walk = walkOf R Fixed a s body z })
+    leaf : (xs : List ℕ) (z : Ending) → _≡_ {A = TagInside} (record { state = 1; values = xs; walk = noTags (endAt a z) }) (record { state = 1; values = xs; walk = walkOf R Fixed a s body z })
     leaf xs (At p) = refl
     leaf xs (Fault e) = refl
 
@@ -98,7 +101,7 @@ within-is R reads level code a s body =
     fronted xs (At p) = refl
     fronted xs (Fault e) = refl
 
-    leaf-too : (xs : List ℕ) (z : Ending) → _≡_ {A = Inside} (record { state = 1; values = xs; walk = noTags (endAt a z) }) (record { state = 1; values = xs; walk = walkOf R Attributes a s body z })
+    leaf-too : (xs : List ℕ) (z : Ending) → _≡_ {A = TagInside} (record { state = 1; values = xs; walk = noTags (endAt a z) }) (record { state = 1; values = xs; walk = walkOf R Attributes a s body z })
     leaf-too xs (At p) = refl
     leaf-too xs (Fault e) = refl
 
@@ -112,10 +115,11 @@ within-is R reads level code a s body =
 -- what a step says of the class c and of the walk w inside the tag, whose body stands from `start` up to `stop` of the list at place a
 abbrev Follows : (paper.Owner → ℕ → List ℕ → Walk) → ℕ → ℕ → ℕ → ℕ → List ℕ → Class → Walk → ℕ → Step → Type 0
 Follows R a place start stop body c w j (step.Fault e) = w ≡ broken e place
-Follows R a place start stop body c w j (step.Next p n) = (p ≡ stop) × (n ≡ j) × (ends c ≡ false) × (w ≡ noTags whole)
-Follows R a place start stop body c w j (step.Last p n) = (p ≡ stop) × (n ≡ j) × (ends c ≡ true) × (w ≡ noTags whole)
-Follows R a place start stop body c w j (step.Open l p n) =
-    (p ≡ stop) × (n ≡ j) × (ends c ≡ false) × (contains c ≡ true) × (start ≤ l) × (l ≤ start + length body) × (w ≡ R (paper.inside place) (a + l) (drop (l - start) body))
+Follows R a place start stop body c w j (step.Next p n) = (p .0 ≡ stop) × (n ≡ j) × (ends c ≡ false) × (w ≡ noTags whole)
+Follows R a place start stop body c w j (step.Last p n) = (p .0 ≡ stop) × (n ≡ j) × (ends c ≡ true) × (w ≡ noTags whole)
+Follows R a place start stop body c w j (step.Open o) =
+    (o .stop .0 ≡ stop) × (o .behind ≡ j) × (ends c ≡ false) × (contains c ≡ true) × (start ≤ o .list .0) × (o .list .0 ≤ start + length body)
+    × (w ≡ R (paper.inside place) (a + o .list .0) (drop (o .list .0 - start) body))
 
 follows : (R : paper.Owner → ℕ → List ℕ → Walk) (a place start stop code j : ℕ) (body : List ℕ) (c : Class)
     → Follows R a place start stop body c (walkOf R c place (a + start) body (valuesOf c code body .ended)) j (stepOf c start stop j (valuesOf c code body .ended))
@@ -144,15 +148,15 @@ listed-eq : {t t′ g g′ : List ℕ} {x x′ : Walked} → t ≡ t′ → g �
 listed-eq p q r = λ i. record { table = p i; rows = q i; answer = r i }
 
 -- the list of the owner at place a, whose room is r, over the tables t₀ from k on and g₀ from m on
-module _ (reads : Reads) (level left : ℕ) (own : paper.Owner) (a : ℕ) (r t₀ : List ℕ) (k : ℕ) (g₀ : List ℕ) (m : ℕ) where
+module _ (scope : Scope) (level depths : ℕ) (own : paper.Owner) (a : ℕ) (r t₀ : List ℕ) (k : ℕ) (g₀ : List ℕ) (m : ℕ) where
   abbrev from : ℕ → Walk
-  from i = walkList high (classBy reads level) left own (a + i) (drop i r)
+  from i = walkList high (classBy scope level) depths own (a + i) (drop i r)
 
   abbrev all : Walk
-  all = walkList high (classBy reads level) left own a r
+  all = walkList high (classBy scope level) depths own a r
 
-  -- some tags have been seen, and `rest` is the walk of what is left
-  pub record Seen (t g : List ℕ) (j w : ℕ) (rest : Walk) : Type 0 where
+  -- some tags were passed, and `rest` is the walk of what is left
+  pub record Passed (t g : List ℕ) (j w : ℕ) (rest : Walk) : Type 0 where
     pub tags : List Tag
     pub split : all ≡ chain tags whole rest
     pub table : t ≡ sets t₀ k (numbers tags)
@@ -162,47 +166,47 @@ module _ (reads : Reads) (level left : ℕ) (own : paper.Owner) (a : ℕ) (r t�
 
   pub record Going (t g : List ℕ) (i j w : ℕ) : Type 0 where
     pub inside : i ≤ length r
-    pub seen : Seen t g j w (from i)
+    pub passed : Passed t g j w (from i)
 
   pub going-start : Going t₀ g₀ 0 k m
   going-start = record {
     inside = omega arith;
-    seen = record { tags = []; split = rw (add-zero a); table = refl; rows = refl; index = sym (add-zero k); row = sym (add-zero m) };
+    passed = record { tags = []; split = rw (add-zero a); table = refl; rows = refl; index = sym (add-zero k); row = sym (add-zero m) };
   }
 
-  pub seen-table : {t g : List ℕ} {j w : ℕ} (rest : Walk) → Seen t g j w rest → length t ≡ length t₀
-  seen-table rest s = ap length (s .table) ∙ length-sets t₀ k (numbers (s .tags))
+  pub passed-table : {t g : List ℕ} {j w : ℕ} (rest : Walk) → Passed t g j w rest → length t ≡ length t₀
+  passed-table rest s = ap length (s .table) ∙ length-sets t₀ k (numbers (s .tags))
 
-  pub seen-rows : {t g : List ℕ} {j w : ℕ} (rest : Walk) → Seen t g j w rest → length g ≡ length g₀
-  seen-rows rest s = ap length (s .rows) ∙ length-sets g₀ m (tagTable (s .tags))
+  pub passed-rows : {t g : List ℕ} {j w : ℕ} (rest : Walk) → Passed t g j w rest → length g ≡ length g₀
+  passed-rows rest s = ap length (s .rows) ∙ length-sets g₀ m (tagTable (s .tags))
 
   -- the indexes stay in the list's room
-  pub seen-room : {t g : List ℕ} {j w : ℕ} (rest : Walk) → Seen t g j w rest → (j ≤ k + 8 * length r) × (w ≤ m + 5 * length r)
-  seen-room rest s =
-      let u : Room high (length r) all = walk-room high (classBy reads level) (fair-by high reads level) (length r) left own a r in
+  pub passed-room : {t g : List ℕ} {j w : ℕ} (rest : Walk) → Passed t g j w rest → (j ≤ k + 8 * length r) × (w ≤ m + 5 * length r)
+  passed-room rest s =
+      let u : Room high (length r) all = walk-room high (classBy scope level) (fair-by high scope level) (length r) depths own a r in
       let ns : length (numbers (all .tags)) ≡ length (numbers (s .tags)) + length (numbers (rest .tags)) =
       ap (λ (w : Walk). length (numbers (w .tags))) (s .split) ∙ ap length (numbers-append (s .tags) (rest .tags)) ∙ length-append (numbers (s .tags)) (numbers (rest .tags)) in
       let ts : length (all .tags) ≡ length (s .tags) + length (rest .tags) = ap (λ (w : Walk). length (w .tags)) (s .split) ∙ length-append (s .tags) (rest .tags) in
       (omega (arith, s .index, u .count, ns), omega (arith, s .row, u .tags, ts, tag-table-length high (s .tags)))
 
   -- ---- the end
-  pub seen-fault : {t g : List ℕ} {j w : ℕ} (rest : Walk) {e n : ℕ} → Seen t g j w rest → rest ≡ broken e n → listed t g (walked.Fault e n) ≡ laid t₀ k g₀ m all
-  seen-fault rest s z =
+  pub passed-fault : {t g : List ℕ} {j w : ℕ} (rest : Walk) {e n : ℕ} → Passed t g j w rest → rest ≡ broken e n → listed t g (walked.Fault e (byteAt n)) ≡ walkOver t₀ k g₀ m all
+  passed-fault rest s z =
       let e : all ≡ chain (s .tags) whole (broken _ _) = s .split ∙ ap (chain (s .tags) whole) z in
       let ts : s .tags ++ [] ≡ s .tags = append-nil (s .tags) in
-      listed-eq (s .table) (s .rows) refl ∙ sym (ap (laid t₀ k g₀ m) e ∙ rw ts)
+      listed-eq (s .table) (s .rows) refl ∙ sym (ap (walkOver t₀ k g₀ m) e ∙ rw ts)
 
-  pub seen-whole : {t g : List ℕ} {j w : ℕ} (rest : Walk) → Seen t g j w rest → rest ≡ noTags whole → listed t g (walked.Next j w) ≡ laid t₀ k g₀ m all
-  seen-whole rest s z =
+  pub passed-whole : {t g : List ℕ} {j w : ℕ} (rest : Walk) → Passed t g j w rest → rest ≡ noTags whole → listed t g (walked.Next j w) ≡ walkOver t₀ k g₀ m all
+  passed-whole rest s z =
       let e : all ≡ chain (s .tags) whole (noTags whole) = s .split ∙ ap (chain (s .tags) whole) z in
       let ts : s .tags ++ [] ≡ s .tags = append-nil (s .tags) in
       let x : walked.Next _ _ ≡ walked.Next (k + length (numbers (s .tags))) (m + length (tagTable (s .tags))) = λ i. walked.Next (s .index i) (s .row i) in
-      listed-eq (s .table) (s .rows) x ∙ sym (ap (laid t₀ k g₀ m) e ∙ rw ts)
+      listed-eq (s .table) (s .rows) x ∙ sym (ap (walkOver t₀ k g₀ m) e ∙ rw ts)
 
   -- ---- more tags
-  pub seen-more : {t g t′ g′ : List ℕ} {j w j′ w′ : ℕ} (ts : List Tag) (rest : Walk) → Seen t g j w (chain ts whole rest)
-      → t′ ≡ sets t j (numbers ts) → g′ ≡ sets g w (tagTable ts) → j′ ≡ j + length (numbers ts) → w′ ≡ w + length (tagTable ts) → Seen t′ g′ j′ w′ rest
-  seen-more ts rest s p q x y = record {
+  pub passed-more : {t g t′ g′ : List ℕ} {j w j′ w′ : ℕ} (ts : List Tag) (rest : Walk) → Passed t g j w (chain ts whole rest)
+      → t′ ≡ sets t j (numbers ts) → g′ ≡ sets g w (tagTable ts) → j′ ≡ j + length (numbers ts) → w′ ≡ w + length (tagTable ts) → Passed t′ g′ j′ w′ rest
+  passed-more ts rest s p q x y = record {
     tags = s .tags ++ ts;
     split = s .split ∙ chain-chain (s .tags) ts whole rest;
     table = p ∙ rw (s .table, s .index, numbers-append (s .tags) ts, sets-append t₀ k (numbers (s .tags)) (numbers ts));
@@ -212,86 +216,86 @@ module _ (reads : Reads) (level left : ℕ) (own : paper.Owner) (a : ℕ) (r t�
   }
 
   -- tags whose list ended by a fault
-  seen-cut : {t g t′ g′ : List ℕ} {j w : ℕ} (ts : List Tag) (rest : Walk) {e n : ℕ} → Seen t g j w (chain ts (fault e n) rest)
-      → t′ ≡ sets t j (numbers ts) → g′ ≡ sets g w (tagTable ts) → listed t′ g′ (walked.Fault e n) ≡ laid t₀ k g₀ m all
-  seen-cut ts rest {e} {n} s p q =
+  passed-cut : {t g t′ g′ : List ℕ} {j w : ℕ} (ts : List Tag) (rest : Walk) {e n : ℕ} → Passed t g j w (chain ts (fault e n) rest)
+      → t′ ≡ sets t j (numbers ts) → g′ ≡ sets g w (tagTable ts) → listed t′ g′ (walked.Fault e (byteAt n)) ≡ walkOver t₀ k g₀ m all
+  passed-cut ts rest {e} {n} s p q =
       let f : all ≡ record { tags = s .tags ++ ts; ended = fault e n } = s .split ∙ chain-chain (s .tags) ts (fault e n) rest in
       listed-eq (p ∙ rw (s .table, s .index, numbers-append (s .tags) ts, sets-append t₀ k (numbers (s .tags)) (numbers ts)))
       (q ∙ rw (s .rows, s .row, tagTable-append (s .tags) ts, sets-append g₀ m (tagTable (s .tags)) (tagTable ts))) refl
-      ∙ sym (ap (laid t₀ k g₀ m) f)
+      ∙ sym (ap (walkOver t₀ k g₀ m) f)
 
   -- the list of a container, read from here on
-  pub inner-next : {t g t′ g′ : List ℕ} {j w j′ w′ : ℕ} (inner rest : Walk) → Seen t g j w (chain (inner .tags) (inner .ended) rest)
-      → listed t′ g′ (walked.Next j′ w′) ≡ laid t j g w inner → Seen t′ g′ j′ w′ rest
+  pub inner-next : {t g t′ g′ : List ℕ} {j w j′ w′ : ℕ} (inner rest : Walk) → Passed t g j w (chain (inner .tags) (inner .ended) rest)
+      → listed t′ g′ (walked.Next j′ w′) ≡ walkOver t j g w inner → Passed t′ g′ j′ w′ rest
   inner-next {t} {g} {t′} {g′} {j} {w} {j′} {w′} inner rest s e = go (inner .ended) s (ap (λ (l : Listed). l .answer) e)
     where
-      go : (z : Outcome) → Seen t g j w (chain (inner .tags) z rest) → walked.Next j′ w′ ≡ walkedOf (j + length (numbers (inner .tags))) (w + length (tagTable (inner .tags))) z → Seen t′ g′ j′ w′ rest
+      go : (z : Outcome) → Passed t g j w (chain (inner .tags) z rest) → walked.Next j′ w′ ≡ walkedOf (j + length (numbers (inner .tags))) (w + length (tagTable (inner .tags))) z → Passed t′ g′ j′ w′ rest
       go whole s f =
           let x : j′ ≡ j + length (numbers (inner .tags)) = cc in
           let y : w′ ≡ w + length (tagTable (inner .tags)) = cc in
-          seen-more (inner .tags) rest s (ap (λ (l : Listed). l .table) e) (ap (λ (l : Listed). l .rows) e) x y
-      go (fault x n) s f = absurd (let z : _≡_ {A = ℕ} 0 1 = cc in omega arith)
+          passed-more (inner .tags) rest s (ap (λ (l : Listed). l .table) e) (ap (λ (l : Listed). l .rows) e) x y
+      go (fault x n) s f = clash cc
 
-  pub inner-fault : {t g t′ g′ : List ℕ} {j w x n : ℕ} (inner rest : Walk) → Seen t g j w (chain (inner .tags) (inner .ended) rest)
-      → listed t′ g′ (walked.Fault x n) ≡ laid t j g w inner → listed t′ g′ (walked.Fault x n) ≡ laid t₀ k g₀ m all
+  pub inner-fault : {t g t′ g′ : List ℕ} {j w x : ℕ} {n : BytePlace} (inner rest : Walk) → Passed t g j w (chain (inner .tags) (inner .ended) rest)
+      → listed t′ g′ (walked.Fault x n) ≡ walkOver t j g w inner → listed t′ g′ (walked.Fault x n) ≡ walkOver t₀ k g₀ m all
   inner-fault {t} {g} {t′} {g′} {j} {w} {x} {n} inner rest s e = go (inner .ended) s (ap (λ (l : Listed). l .answer) e)
     where
-      go : (z : Outcome) → Seen t g j w (chain (inner .tags) z rest) → walked.Fault x n ≡ walkedOf (j + length (numbers (inner .tags))) (w + length (tagTable (inner .tags))) z
-          → listed t′ g′ (walked.Fault x n) ≡ laid t₀ k g₀ m all
+      go : (z : Outcome) → Passed t g j w (chain (inner .tags) z rest) → walked.Fault x n ≡ walkedOf (j + length (numbers (inner .tags))) (w + length (tagTable (inner .tags))) z
+          → listed t′ g′ (walked.Fault x n) ≡ walkOver t₀ k g₀ m all
       go whole s f = cc
       go (fault y o) s f =
-          ap (λ (v : Walked). listed t′ g′ v) f ∙ seen-cut (inner .tags) rest s (ap (λ (l : Listed). l .table) e) (ap (λ (l : Listed). l .rows) e)
+          ap (λ (v : Walked). listed t′ g′ v) f ∙ passed-cut (inner .tags) rest s (ap (λ (l : Listed). l .table) e) (ap (λ (l : Listed). l .rows) e)
 
   -- the walk of what is left, put otherwise
-  seen-as : {t g : List ℕ} {j w : ℕ} (rest rest′ : Walk) → rest ≡ rest′ → Seen t g j w rest → Seen t g j w rest′
-  seen-as {t} {g} {j} {w} rest rest′ e s = subst (λ (z : Walk). Seen t g j w z) e s
+  passed-as : {t g : List ℕ} {j w : ℕ} (rest rest′ : Walk) → rest ≡ rest′ → Passed t g j w rest → Passed t g j w rest′
+  passed-as {t} {g} {j} {w} rest rest′ e s = subst (λ (z : Walk). Passed t g j w z) e s
 
   -- a tag's own numbers, and its row
-  seen-tag : {t g t′ g′ : List ℕ} {j w j′ w′ : ℕ} (d code p size len : ℕ) (i : Inside) (rest : Walk) → Seen t g j w (tagThen d code p size len i rest)
+  passed-tag : {t g t′ g′ : List ℕ} {j w j′ w′ : ℕ} (d code p size len : ℕ) (i : TagInside) (rest : Walk) → Passed t g j w (tagThen d code p size len i rest)
       → t′ ≡ sets t j (code ∷ i .state ∷ length (i .values) ∷ i .values) → g′ ≡ sets g w (d ∷ code ∷ p ∷ size ∷ len ∷ [])
-      → j′ ≡ j + (3 + length (i .values)) → w′ ≡ w + 5 → Seen t′ g′ j′ w′ (chain (i .walk .tags) (i .walk .ended) rest)
-  seen-tag {t} {g} {t′} {g′} {j} {w} {j′} {w′} d code p size len i rest s x y q z =
-      let tag : Tag = record { depth = d; code = code; place = p; size = size; length = len; state = i .state; values = i .values } in
+      → j′ ≡ j + (3 + length (i .values)) → w′ ≡ w + 5 → Passed t′ g′ j′ w′ (chain (i .walk .tags) (i .walk .ended) rest)
+  passed-tag {t} {g} {t′} {g′} {j} {w} {j′} {w′} d code p size len i rest s x y q z =
+      let tag : Tag = record { depth = d; code = code; place = p; headerSize = size; bodyLength = len; state = i .state; values = i .values } in
       let n : i .values ++ [] ≡ i .values = append-nil (i .values) in
       let x′ : t′ ≡ sets t j (numbers (tag ∷ [])) = rw n x in
       let q′ : j′ ≡ j + length (numbers (tag ∷ [])) = q ∙ rw n (omega arith) in
-      seen-more (tag ∷ []) (chain (i .walk .tags) (i .walk .ended) rest)
-      (seen-as (tagThen d code p size len i rest) (chain (tag ∷ []) whole (chain (i .walk .tags) (i .walk .ended) rest)) (sym (chain-chain (tag ∷ []) (i .walk .tags) (i .walk .ended) rest)) s)
+      passed-more (tag ∷ []) (chain (i .walk .tags) (i .walk .ended) rest)
+      (passed-as (tagThen d code p size len i rest) (chain (tag ∷ []) whole (chain (i .walk .tags) (i .walk .ended) rest)) (sym (chain-chain (tag ∷ []) (i .walk .tags) (i .walk .ended) rest)) s)
       x′ y q′ z
 
   -- ---- the room is used up
-  pub used-up : {t g : List ℕ} {i j w : ℕ} → Going t g i j w → length r ≤ i → {n : ℕ} → n ≡ blame own (a + length r) → listed t g (walked.Fault 7 n) ≡ laid t₀ k g₀ m all
+  pub used-up : {t g : List ℕ} {i j w : ℕ} → Going t g i j w → length r ≤ i → {n : BytePlace} → n .0 ≡ blame own (a + length r) → listed t g (walked.Fault 7 n) ≡ walkOver t₀ k g₀ m all
   used-up {t} {g} {i} {j} {w} go l {n} e =
       let z : i ≡ length r = omega (arith, go .inside) in
       let d : drop i r ≡ [] = rw z (drop-length r) in
-      let f : from i ≡ broken 7 (blame own (a + i)) = rw d (list-nil high (classBy reads level) left own (a + i)) in
-      seen-fault (from i) (go .seen) (f ∙ ap (λ (x : ℕ). broken 7 (blame own (a + x))) z ∙ ap (broken 7) (sym e))
+      let f : from i ≡ broken 7 (blame own (a + i)) = rw d (list-nil high (classBy scope level) depths own (a + i)) in
+      passed-fault (from i) (go .passed) (f ∙ ap (λ (x : ℕ). broken 7 (blame own (a + x))) z ∙ ap (broken 7) (sym e))
 
   -- the tag at i is a container, whose list has the room from l up to p; n and m′ are the next indexes
   pub record Opens (t g : List ℕ) (i l p n m′ : ℕ) : Type 0 where
-    pub deep : 1 ≤ left
+    pub deep : 1 ≤ depths
     pub ahead : i < p
     pub order : l ≤ p
     pub inside : p ≤ length r
-    pub seen : Seen t g n m′
-        (chain (walkList high (classBy reads level) (pred left) (paper.inside (a + i)) (a + l) (piece l p r) .tags)
-        (walkList high (classBy reads level) (pred left) (paper.inside (a + i)) (a + l) (piece l p r) .ended) (from p))
+    pub passed : Passed t g n m′
+        (chain (walkList high (classBy scope level) (pred depths) (paper.inside (a + i)) (a + l) (piece l p r) .tags)
+        (walkList high (classBy scope level) (pred depths) (paper.inside (a + i)) (a + l) (piece l p r) .ended) (from p))
 
   -- ---- the tag at i
   module _ {t g : List ℕ} {i j w : ℕ} (going : Going t g i j w) (some : i < length r) where
     left-over : 0 < length (drop i r)
     left-over = rw length-drop (omega arith)
 
-    head-fault : {e : ℕ} → readHead (classBy reads level) left (drop i r) ≡ noHead e → listed t g (walked.Fault e (a + i)) ≡ laid t₀ k g₀ m all
-    head-fault {e} is = seen-fault (from i) (going .seen) (list-fault high (classBy reads level) left own (a + i) (drop i r) e left-over is)
+    head-fault : {e : ℕ} → readHead (classBy scope level) depths (drop i r) ≡ noHead e → listed t g (walked.Fault e (byteAt (a + i))) ≡ walkOver t₀ k g₀ m all
+    head-fault {e} is = passed-fault (from i) (going .passed) (list-fault high (classBy scope level) depths own (a + i) (drop i r) e left-over is)
 
     -- its header passes
-    module _ {code len size : ℕ} (stands : readHead (classBy reads level) left (drop i r) ≡ head code len size) where
-      fits : Fits (classBy reads level) left (drop i r) (head code len size)
-      fits = subst (Fits (classBy reads level) left (drop i r)) stands (head-fits (classBy reads level) left (drop i r))
+    module _ {code len size : ℕ} (stands : readHead (classBy scope level) depths (drop i r) ≡ head code len size) where
+      fits : Fits (classBy scope level) depths (drop i r) (head code len size)
+      fits = subst (Fits (classBy scope level) depths (drop i r)) stands (head-fits (classBy scope level) depths (drop i r))
 
       abbrev R : paper.Owner → ℕ → List ℕ → Walk
-      R = walkList high (classBy reads level) (pred left)
+      R = walkList high (classBy scope level) (pred depths)
 
       abbrev start : ℕ
       start = i + size
@@ -303,19 +307,19 @@ module _ (reads : Reads) (level left : ℕ) (own : paper.Owner) (a : ℕ) (r t�
       body = take len (drop size (drop i r))
 
       abbrev c : Class
-      c = named (classBy reads level code)
+      c = named (classBy scope level code)
 
       abbrev inner : Walk
       inner = walkOf R c (a + i) (a + start) body (valuesOf c code body .ended)
 
       abbrev later : Bool → Walk
-      later b = afterTag b own (a + stop) (drop stop r) (walkList high (classBy reads level) left own)
+      later b = afterTag b own (a + stop) (drop stop r) (walkList high (classBy scope level) depths own)
 
       abbrev t′ : List ℕ
       t′ = sets t j (tagShown c code body .shown)
 
       abbrev g′ : List ℕ
-      g′ = sets g w ((8 - left) ∷ code ∷ (a + i) ∷ size ∷ len ∷ [])
+      g′ = sets g w ((8 - depths) ∷ code ∷ (a + i) ∷ size ∷ len ∷ [])
 
       abbrev j′ : ℕ
       j′ = j + length (tagShown c code body .shown)
@@ -326,18 +330,18 @@ module _ (reads : Reads) (level left : ℕ) (own : paper.Owner) (a : ℕ) (r t�
       body-length : length body ≡ len
       body-length = length-take-le len (drop size (drop i r)) (rw (length-drop, length-drop) (omega (arith, stop-fits .1)))
 
-      tag-is : from i ≡ tagThen (8 - left) code (a + i) size len (insideOf R c code (a + i) (a + start) body) (later (ends c))
+      tag-is : from i ≡ tagThen (8 - depths) code (a + i) size len (insideOf R c code (a + i) (a + start) body) (later (ends c))
       tag-is =
           let p : a + i + size ≡ a + start = omega arith in
           let q : a + i + size + len ≡ a + stop = omega arith in
           let n : i + (size + len) ≡ stop = omega arith in
           let d : drop (size + len) (drop i r) ≡ drop stop r = drop-drop (size + len) i r ∙ ap (λ (n : ℕ). drop n r) n in
-          list-tag high (classBy reads level) left own (a + i) (drop i r) code len size left-over stands
-          ∙ rw (q, p, d, ends-named (classBy reads level code), within-is R reads level code (a + i) (a + start) body)
+          list-tag high (classBy scope level) depths own (a + i) (drop i r) code len size left-over stands
+          ∙ rw (q, p, d, ends-named (classBy scope level code), within-is R scope level code (a + i) (a + start) body)
 
-      tag-seen : Seen t′ g′ j′ (w + 5) (chain (inner .tags) (inner .ended) (later (ends c)))
-      tag-seen = seen-tag (8 - left) code (a + i) size len (insideOf R c code (a + i) (a + start) body) (later (ends c))
-          (seen-as (from i) (tagThen (8 - left) code (a + i) size len (insideOf R c code (a + i) (a + start) body) (later (ends c))) tag-is (going .seen)) refl refl (omega arith) refl
+      tag-passed : Passed t′ g′ j′ (w + 5) (chain (inner .tags) (inner .ended) (later (ends c)))
+      tag-passed = passed-tag (8 - depths) code (a + i) size len (insideOf R c code (a + i) (a + start) body) (later (ends c))
+          (passed-as (from i) (tagThen (8 - depths) code (a + i) size len (insideOf R c code (a + i) (a + start) body) (later (ends c))) tag-is (going .passed)) refl refl (omega arith) refl
 
       -- the step after it
       module _ (S : Step) (next : S ≡ stepOf c start stop j′ (valuesOf c code body .ended)) where
@@ -345,46 +349,47 @@ module _ (reads : Reads) (level left : ℕ) (own : paper.Owner) (a : ℕ) (r t�
         tag-follows = subst (Follows R a (a + i) start stop body c inner j′) (sym next) (follows R a (a + i) start stop code j′ body c)
 
         -- a reason
-        stood-fault : {e : ℕ} → S ≡ step.Fault e → listed t′ g′ (walked.Fault e (a + i)) ≡ laid t₀ k g₀ m all
+        stood-fault : {e : ℕ} → S ≡ step.Fault e → listed t′ g′ (walked.Fault e (byteAt (a + i))) ≡ walkOver t₀ k g₀ m all
         stood-fault {e} z =
             let f : inner ≡ broken e (a + i) = subst (Follows R a (a + i) start stop body c inner j′) z tag-follows in
-            seen-fault (chain (inner .tags) (inner .ended) (later (ends c))) tag-seen (ap (λ (v : Walk). chain (v .tags) (v .ended) (later (ends c))) f)
+            passed-fault (chain (inner .tags) (inner .ended) (later (ends c))) tag-passed (ap (λ (v : Walk). chain (v .tags) (v .ended) (later (ends c))) f)
 
         -- nothing more stands in it
         nothing-inside : {b : Bool} → ends c ≡ b → inner ≡ noTags whole → chain (inner .tags) (inner .ended) (later (ends c)) ≡ later b
         nothing-inside {b} e f = ap (λ (v : Walk). chain (v .tags) (v .ended) (later (ends c))) f ∙ ap (λ (x : Bool). chain [] whole (later x)) e
 
         -- End
-        stood-last : {p n : ℕ} {x : Walked} (o : Owner) → own ≡ ownerOf o → S ≡ step.Last p n → x ≡ lastOf o a p (length r) n (w + 5) → listed t′ g′ x ≡ laid t₀ k g₀ m all
+        stood-last : {p : BytePlace} {n : ℕ} {x : Walked} (o : Owner) → own ≡ ownerOf o → S ≡ step.Last p n → x ≡ lastOf o a (p .0) (length r) n (w + 5) → listed t′ g′ x ≡ walkOver t₀ k g₀ m all
         stood-last {p} {n} {x} o is z e =
-            let f : (p ≡ stop) × (n ≡ j′) × (ends c ≡ true) × (inner ≡ noTags whole) = subst (Follows R a (a + i) start stop body c inner j′) z tag-follows in
+            let f : (p .0 ≡ stop) × (n ≡ j′) × (ends c ≡ true) × (inner ≡ noTags whole) = subst (Follows R a (a + i) start stop body c inner j′) z tag-follows in
             ap (listed t′ g′) (e ∙ rw (f .0, f .1)) ∙ go (eqb stop (length r)) refl (drop stop r) refl
-            (seen-as (chain (inner .tags) (inner .ended) (later (ends c))) (later true) (nothing-inside (f .2) (f .3)) tag-seen)
+            (passed-as (chain (inner .tags) (inner .ended) (later (ends c))) (later true) (nothing-inside (f .2) (f .3)) tag-passed)
           where
-            go : (y : Bool) → eqb stop (length r) ≡ y → (q : List ℕ) → drop stop r ≡ q → Seen t′ g′ j′ (w + 5) (atEnd own (a + stop) (drop stop r))
-                → listed t′ g′ (pick y (walked.Next j′ (w + 5)) (walked.Fault 11 (blame (ownerOf o) (a + stop)))) ≡ laid t₀ k g₀ m all
-            go true u [] v s = seen-whole (atEnd own (a + stop) (drop stop r)) s (ap (atEnd own (a + stop)) v)
+            go : (y : Bool) → eqb stop (length r) ≡ y → (q : List ℕ) → drop stop r ≡ q → Passed t′ g′ j′ (w + 5) (atEnd own (a + stop) (drop stop r))
+                → listed t′ g′ (pick y (walked.Next j′ (w + 5)) (walked.Fault 11 (byteAt (blame (ownerOf o) (a + stop))))) ≡ walkOver t₀ k g₀ m all
+            go true u [] v s = passed-whole (atEnd own (a + stop) (drop stop r)) s (ap (atEnd own (a + stop)) v)
             go true u (y ∷ q) v s = absurd (omega (arith, eqb-true stop (length r) u, ap length v, length-drop stop r))
             go false u [] v s = absurd (eqb-false stop (length r) u (omega (arith, ap length v, length-drop stop r, stop-fits .1)))
-            go false u (y ∷ q) v s = seen-fault (atEnd own (a + stop) (drop stop r)) s (ap (atEnd own (a + stop)) v ∙ ap (λ (b : paper.Owner). broken 11 (blame b (a + stop))) is)
+            go false u (y ∷ q) v s = passed-fault (atEnd own (a + stop) (drop stop r)) s (ap (atEnd own (a + stop)) v ∙ ap (λ (b : paper.Owner). broken 11 (blame b (a + stop))) is)
 
-        stood-stops : {p n : ℕ} → S ≡ step.Last p n → p ≤ length r
+        stood-stops : {p : BytePlace} {n : ℕ} → S ≡ step.Last p n → p .0 ≤ length r
         stood-stops {p} {n} z =
-            let f : (p ≡ stop) × (n ≡ j′) × (ends c ≡ true) × (inner ≡ noTags whole) = subst (Follows R a (a + i) start stop body c inner j′) z tag-follows in
+            let f : (p .0 ≡ stop) × (n ≡ j′) × (ends c ≡ true) × (inner ≡ noTags whole) = subst (Follows R a (a + i) start stop body c inner j′) z tag-follows in
             omega (arith, f .0, stop-fits .1)
 
         -- another tag may follow
-        stood-next : {p n : ℕ} → S ≡ step.Next p n → (i < p) × Going t′ g′ p n (w + 5)
+        stood-next : {p : BytePlace} {n : ℕ} → S ≡ step.Next p n → (i < p .0) × Going t′ g′ (p .0) n (w + 5)
         stood-next {p} {n} z =
-            let f : (p ≡ stop) × (n ≡ j′) × (ends c ≡ false) × (inner ≡ noTags whole) = subst (Follows R a (a + i) start stop body c inner j′) z tag-follows in
-            rw (f .0, f .1) (stop-fits .0, record { inside = stop-fits .1; seen = seen-as (chain (inner .tags) (inner .ended) (later (ends c))) (from stop) (nothing-inside (f .2) (f .3)) tag-seen })
+            let f : (p .0 ≡ stop) × (n ≡ j′) × (ends c ≡ false) × (inner ≡ noTags whole) = subst (Follows R a (a + i) start stop body c inner j′) z tag-follows in
+            rw (f .0, f .1) (stop-fits .0, record { inside = stop-fits .1; passed = passed-as (chain (inner .tags) (inner .ended) (later (ends c))) (from stop) (nothing-inside (f .2) (f .3)) tag-passed })
 
         -- a container: its list starts at l
-        stood-open : {l p n : ℕ} → S ≡ step.Open l p n → Opens t′ g′ i l p n (w + 5)
-        stood-open {l} {p} {n} z =
-            let f : (p ≡ stop) × (n ≡ j′) × (ends c ≡ false) × (contains c ≡ true) × (start ≤ l) × (l ≤ start + length body) × (inner ≡ R (paper.inside (a + i)) (a + l) (drop (l - start) body)) =
+        stood-open : (o : Opened) → S ≡ step.Open o → Opens t′ g′ i (o .list .0) (o .stop .0) (o .behind) (w + 5)
+        stood-open o z =
+            let l : ℕ = o .list .0 in
+            let f : (o .stop .0 ≡ stop) × (o .behind ≡ j′) × (ends c ≡ false) × (contains c ≡ true) × (start ≤ l) × (l ≤ start + length body) × (inner ≡ R (paper.inside (a + i)) (a + l) (drop (l - start) body)) =
             subst (Follows R a (a + i) start stop body c inner j′) z tag-follows in
-            let o : pick true (eqb left 0) false ≡ false = subst (λ (b : Bool). pick b (eqb left 0) false ≡ false) (contains-named (classBy reads level code) ∙ f .3) (fits .3) in
+            let d : pick true (eqb depths 0) false ≡ false = subst (λ (b : Bool). pick b (eqb depths 0) false ≡ false) (contains-named (classBy scope level code) ∙ f .3) (fits .3) in
             let q : len - (l - start) ≡ stop - l = omega (arith, f .4) in
             let q′ : i + (size + (l - start)) ≡ l = omega (arith, f .4) in
             let room : drop (l - start) body ≡ piece l stop r =
@@ -393,81 +398,88 @@ module _ (reads : Reads) (level left : ℕ) (own : paper.Owner) (a : ℕ) (r t�
             ap (λ (v : Walk). chain (v .tags) (v .ended) (later (ends c))) (f .6 ∙ ap (R (paper.inside (a + i)) (a + l)) room)
             ∙ ap (λ (b : Bool). chain (R (paper.inside (a + i)) (a + l) (piece l stop r) .tags) (R (paper.inside (a + i)) (a + l) (piece l stop r) .ended) (later b)) (f .2) in
             record {
-              deep = positive left (eqb-false left 0 o);
+              deep = positive depths (eqb-false depths 0 d);
               ahead = omega (arith, f .0, stop-fits .0);
               order = omega (arith, f .0, f .5, body-length);
               inside = omega (arith, f .0, stop-fits .1);
-              seen = rw (f .0, f .1) (seen-as (chain (inner .tags) (inner .ended) (later (ends c))) _ e tag-seen);
+              passed = rw (f .0, f .1) (passed-as (chain (inner .tags) (inner .ended) (later (ends c))) _ e tag-passed);
             }
 
     -- reading it, by the class of its code, left this
-    module _ {class : Class} {t′ g′ : List ℕ} (x : Step) (is-named : class ≡ named (classBy reads level (le16 (drop i r) / 64)))
-        (read : stepped t′ g′ x ≡ tagAt class left a r i t j g w (headBy class left (drop i r))) where
-      read-is : stepped t′ g′ x ≡ tagAt (named (classBy reads level (le16 (drop i r) / 64))) left a r i t j g w (readHead (classBy reads level) left (drop i r))
-      read-is = read ∙ rw (is-named, head-by (classBy reads level) left (drop i r))
+    module _ {class : Class} {t′ g′ : List ℕ} (x : Step) (is-named : class ≡ named (classBy scope level (le16 (drop i r) / 64)))
+        (read : stepped t′ g′ x ≡ tagAt class depths a r i t j g w (headBy class depths (drop i r))) where
+      read-is : stepped t′ g′ x ≡ tagAt (named (classBy scope level (le16 (drop i r) / 64))) depths a r i t j g w (readHead (classBy scope level) depths (drop i r))
+      read-is = read ∙ rw (is-named, head-by (classBy scope level) depths (drop i r))
 
       -- by what its header gives
-      by-head : (P : Stepped → Type 0) → ((e : ℕ) → readHead (classBy reads level) left (drop i r) ≡ noHead e → P (stepped t g (step.Fault e)))
-          → ((code len size : ℕ) → readHead (classBy reads level) left (drop i r) ≡ head code len size → P (tagAt (named (classBy reads level code)) left a r i t j g w (head code len size))) → P (stepped t′ g′ x)
-      by-head P f h = subst P (sym read-is) (go (readHead (classBy reads level) left (drop i r)) refl)
+      by-head : (P : Stepped → Type 0) → ((e : ℕ) → readHead (classBy scope level) depths (drop i r) ≡ noHead e → P (stepped t g (step.Fault e)))
+          → ((code len size : ℕ) → readHead (classBy scope level) depths (drop i r) ≡ head code len size → P (tagAt (named (classBy scope level code)) depths a r i t j g w (head code len size))) → P (stepped t′ g′ x)
+      by-head P f h = subst P (sym read-is) (go (readHead (classBy scope level) depths (drop i r)) refl)
         where
-          go : (d : paper.Head) → readHead (classBy reads level) left (drop i r) ≡ d → P (tagAt (named (classBy reads level (le16 (drop i r) / 64))) left a r i t j g w d)
+          go : (d : paper.Head) → readHead (classBy scope level) depths (drop i r) ≡ d → P (tagAt (named (classBy scope level (le16 (drop i r) / 64))) depths a r i t j g w d)
           go (noHead e) q = f e q
           go (head code len size) q =
-              let u : (2 ≤ size) × (size + len ≤ length (drop i r)) × (code ≡ le16 (drop i r) / 64) =
-              subst (FitsBy (drop i r)) (sym (head-by (classBy reads level) left (drop i r)) ∙ q) (fits-by (named (classBy reads level (le16 (drop i r) / 64))) left (drop i r)) in
-              subst (λ (n : ℕ). P (tagAt (named (classBy reads level n)) left a r i t j g w (head code len size))) (u .2) (h code len size q)
+              subst (λ (n : ℕ). P (tagAt (named (classBy scope level n)) depths a r i t j g w (head code len size))) (fits q .4) (h code len size q)
 
       -- the lent tables keep their lengths
       pub tag-sizes : (length t′ ≡ length t₀) × (length g′ ≡ length g₀)
-      tag-sizes = by-head (λ (s : Stepped). (length (s .table) ≡ length t₀) × (length (s .rows) ≡ length g₀)) (λ e q. (seen-table (from i) (going .seen), seen-rows (from i) (going .seen)))
-          (λ code len size q. (seen-table _ (tag-seen q), seen-rows _ (tag-seen q)))
+      tag-sizes = by-head (λ (s : Stepped). (length (s .table) ≡ length t₀) × (length (s .rows) ≡ length g₀)) (λ e q. (passed-table (from i) (going .passed), passed-rows (from i) (going .passed)))
+          (λ code len size q. (passed-table _ (tag-passed q), passed-rows _ (tag-passed q)))
 
-      pub tag-fault : {e : ℕ} → x ≡ step.Fault e → listed t′ g′ (walked.Fault e (a + i)) ≡ laid t₀ k g₀ m all
+      pub tag-fault : {e : ℕ} → x ≡ step.Fault e → listed t′ g′ (walked.Fault e (byteAt (a + i))) ≡ walkOver t₀ k g₀ m all
       tag-fault {e} =
-          by-head (λ (s : Stepped). s .step ≡ step.Fault e → listed (s .table) (s .rows) (walked.Fault e (a + i)) ≡ laid t₀ k g₀ m all)
-          (λ e′ q z. let y : e ≡ e′ = cc in ap (λ (n : ℕ). listed t g (walked.Fault n (a + i))) y ∙ head-fault q)
+          by-head (λ (s : Stepped). s .step ≡ step.Fault e → listed (s .table) (s .rows) (walked.Fault e (byteAt (a + i))) ≡ walkOver t₀ k g₀ m all)
+          (λ e′ q z. let y : e ≡ e′ = cc in ap (λ (n : ℕ). listed t g (walked.Fault n (byteAt (a + i)))) y ∙ head-fault q)
           (λ code len size q z. stood-fault q _ refl z)
 
-      pub tag-stops : {p n : ℕ} → x ≡ step.Last p n → p ≤ length r
+      pub tag-stops : {p : BytePlace} {n : ℕ} → x ≡ step.Last p n → p .0 ≤ length r
       tag-stops {p} {n} =
-          by-head (λ (s : Stepped). s .step ≡ step.Last p n → p ≤ length r) (λ e q z. absurd (let z : _≡_ {A = ℕ} 0 1 = cc in omega arith)) (λ code len size q z. stood-stops q _ refl z)
+          by-head (λ (s : Stepped). s .step ≡ step.Last p n → p .0 ≤ length r) (λ e q z. clash cc) (λ code len size q z. stood-stops q _ refl z)
 
-      pub tag-last : {p n : ℕ} {y : Walked} (o : Owner) → own ≡ ownerOf o → x ≡ step.Last p n → y ≡ lastOf o a p (length r) n (w + 5) → listed t′ g′ y ≡ laid t₀ k g₀ m all
+      pub tag-last : {p : BytePlace} {n : ℕ} {y : Walked} (o : Owner) → own ≡ ownerOf o → x ≡ step.Last p n → y ≡ lastOf o a (p .0) (length r) n (w + 5) → listed t′ g′ y ≡ walkOver t₀ k g₀ m all
       tag-last {p} {n} {y} o is =
-          by-head (λ (s : Stepped). s .step ≡ step.Last p n → y ≡ lastOf o a p (length r) n (w + 5) → listed (s .table) (s .rows) y ≡ laid t₀ k g₀ m all)
-          (λ e q z v. absurd (let z : _≡_ {A = ℕ} 0 1 = cc in omega arith)) (λ code len size q z v. stood-last q _ refl o is z v)
+          by-head (λ (s : Stepped). s .step ≡ step.Last p n → y ≡ lastOf o a (p .0) (length r) n (w + 5) → listed (s .table) (s .rows) y ≡ walkOver t₀ k g₀ m all)
+          (λ e q z v. clash cc) (λ code len size q z v. stood-last q _ refl o is z v)
 
-      pub tag-next : {p n : ℕ} → x ≡ step.Next p n → (i < p) × Going t′ g′ p n (w + 5)
+      pub tag-next : {p : BytePlace} {n : ℕ} → x ≡ step.Next p n → (i < p .0) × Going t′ g′ (p .0) n (w + 5)
       tag-next {p} {n} =
-          by-head (λ (s : Stepped). s .step ≡ step.Next p n → (i < p) × Going (s .table) (s .rows) p n (w + 5)) (λ e q z. absurd (let z : _≡_ {A = ℕ} 0 1 = cc in omega arith))
+          by-head (λ (s : Stepped). s .step ≡ step.Next p n → (i < p .0) × Going (s .table) (s .rows) (p .0) n (w + 5)) (λ e q z. clash cc)
           (λ code len size q z. stood-next q _ refl z)
 
-      pub tag-open : {l p n : ℕ} → x ≡ step.Open l p n → Opens t′ g′ i l p n (w + 5)
-      tag-open {l} {p} {n} =
-          by-head (λ (s : Stepped). s .step ≡ step.Open l p n → Opens (s .table) (s .rows) i l p n (w + 5)) (λ e q z. absurd (let z : _≡_ {A = ℕ} 0 1 = cc in omega arith))
-          (λ code len size q z. stood-open q _ refl z)
+      pub tag-open : (o : Opened) → x ≡ step.Open o → Opens t′ g′ i (o .list .0) (o .stop .0) (o .behind) (w + 5)
+      tag-open o =
+          by-head (λ (s : Stepped). s .step ≡ step.Open o → Opens (s .table) (s .rows) i (o .list .0) (o .stop .0) (o .behind) (w + 5)) (λ e q z. clash cc)
+          (λ code len size q z. stood-open q _ refl o z)
 
       -- and its list was read from there
-      module _ {l p n : ℕ} (z : x ≡ step.Open l p n) where
-        abbrev R′ : Walk
-        R′ = walkList high (classBy reads level) (pred left) (paper.inside (a + i)) (a + l) (piece l p r)
+      module _ (o : Opened) (z : x ≡ step.Open o) where
+        abbrev l : ℕ
+        l = o .list .0
 
-        pub open-bounds : Bounds left a (length r) k m → Bounds (left - 1) (a + l) (length (piece l p r)) n (w + 5)
+        abbrev p : ℕ
+        p = o .stop .0
+
+        abbrev n : ℕ
+        n = o .behind
+
+        abbrev R′ : Walk
+        R′ = walkList high (classBy scope level) (pred depths) (paper.inside (a + i)) (a + l) (piece l p r)
+
+        pub open-bounds : Bounds depths a (length r) k m → Bounds (depths - 1) (a + l) (length (piece l p r)) n (w + 5)
         open-bounds b =
-            let o : Opens t′ g′ i l p n (w + 5) = tag-open z in
-            let v : (n ≤ k + 8 * length r) × (w + 5 ≤ m + 5 * length r) = seen-room _ (o .seen) in
-            let y : length (piece l p r) ≡ p - l = length-piece l p r (o .inside) in
+            let q : Opens t′ g′ i l p n (w + 5) = tag-open o z in
+            let v : (n ≤ k + 8 * length r) × (w + 5 ≤ m + 5 * length r) = passed-room _ (q .passed) in
+            let y : length (piece l p r) ≡ p - l = length-piece l p r (q .inside) in
             record {
               depth = omega (arith, b .depth);
-              place = omega (arith, b .place, o .order, o .inside, y);
-              index = omega (arith, b .index, b .place, v .0, o .deep, b .depth);
-              row = omega (arith, b .row, b .place, v .1, o .deep, b .depth);
+              place = omega (arith, b .place, q .order, q .inside, y);
+              index = omega (arith, b .index, b .place, v .0, q .deep, b .depth);
+              row = omega (arith, b .row, b .place, v .1, q .deep, b .depth);
             }
 
-        module _ {t″ g″ : List ℕ} (y : Walked) (done : listed t″ g″ y ≡ laid t′ n g′ (w + 5) (walkList high (classBy reads level) (left - 1) (paper.inside (a + i)) (a + l) (piece l p r))) where
-          read-inner : listed t″ g″ y ≡ laid t′ n g′ (w + 5) R′
-          read-inner = rw (pred-is left) done
+        module _ {t″ g″ : List ℕ} (y : Walked) (done : listed t″ g″ y ≡ walkOver t′ n g′ (w + 5) (walkList high (classBy scope level) (depths - 1) (paper.inside (a + i)) (a + l) (piece l p r))) where
+          read-inner : listed t″ g″ y ≡ walkOver t′ n g′ (w + 5) R′
+          read-inner = rw (pred-is depths) done
 
           pub open-sizes : (length t″ ≡ length t₀) × (length g″ ≡ length g₀)
           open-sizes = (
@@ -476,7 +488,7 @@ module _ (reads : Reads) (level left : ℕ) (own : paper.Owner) (a : ℕ) (r t�
           )
 
           pub open-next : {j′ w′ : ℕ} → y ≡ walked.Next j′ w′ → (i < p) × Going t″ g″ p j′ w′
-          open-next e = (tag-open z .ahead, record { inside = tag-open z .inside; seen = inner-next R′ (from p) (tag-open z .seen) (ap (listed t″ g″) (sym e) ∙ read-inner) })
+          open-next e = (tag-open o z .ahead, record { inside = tag-open o z .inside; passed = inner-next R′ (from p) (tag-open o z .passed) (ap (listed t″ g″) (sym e) ∙ read-inner) })
 
-          pub open-fault : {e o : ℕ} → y ≡ walked.Fault e o → listed t″ g″ y ≡ laid t₀ k g₀ m all
-          open-fault e = ap (listed t″ g″) e ∙ inner-fault R′ (from p) (tag-open z .seen) (ap (listed t″ g″) (sym e) ∙ read-inner)
+          pub open-fault : {e : ℕ} {place : BytePlace} → y ≡ walked.Fault e place → listed t″ g″ y ≡ walkOver t₀ k g₀ m all
+          open-fault e = ap (listed t″ g″) e ∙ inner-fault R′ (from p) (tag-open o z .passed) (ap (listed t″ g″) (sym e) ∙ read-inner)

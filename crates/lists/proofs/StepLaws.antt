@@ -1,80 +1,111 @@
 -- One tag: its header, its row, its own numbers, and what comes after them.
-use Prim.Native.Nat.{ℕ, _+_, _-_, _/_, _≤_}
+use Prim.Native.Nat.{ℕ, _+_, _-_, _*_, _/_, _≤_}
 use mathlib.Core.List.{List, [], _∷_}
 use mathlib.Core.Path.{_≡_, ap, sym, subst, _∙_}
 use native.Mathlib.Omega.{arith}
 use lib.ListN.{length, take, drop, length-drop}
-use lib.Seq.{sets, drop-drop}
+use lib.Seq.{sets, drop-drop, length-take-le}
 use lib.Dec.{eqb}
 use borrow.Author.Tests.{eq-eqb, ne-eqb}
-use Rattle.bits.specs.declared.BitPlace.{BitPlace}
+use Rattle.bits.specs.declared.BytePlace.{BytePlace}
 use Rattle.format.specs.Reading.{At, Fault}
 use Rattle.format.specs.FileAndTags as paper
 use Rattle.format.specs.FileAndTags.{blame}
-use Rattle.table.specs.State.{State, after}
-use Rattle.table.specs.Run.{left}
-use Rattle.table.specs.declared.Run.{Run}
-use Rattle.table.specs.declared.Run.the-variants.{Done, Stop}
+use Rattle.table.specs.State.{State, shownOver}
+use Rattle.bodies.specs.Shown.{shownLeaves}
+use Rattle.bodies.specs.declared.Shown.{Shown}
+use Rattle.bodies.specs.declared.Shown.the-variants.{Done, Stop}
+use Rattle.format.proofs.WalkLaws.{Fits, head-fits}
+use Rattle.classes.specs.Classes.{bare}
 use Rattle.classes.specs.declared.Class.{Class}
-use Rattle.headers.specs.Heads.{seenHead, headBy}
+use Rattle.headers.specs.Heads.{asHead, headBy}
 use Rattle.headers.specs.declared.Head.{Head}
 use Rattle.headers.specs.declared.Head.the-variants as heads
-use Rattle.headers.proofs.HeadLaws.{FitsBy, fits-by}
-use Rattle.lists.specs.Lists.{ownerOf, tagShown, stepBy, stepOf, stepped, tagAt, lastOf}
+use Rattle.headers.specs.declared.Header.{Header}
+use Rattle.lists.specs.Lists.{ownerOf, byteAt, tagShown, stepBy, stepOf, stepped, tagAt, lastOf}
+use Rattle.tags.specs.Shown.{valuesOf}
+use Rattle.tags.proofs.TagLaws.{values-le}
 use Rattle.lists.specs.declared.Owner.{Owner}
 use Rattle.lists.specs.declared.Step.{Step}
 use Rattle.lists.specs.declared.Step.the-variants as step
 use Rattle.lists.specs.declared.Walked.the-variants as walked
 
 -- the class that a `match` tells
-pub step-of : (list stop k : ℕ) {class : Class} (told : Class) → class ≡ told → stepBy told list stop k ≡ stepBy class list stop k
+pub step-of : (list stop : BytePlace) (k : ℕ) {class : Class} (told : Class) → class ≡ told → stepBy told list stop k ≡ stepBy class list stop k
 step-of list stop k told e = ap (λ (c : Class). stepBy c list stop k) (sym e)
 
 stepped-eq : {t t′ g g′ : List ℕ} {x x′ : Step} → t ≡ t′ → g ≡ g′ → x ≡ x′ → stepped t g x ≡ stepped t′ g′ x′
 stepped-eq p q r = λ i. record { table = p i; rows = q i; step = r i }
 
+-- a tag's values end in its body
+pub values-fit : (class : Class) (code : ℕ) (body t : List ℕ) (k : ℕ) {u : List ℕ} {R : Shown} {p : BytePlace} {j : ℕ} → shownLeaves u R ≡ shownOver t k (tagShown class code body) → R ≡ Done p j
+    → p .0 ≤ length body
+unfolding shownOver
+values-fit class code body t k {u} {R} {p} {j} e is =
+    let f : At (8 * p .0) ≡ valuesOf class code body .ended = ap (λ (z : Shown). shownLeaves u z .ended) (sym is) ∙ ap (λ (s : State). s .ended) e in
+    omega (arith, values-le class code body (8 * p .0) (sym f))
+
 -- the tag at i of the list r at place a; H is its header, by its class
-module _ (class : Class) (depths a : ℕ) (r : List ℕ) (i : ℕ) (t : List ℕ) (k : ℕ) (g : List ℕ) (m : ℕ) (H : paper.Head) {h : Head} (at : seenHead h ≡ H) where
+module _ (class : Class) (depths a : ℕ) (r : List ℕ) (i : ℕ) (t : List ℕ) (k : ℕ) (g : List ℕ) (m : ℕ) (H : paper.Head) {h : Head} (at : asHead h ≡ H) where
   -- the header is refused
   pub tag-none : {e : ℕ} → h ≡ heads.Fault e → stepped t g (step.Fault e) ≡ tagAt class depths a r i t k g m H
-  tag-none {e} is = ap (tagAt class depths a r i t k g m) (sym (ap seenHead is) ∙ at)
+  tag-none {e} is = ap (tagAt class depths a r i t k g m) (sym (ap asHead is) ∙ at)
 
   -- it stands in the room with its body
-  pub tag-stands : {code len size : ℕ} → H ≡ headBy class depths (drop i r) → h ≡ heads.Tag code len size → (i ≤ length r) → i + size + len ≤ length r
-  tag-stands e is l =
-      let u : FitsBy (drop i r) (paper.head _ _ _) = subst (FitsBy (drop i r)) (sym e ∙ sym at ∙ ap seenHead is) (fits-by class depths (drop i r)) in
+  pub tag-stands : {head : Header} → H ≡ headBy class depths (drop i r) → h ≡ heads.Tag head → (i ≤ length r) → i + head .size + head .length ≤ length r
+  tag-stands {head} e is l =
+      let u : Fits (λ code. bare class) depths (drop i r) (asHead (heads.Tag head)) =
+      subst (Fits (λ code. bare class) depths (drop i r)) (sym e ∙ sym at ∙ ap asHead is) (head-fits (λ code. bare class) depths (drop i r)) in
       omega (arith, u .1, length-drop i r)
 
   -- it passes, and the row and the numbers are stored
-  module _ {code len size start stop : ℕ} {body g′ t′ : List ℕ} (R : Run) (is : h ≡ heads.Tag code len size) (begin : start ≡ i + size) (end : stop ≡ start + len)
-      (part : body ≡ take (stop - start) (drop start r)) (row : g′ ≡ sets g m ((8 - depths) ∷ code ∷ (a + i) ∷ size ∷ len ∷ [])) (ran : left t′ R ≡ after t k (tagShown class code body)) where
+  module _ {head : Header} {start stop : ℕ} {body g′ t′ : List ℕ} (R : Shown) (is : h ≡ heads.Tag head) (begin : start ≡ i + head .size) (end : stop ≡ start + head .length)
+      (part : body ≡ take (stop - start) (drop start r)) (row : g′ ≡ sets g m ((8 - depths) ∷ head .code ∷ (a + i) ∷ head .size ∷ head .length ∷ [])) (ran : shownLeaves t′ R ≡ shownOver t k (tagShown class (head .code) body)) where
+    abbrev code : ℕ
+    code = head .code
+
+    abbrev len : ℕ
+    len = head .length
+
+    abbrev size : ℕ
+    size = head .size
+
     body-is : body ≡ take len (drop size (drop i r))
     body-is =
         let n : stop - start ≡ len = omega arith in
         part ∙ rw (n, begin) (ap (take len) (sym (drop-drop size i r)))
 
     head-is : paper.head code len size ≡ H
-    head-is = sym (ap seenHead is) ∙ at
+    head-is = sym (ap asHead is) ∙ at
 
-    ran-is : left t′ R ≡ after t k (tagShown class code (take len (drop size (drop i r))))
-    ran-is = ran ∙ ap (λ (b : List ℕ). after t k (tagShown class code b)) body-is
+    ran-is : shownLeaves t′ R ≡ shownOver t k (tagShown class code (take len (drop size (drop i r))))
+    ran-is = ran ∙ ap (λ (b : List ℕ). shownOver t k (tagShown class code b)) body-is
 
-    tag-done : {x : Step} → x ≡ stepOf class start stop (left t′ R .count) (left t′ R .ended) → stepped t′ g′ x ≡ tagAt class depths a r i t k g m H
-    unfolding after
+    tag-done : {x : Step} → x ≡ stepOf class start stop (shownLeaves t′ R .count) (shownLeaves t′ R .ended) → stepped t′ g′ x ≡ tagAt class depths a r i t k g m H
+    unfolding shownOver
     tag-done {x} e =
         let b : start + len ≡ i + size + len = omega arith in
         stepped-eq (ap (λ (s : State). s .table) ran-is) row (e ∙ ap (λ (s : State). stepOf class start stop (s .count) (s .ended)) ran-is ∙ rw (end, b, begin))
         ∙ ap (tagAt class depths a r i t k g m) head-is
 
     pub tag-stop : {e j : ℕ} → R ≡ Stop e j → stepped t′ g′ (step.Fault e) ≡ tagAt class depths a r i t k g m H
-    tag-stop e = tag-done (ap (λ (q : Run). stepOf class start stop (left t′ q .count) (left t′ q .ended)) (sym e))
+    tag-stop e = tag-done (ap (λ (q : Shown). stepOf class start stop (shownLeaves t′ q .count) (shownLeaves t′ q .ended)) (sym e))
 
-    pub tag-shown : {p : BitPlace} {j : ℕ} {x : Step} → R ≡ Done p j → x ≡ stepBy class (start + p .0 / 8) stop j → stepped t′ g′ x ≡ tagAt class depths a r i t k g m H
-    tag-shown e f = tag-done (f ∙ ap (λ (q : Run). stepOf class start stop (left t′ q .count) (left t′ q .ended)) (sym e))
+    pub tag-shown : {p : BytePlace} {j : ℕ} {x : Step} → R ≡ Done p j → x ≡ stepBy class (byteAt (start + p .0)) (byteAt stop) j → stepped t′ g′ x ≡ tagAt class depths a r i t k g m H
+    tag-shown {p} {j} e f =
+        let n : 8 * p .0 / 8 ≡ p .0 = omega arith in
+        tag-done (f ∙ ap (λ (n : ℕ). stepBy class (byteAt (start + n)) (byteAt stop) j) (sym n) ∙ ap (λ (q : Shown). stepOf class start stop (shownLeaves t′ q .count) (shownLeaves t′ q .ended)) (sym e))
+
+    -- its values end in the room
+    pub list-fits : {p : BytePlace} {j : ℕ} → H ≡ headBy class depths (drop i r) → i ≤ length r → R ≡ Done p j → start + p .0 ≤ length r
+    list-fits e l f =
+        let u : i + size + len ≤ length r = tag-stands e is l in
+        let n : length body ≡ stop - start = ap length part ∙ length-take-le (stop - start) (drop start r) (rw length-drop (omega arith)) in
+        omega (arith, values-fit class code body t k ran f)
 
 -- after End
 pub last-whole : (own : Owner) (a stop room k m : ℕ) → stop ≡ room → walked.Next k m ≡ lastOf own a stop room k m
 last-whole own a stop room k m e = rw (eq-eqb stop room e)
 
-pub last-more : (own : Owner) (a stop room k m : ℕ) {b : ℕ} → (stop ≡ room → ⊥) → b ≡ blame (ownerOf own) (a + stop) → walked.Fault 11 b ≡ lastOf own a stop room k m
-last-more own a stop room k m h e = rw (ne-eqb stop room h, e)
+pub last-more : (own : Owner) (a stop room k m : ℕ) {b : BytePlace} → (stop ≡ room → ⊥) → b .0 ≡ blame (ownerOf own) (a + stop) → walked.Fault 11 b ≡ lastOf own a stop room k m
+last-more own a stop room k m h e = ap (λ (n : ℕ). walked.Fault 11 (byteAt n)) e ∙ rw (ne-eqb stop room h)

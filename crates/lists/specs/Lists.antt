@@ -1,5 +1,5 @@
 -- What reading a tag list leaves: the lent table, the lent tag table, and the answer.
-use Prim.Native.Nat.{ℕ, _+_, _-_, _*_, _/_, _≤_}
+use Prim.Native.Nat.{ℕ, _+_, _-_, _*_, _≤_}
 use mathlib.Core.List.{List, [], _∷_}
 use lib.ListN.{length, take, drop}
 use lib.Seq.{sets}
@@ -7,14 +7,16 @@ use lib.Dec.{eqb}
 use Rattle.format.specs.Tests.{pick}
 use Rattle.format.specs.Reading.{Ending, At, Reading}
 use Rattle.format.specs.Reading as reading
+use Rattle.format.specs.Items.{toByte}
 use Rattle.format.specs.FileAndTags as paper
 use Rattle.format.specs.FileAndTags.{Outcome, whole, fault, Walk, blame}
 use Rattle.format.specs.TableOfNumbers.{numbers, tagTable}
 use Rattle.classes.specs.declared.Class.{Class}
 use Rattle.classes.specs.declared.Class.the-variants.{Opaque, End, Container, Fixed, Attributes}
+use Rattle.bits.specs.declared.BytePlace.{BytePlace}
 use Rattle.tags.specs.Shown.{stateOf, valuesOf, headed}
 use Rattle.lists.specs.declared.Owner.{Owner}
-use Rattle.lists.specs.declared.Owner.the-variants.{File, Inside}
+use Rattle.lists.specs.declared.Owner.the-variants.{File, Container}
 use Rattle.lists.specs.declared.Walked.{Walked}
 use Rattle.lists.specs.declared.Walked.the-variants as walked
 use Rattle.lists.specs.declared.Step.{Step}
@@ -22,7 +24,11 @@ use Rattle.lists.specs.declared.Step.the-variants as step
 
 abbrev pub ownerOf : Owner → paper.Owner
 ownerOf File = paper.file
-ownerOf (Inside c) = paper.inside c
+ownerOf (Container c) = paper.inside (c .0)
+
+-- the byte place n
+abbrev pub byteAt : ℕ → BytePlace
+byteAt n = record { 0 = n }
 
 -- ---- one tag
 
@@ -31,16 +37,16 @@ abbrev pub tagShown : Class → ℕ → List ℕ → Reading
 tagShown class code body = headed code (stateOf class) (valuesOf class code body)
 
 -- what comes after it: it ends at `stop`, its list starts at `list`, and j is the next index
-abbrev pub stepBy : Class → ℕ → ℕ → ℕ → Step
+abbrev pub stepBy : Class → BytePlace → BytePlace → ℕ → Step
 stepBy Opaque list stop j = step.Next stop j
 stepBy End list stop j = step.Last stop j
-stepBy Container list stop j = step.Open list stop j
+stepBy Container list stop j = step.Open (record { list = list; stop = stop; behind = j })
 stepBy Fixed list stop j = step.Next stop j
 stepBy Attributes list stop j = step.Next stop j
 
 -- by how its values ended; its body stands from `start` on
 abbrev pub stepOf : Class → ℕ → ℕ → ℕ → Ending → Step
-stepOf class start stop j (At p) = stepBy class (start + p / 8) stop j
+stepOf class start stop j (At p) = stepBy class (byteAt (start + toByte p)) (byteAt stop) j
 stepOf class start stop j (reading.Fault e) = step.Fault e
 
 pub record Stepped : Type 0 where
@@ -53,14 +59,14 @@ stepped t g x = record { table = t; rows = g; step = x }
 
 -- the tag at i of the list r, which stands at place a: its numbers over the table t from index k on, its row over the tag table g from index m on
 abbrev pub tagAt : Class → ℕ → ℕ → List ℕ → ℕ → List ℕ → ℕ → List ℕ → ℕ → paper.Head → Stepped
-tagAt class left a r i t k g m (paper.noHead e) = stepped t g (step.Fault e)
-tagAt class left a r i t k g m (paper.head code len size) =
-    stepped (sets t k (tagShown class code (take len (drop size (drop i r))) .shown)) (sets g m ((8 - left) ∷ code ∷ (a + i) ∷ size ∷ len ∷ []))
+tagAt class depths a r i t k g m (paper.noHead e) = stepped t g (step.Fault e)
+tagAt class depths a r i t k g m (paper.head code len size) =
+    stepped (sets t k (tagShown class code (take len (drop size (drop i r))) .shown)) (sets g m ((8 - depths) ∷ code ∷ (a + i) ∷ size ∷ len ∷ []))
     (stepOf class (i + size) (i + size + len) (k + length (tagShown class code (take len (drop size (drop i r))) .shown)) (tagShown class code (take len (drop size (drop i r))) .ended))
 
 -- after End, which ends at `stop` of the room
 abbrev pub lastOf : Owner → ℕ → ℕ → ℕ → ℕ → ℕ → Walked
-lastOf own a stop room k m = pick (eqb stop room) (walked.Next k m) (walked.Fault 11 (blame (ownerOf own) (a + stop)))
+lastOf own a stop room k m = pick (eqb stop room) (walked.Next k m) (walked.Fault 11 (byteAt (blame (ownerOf own) (a + stop))))
 
 -- ---- a list
 
@@ -74,17 +80,17 @@ listed t g x = record { table = t; rows = g; answer = x }
 
 abbrev pub walkedOf : ℕ → ℕ → Outcome → Walked
 walkedOf k m whole = walked.Next k m
-walkedOf k m (fault e n) = walked.Fault e n
+walkedOf k m (fault e n) = walked.Fault e (byteAt n)
 
 -- a walk's numbers laid over the table t from index k on, and its rows over the tag table g from index m on; what does not fit is dropped
-abbrev pub laid : List ℕ → ℕ → List ℕ → ℕ → Walk → Listed
-laid t k g m w =
+abbrev pub walkOver : List ℕ → ℕ → List ℕ → ℕ → Walk → Listed
+walkOver t k g m w =
     listed (sets t k (numbers (w .tags))) (sets g m (tagTable (w .tags)))
     (walkedOf (k + length (numbers (w .tags))) (m + length (tagTable (w .tags))) (w .ended))
 
 -- the room ends inside the longest file; a list adds at most 2 ^ 27 to an index, and each depth is one list more
-pub record Bounds (left a n k m : ℕ) : Type 0 where
-  pub depth : left ≤ 8
+pub record Bounds (depths a n k m : ℕ) : Type 0 where
+  pub depth : depths ≤ 8
   pub place : a + n ≤ 16777216
-  pub index : k ≤ (9 - left) * 134217728
-  pub row : m ≤ (9 - left) * 134217728
+  pub index : k ≤ (9 - depths) * 134217728
+  pub row : m ≤ (9 - depths) * 134217728

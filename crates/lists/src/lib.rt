@@ -3,153 +3,182 @@ ghost use mathlib.Core.Path.{_≡_};
 ghost use Prim.Native.Nat.{_+_, _<_, _≤_, _^_};
 ghost use lib.ListN.{length, drop};
 ghost use Rattle.format.specs.Bits.{high};
-ghost use Rattle.format.specs.FileAndTags.{blame as «blameOf», walkList};
+ghost use Rattle.format.specs.FileAndTags.{blame as blameOf, walkList};
 ghost use Rattle.classes.specs.Classes.{classBy};
 ghost use Rattle.headers.specs.Heads.{headBy};
-ghost use Rattle.lists.specs.Lists.{ownerOf, listed, laid, stepBy, stepped, tagAt, lastOf, Bounds};
+ghost use Rattle.lists.specs.Lists.{ownerOf, listed, walkOver, stepBy, stepped, tagAt, lastOf, Bounds};
+use bits::BytePlace;
+use bodies::Shown;
 use classes::Class;
-use classes::Reads;
+use classes::Scope;
 use headers::Head;
-use table::Run;
 
-// Whose list it is: the file's own, or that of the container at this place.
+// Whose list it is: the file's own, or that of the container at this place in the file.
 pub enum Owner {
     File,
-    Inside(usize),
+    Container(BytePlace),
 }
 
-// After a list: the next index of the table and of the tag table; or a reason and its second number.
+// After a list: the next index of the table and of the tag table; or a reason and its second number, a place in the file.
 pub enum Walked {
     Next(usize, usize),
-    Fault(u32, usize),
+    Fault(u32, BytePlace),
 }
 
-// After a tag that ends at the first number given, with the next index of the table: another tag may follow; it was End; it is a container, whose
-// list starts at the number before these two. Or a reason.
+// A container whose own numbers are stored: its list has the room from `list` up to `stop`, and `behind` is the next index of the table.
+pub struct Opened {
+    pub list: BytePlace,
+    pub stop: BytePlace,
+    pub behind: usize,
+}
+
+// After a tag that ends at this place of the room, with the next index of the table: another tag may follow; it was End. Or it is a container,
+// whose list is still to be read; or a reason.
 pub enum Step {
-    Next(usize, usize),
-    Last(usize, usize),
-    Open(usize, usize, usize),
+    Next(BytePlace, usize),
+    Last(BytePlace, usize),
+    Open(Opened),
     Fault(u32),
 }
 
 // The second number of 7 and 11: the container's place; at depth 0 the place where it happened.
-fn blame(own: Owner, at: usize) -> usize
-    ensures { λ r. ⌜ r ≡ «blameOf» (ownerOf own) at ⌝ }
+fn blame(owner: Owner, place: BytePlace) -> BytePlace
+    ensures { λ r. ⌜ r .0 ≡ blameOf (ownerOf owner) (place .0) ⌝ }
 {
-    match own {
-        Owner::File => at,
-        Owner::Inside(place) => place,
+    match owner {
+        Owner::File => place,
+        Owner::Container(container) => container,
     }
 }
 
-// After End the room is used up, else 11. Here it ends at `stop`.
-fn last(own: Owner, a: usize, stop: usize, room: usize, k: usize, m: usize) -> Walked
-    requires { ⌜ a + stop < 2 ^ 60 ⌝ }
-    ensures { λ r. ⌜ r ≡ lastOf own a stop room k m ⌝ }
+// After End the room is used up, else 11. The list stands at place `at`, its room has this size, and End ends at `stop` of it.
+fn last(
+    owner: Owner,
+    at: BytePlace,
+    stop: BytePlace,
+    size: usize,
+    behind: usize,
+    row: usize,
+) -> Walked
+    requires { ⌜ at .0 + stop .0 < 2 ^ 60 ⌝ }
+    ensures { λ r. ⌜ r ≡ lastOf owner (at .0) (stop .0) size behind row ⌝ }
 {
-    if stop == room {
-        Walked::Next(k, m)
+    if stop.0 == size {
+        Walked::Next(behind, row)
     } else {
-        Walked::Fault(11, blame(own, a + stop))
+        let over = at.0 + stop.0;
+        Walked::Fault(11, blame(owner, BytePlace(over)))
     }
 }
 
 // What comes after a tag's own numbers, by its class.
-fn next_step(class: Class, list: usize, stop: usize, k: usize) -> Step
-    ensures { λ r. ⌜ r ≡ stepBy class list stop k ⌝ }
+fn next_step(class: Class, list: BytePlace, stop: BytePlace, behind: usize) -> Step
+    ensures { λ r. ⌜ r ≡ stepBy class list stop behind ⌝ }
 {
     match class {
-        Class::Opaque => Step::Next(stop, k),
-        Class::End => Step::Last(stop, k),
-        Class::Container => Step::Open(list, stop, k),
-        Class::Fixed => Step::Next(stop, k),
-        Class::Attributes => Step::Next(stop, k),
+        Class::Opaque => Step::Next(stop, behind),
+        Class::End => Step::Last(stop, behind),
+        Class::Container => Step::Open(Opened {
+            list: list,
+            stop: stop,
+            behind: behind,
+        }),
+        Class::Fixed => Step::Next(stop, behind),
+        Class::Attributes => Step::Next(stop, behind),
     }
 }
 
-// The tag at i of the list at place a; `class` is that of its code. Its header, its row, and its own numbers.
+// The tag at a place of the room, in the list at place `at`; `class` is that of its code. Its header, its row, and its own numbers.
 fn read_tag(
     class: Class,
-    left: u32,
-    a: usize,
-    r: &[u8],
-    i: usize,
-    t: &mut [u64],
-    k: usize,
-    g: &mut [u32],
-    m: usize,
+    depths: u32,
+    at: BytePlace,
+    room: &[u8],
+    place: BytePlace,
+    table: &mut [u64],
+    from: usize,
+    rows: &mut [u32],
+    row: usize,
 ) -> Step
-    requires { ⌜ (left ≤ 8) × (i ≤ length (now r)) × (a + length (now r) ≤ 16777216) × (k < 2 ^ 60) × (m < 2 ^ 60) ⌝ }
-    ensures { λ x. ⌜ stepped (now (t .exit)) (now (g .exit)) x ≡ tagAt class left a (now (r .entry)) i (now (t .entry)) k (now (g .entry)) m (headBy class left (drop i (now (r .entry)))) ⌝ }
+    requires { ⌜ (depths ≤ 8) × (place .0 ≤ length (now room)) × (at .0 + length (now room) ≤ 16777216) × (from < 2 ^ 60) × (row < 2 ^ 60) ⌝ }
+    ensures { λ r. ⌜ stepped (now (table .exit)) (now (rows .exit)) r ≡ tagAt class depths (at .0) (now (room .entry)) (place .0) (now (table .entry)) from (now (rows .entry)) row (headBy class depths (drop (place .0) (now (room .entry)))) ⌝ }
 {
-    match headers::read_head(class, left, r, i) {
+    match headers::read_head(class, depths, room, place) {
         Head::Fault(why) => Step::Fault(why),
-        Head::Tag(code, len, size) => {
-            let start = i + size as usize;
+        Head::Tag(header) => {
+            let code = header.code;
+            let size = header.size;
+            let len = header.length;
+            let start = place.0 + size as usize;
             let stop = start + len as usize;
-            let place = a + i;
-            tags::show_row(8 - left, code, place as u32, size, len, g, m);
-            match tags::show_tag(class, code, &r[start..stop], t, k) {
-                Run::Stop(why, _) => Step::Fault(why),
-                Run::Done(next, j) => next_step(class, start + next.0 / 8, stop, j),
+            let tag = at.0 + place.0;
+            tags::show_row(8 - depths, code, BytePlace(tag), size, len, rows, row);
+            match tags::show_tag(class, code, &room[start..stop], table, from) {
+                Shown::Stop(why, _) => Step::Fault(why),
+                Shown::Done(next, behind) => {
+                    let list = start + next.0;
+                    next_step(class, BytePlace(list), BytePlace(stop), behind)
+                }
             }
         }
     }
 }
 
-// The list at place a, whose room is r; `left` depths may lie below it. Its numbers go to the table t from index k on, its rows to the tag table g
-// from index m on, where there is room. Where only lists are read, a body that has no list in it is taken as it stands: nothing in it is judged.
+// The list at place `at` of the file, with its room; `depths` may lie below it. Its numbers go to the table from index `from` on, its rows to the
+// tag table from index `row` on, where there is room. Where only lists are read, a body that has no list in it is taken as it stands: nothing in
+// it is judged.
 pub fn read_list(
-    reads: Reads,
+    scope: Scope,
     level: u32,
-    left: u32,
-    own: Owner,
-    a: usize,
-    r: &[u8],
-    t: &mut [u64],
-    k: usize,
-    g: &mut [u32],
-    m: usize,
+    depths: u32,
+    owner: Owner,
+    at: BytePlace,
+    room: &[u8],
+    table: &mut [u64],
+    from: usize,
+    rows: &mut [u32],
+    row: usize,
 ) -> Walked
-    requires { ⌜ Bounds left a (length (now r)) k m ⌝ }
-    ensures { λ x. ⌜ listed (now (t .exit)) (now (g .exit)) x ≡ laid (now (t .entry)) k (now (g .entry)) m (walkList high (classBy reads level) left (ownerOf own) a (now (r .entry))) ⌝ }
+    requires { ⌜ Bounds depths (at .0) (length (now room)) from row ⌝ }
+    ensures { λ r. ⌜ listed (now (table .exit)) (now (rows .exit)) r ≡ walkOver (now (table .entry)) from (now (rows .entry)) row (walkList high (classBy scope level) depths (ownerOf owner) (at .0) (now (room .entry))) ⌝ }
 {
     let classes = classes::all();
-    let n = r.len();
-    let mut i = 0;
-    let mut j = k;
-    let mut w = m;
-    while i < n {
-        let place = a + i;
-        let row = w + 5;
-        let code = headers::code_at(r, i);
+    let mut place = BytePlace(0);
+    let mut index = from;
+    let mut line = row;
+    while place.0 < room.len() {
+        let tag = at.0 + place.0;
+        let mine = line;
+        line += 5;
+        let code = headers::code_at(room, place);
         let listed = classes[(code / 32) as usize][(code % 32) as usize];
-        let class = classes::taken_as(reads, classes::at_level(level, code, listed));
-        match read_tag(class, left, a, r, i, t, j, g, w) {
-            Step::Fault(why) => {
-                return Walked::Fault(why, place);
+        let class = classes::taken_as(scope, classes::at_level(level, code, listed));
+        match read_tag(class, depths, at, room, place, table, index, rows, mine) {
+            Step::Fault(why) => return Walked::Fault(why, BytePlace(tag)),
+            Step::Last(stop, behind) => return last(owner, at, stop, room.len(), behind, line),
+            Step::Next(stop, behind) => {
+                place = stop;
+                index = behind;
             }
-            Step::Last(stop, next) => {
-                return last(own, a, stop, n, next, row);
-            }
-            Step::Next(stop, next) => {
-                i = stop;
-                j = next;
-                w = row;
-            }
-            Step::Open(list, stop, next) => {
-                let at = Owner::Inside(place);
-                let inner = &r[list..stop];
-                let x = read_list(reads, level, left - 1, at, a + list, inner, t, next, g, row);
-                let Walked::Next(j2, w2) = x else {
+            Step::Open(opened) => {
+                let own = Owner::Container(BytePlace(tag));
+                let less = depths - 1;
+                let first = opened.list.0;
+                let stop = opened.stop.0;
+                let start = at.0 + first;
+                let home = BytePlace(start);
+                let part = &room[first..stop];
+                let next = opened.behind;
+                let x = read_list(scope, level, less, own, home, part, table, next, rows, line);
+                let Walked::Next(behind, after) = x else {
                     return x;
                 };
-                i = stop;
-                j = j2;
-                w = w2;
+                place = opened.stop;
+                index = behind;
+                line = after;
             }
         }
     }
-    Walked::Fault(7, blame(own, a + n))
+    let over = at.0 + room.len();
+    Walked::Fault(7, blame(owner, BytePlace(over)))
 }

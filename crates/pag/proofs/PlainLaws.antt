@@ -8,6 +8,7 @@ use Rattle.format.specs.Reasons as paper
 use Rattle.format.specs.Reasons.{Writes, readFile, readTags, into}
 use Rattle.format.proofs.Promises.{writes-one}
 use Rattle.format.proofs.ReasonLaws.{read-reason, tags-reason, answer-reason}
+use Rattle.format.proofs.Absurd.{clash}
 use Rattle.answers.specs.Answers.{answerOf, leaves}
 use Rattle.answers.specs.declared.Answer.{Answer}
 use Rattle.answers.specs.declared.Answer.the-variants.{Accepted, Refused}
@@ -60,7 +61,7 @@ writes-named : (level : ℕ) (t m : List ℕ) (x : paper.Left) → Writes high l
 writes-named level t m x (paper.tooHigh h) e n q = let z : 1 ≡ e = cc in omega (arith, z)
 writes-named level t m x (paper.impossible h i) e n q = let z : 20 ≡ e = cc in omega (arith, z)
 writes-named level t m x (paper.tooShort f h i) e n q = let z : 21 ≡ e = cc in omega (arith, z)
-writes-named level t m x (paper.written f h i) e n q = absurd (let z : _≡_ {A = ℕ} 0 1 = cc in omega arith)
+writes-named level t m x (paper.written f h i) e n q = clash cc
 
 pub write-accepted : (level : ℕ) (t m : List ℕ) {m′ : List ℕ} {r : PagAnswer} (p : WritesPlain level t m m′ r) → r .reason ≡ 0 → p .0 .answer ≡ paper.accepted (r .number)
 write-accepted level t m p z =

@@ -21,11 +21,11 @@ fn print_input(file: &mut [u8]) {
         Input::Failed => {
             io::write_all(STDERR_FILENO, b"pag_list: standard input cannot be read\n");
         }
-        Input::Bytes(n) => {
-            if MOST < n {
+        Input::Bytes(count) => {
+            if MOST < count {
                 printing::print_too_long();
             } else {
-                print_file(&file[0..n]);
+                print_file(&file[0..count]);
             }
         }
     }

@@ -16,35 +16,35 @@ pub enum Input {
     Failed,
 }
 
-// One read, behind the first n bytes: how many bytes there are then.
-fn read_more(fd: i32, file: &mut [u8], n: usize) -> Input
-    requires { ⌜ n ≤ length (now file) ⌝ }
+// One read, behind the first `count` bytes: how many bytes there are then.
+fn read_more(fd: i32, file: &mut [u8], count: usize) -> Input
+    requires { ⌜ count ≤ length (now file) ⌝ }
     ensures { λ r. ⌜ Within r (length (now (file .entry))) ⌝ }
 {
-    let room = &mut file[n..];
+    let room = &mut file[count..];
     let got = libc::read(fd, room);
     if got < 0 {
         return Input::Failed;
     }
-    Input::Bytes(n + io::count(got, room))
+    Input::Bytes(count + io::count(got, room))
 }
 
 // Reads to the end of the input, which may arrive in pieces, or until the room is full.
 pub fn read_input(fd: i32, file: &mut [u8]) -> Input
     ensures { λ r. ⌜ Within r (length (now (file .entry))) ⌝ }
 {
-    let mut n = 0;
-    while n < file.len() {
-        let r = read_more(fd, file, n);
-        let Input::Bytes(m) = r else {
-            return r;
+    let mut count = 0;
+    while count < file.len() {
+        let input = read_more(fd, file, count);
+        let Input::Bytes(total) = input else {
+            return input;
         };
-        if m <= n {
-            return r;
+        if total <= count {
+            return input;
         }
-        n = m;
+        count = total;
     }
-    Input::Bytes(n)
+    Input::Bytes(count)
 }
 
 // Writes all of a text; if that fails it says so, and answers false.
@@ -56,35 +56,35 @@ pub fn write(text: &[u8]) -> bool {
     whole
 }
 
-// Writes the first n bytes of a line.
-fn write_line(line: &[u8; 64], n: usize)
-    requires { ⌜ n ≤ 64 ⌝ }
+// Writes the first `count` bytes of a line.
+fn write_line(line: &[u8; 64], count: usize)
+    requires { ⌜ count ≤ 64 ⌝ }
 {
     let text = &line[..];
-    write(&text[0..n]);
+    write(&text[0..count]);
 }
 
 fn print_refusal(reason: u32, number: u64) {
     let mut line = [0u8; 64];
-    let n = listing::put_refusal(reason, number, &mut line);
-    write_line(&line, n);
+    let count = listing::put_refusal(reason, number, &mut line);
+    write_line(&line, count);
 }
 
 pub fn print_too_long() {
     let mut line = [0u8; 64];
-    let n = listing::put_too_long(&mut line);
-    write_line(&line, n);
+    let count = listing::put_too_long(&mut line);
+    write_line(&line, count);
 }
 
-// The listing of a file of n bytes with these two tables, in parts through the lent buffer: a write for each.
-fn print_parts(n: u64, table: &[u64], rows: &[u32], out: &mut [u8]) {
-    let mut at = Cursor {
+// The listing of a file of `len` bytes with these two tables, in parts through the lent buffer: a write for each.
+fn print_parts(len: u64, table: &[u64], rows: &[u32], out: &mut [u8]) {
+    let mut cursor = Cursor {
         number: 0,
         row: 0,
         left: 0,
     };
-    while at.number < table.len() {
-        let part = listing::put_part(n, table, rows, at, out);
+    while cursor.number < table.len() {
+        let part = listing::put_part(len, table, rows, cursor, out);
         let used = part.used;
         if used == 0 {
             return;
@@ -92,13 +92,13 @@ fn print_parts(n: u64, table: &[u64], rows: &[u32], out: &mut [u8]) {
         if !write(&out[0..used]) {
             return;
         }
-        at = part.to;
+        cursor = part.to;
     }
 }
 
-fn print_listing(n: u64, table: &[u64], rows: &[u32]) {
+fn print_listing(len: u64, table: &[u64], rows: &[u32]) {
     let mut out = io::large_buffer();
-    print_parts(n, table, rows, &mut out);
+    print_parts(len, table, rows, &mut out);
 }
 
 // A file: its listing at a level, or the reason why it is refused. `tags` does not refuse what `read` accepts, if it is lent five numbers for
@@ -110,13 +110,13 @@ pub fn print_tables(level: u32, file: &[u8], table: &mut [u64], rows: &mut [u32]
     let tagged = reader::tags(level, file, rows);
     match reader::read(level, file, table) {
         Answer::Refused(reason, number) => print_refusal(reason, number),
-        Answer::Accepted(k) => match tagged {
+        Answer::Accepted(count) => match tagged {
             Answer::Refused(reason, number) => print_refusal(reason, number),
-            Answer::Accepted(m) => {
+            Answer::Accepted(row_count) => {
                 print_listing(
                     file.len() as u64,
-                    &table[0..k as usize],
-                    &rows[0..m as usize],
+                    &table[0..count as usize],
+                    &rows[0..row_count as usize],
                 );
             }
         },

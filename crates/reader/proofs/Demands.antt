@@ -1,126 +1,181 @@
 -- The demands, of the two public calls. A call is known by its promise alone: m is the memory lent to it, m′ what that holds afterwards, r its answer.
 use Prim.Native.Nat.{ℕ, _≤_}
-use mathlib.Core.List.{List, _∷_, _++_}
-use mathlib.Core.Path.{_≡_, refl, ap, sym, subst, _∙_}
-use mathlib.Core.Bool.{Bool, true, false}
+use mathlib.Core.List.{List, _∷_}
+use mathlib.Core.Path.{_≡_, refl, ap, sym, _∙_}
 use native.Mathlib.Omega.{arith}
-use lib.ListN.{length, take, drop}
-use lib.Seq.{take-at, drop-at}
-use lib.Dec.{leb}
-use borrow.Author.Tests.{leb-true}
-use Rattle.format.specs.Tests.{pick}
+use lib.ListN.{take}
 use Rattle.format.specs.Bits.{high}
-use Rattle.format.specs.FileAndTags.{compression, Outcome, whole, fault, Walk}
-use Rattle.format.specs.TableOfNumbers.{numbers, table, tagTable}
-use Rattle.format.specs.Reasons as paper
-use Rattle.format.specs.Reasons.{walkFile, Result, gives, refuses, result, readFile, readTags, Left, accepts, refusesWith, into}
+use Rattle.format.specs.FileAndTags.{compression, Tag, Outcome, whole, fault, Walk}
+use Rattle.format.specs.TableOfNumbers.{numbers, tagTable}
+use Rattle.format.specs.Reasons.{walkFile, Result, gives, refuses, result, readFile, readTags, into}
 use Rattle.format.specs.Levels.{Levels, Refuses, InHidden, alike, apart, hide}
 use Rattle.format.proofs.LevelLaws.{levels}
-use Rattle.answers.specs.Answers.{leaves}
+use Rattle.format.proofs.ReasonLaws.{IsReason, read-reason, tags-reason}
+use Rattle.format.proofs.CallLaws.{Filled, filled, Why, faulty, full, kept}
+use Rattle.format.proofs.Absurd.{clash}
+use Rattle.answers.specs.Answers.{answerOf, leaves}
 use Rattle.answers.specs.declared.Answer.{Answer}
 use Rattle.answers.specs.declared.Answer.the-variants.{Accepted, Refused}
-use Rattle.answers.proofs.AnswerLaws.{leaves-one}
+use Rattle.answers.proofs.AnswerLaws.{leaves-one, Shows, shows}
 
--- ---- the promises
-abbrev pub Reads : ℕ → List ℕ → List ℕ → List ℕ → Answer → Type 0
-Reads level f m m′ r = leaves m′ r ≡ into m (readFile high level f)
+-- ---- the two calls, and their promises
+pub data Call : Type 0 where
+  read tags : Call
 
-abbrev pub ReadsTags : ℕ → List ℕ → List ℕ → List ℕ → Answer → Type 0
-ReadsTags level f m m′ r = leaves m′ r ≡ into m (readTags high level f)
+-- what a file gives to each
+abbrev pub reading : Call → ℕ → List ℕ → Result
+reading read level f = readFile high level f
+reading tags level f = readTags high level f
 
--- ---- no second answer, and no second memory, fits
-pub read-one : (level : ℕ) (f m m′ m″ : List ℕ) (r s : Answer) → Reads level f m m′ r → Reads level f m m″ s → (m′ ≡ m″) × (r ≡ s)
-read-one level f m m′ m″ r s p q = leaves-one m′ m″ r s (p ∙ sym q)
+abbrev pub Promise : Call → ℕ → List ℕ → List ℕ → List ℕ → Answer → Type 0
+Promise x level f m m′ r = leaves m′ r ≡ into m (reading x level f)
 
-pub tags-one : (level : ℕ) (f m m′ m″ : List ℕ) (r s : Answer) → ReadsTags level f m m′ r → ReadsTags level f m m″ s → (m′ ≡ m″) × (r ≡ s)
-tags-one level f m m′ m″ r s p q = leaves-one m′ m″ r s (p ∙ sym q)
+module _ (x : Call) (level : ℕ) (f m m′ : List ℕ) where
+  -- ---- no second answer, and no second memory, fits
+  pub call-one : (m″ : List ℕ) (r s : Answer) → Promise x level f m m′ r → Promise x level f m m″ s → (m′ ≡ m″) × (r ≡ s)
+  call-one m″ r s p q = leaves-one m′ m″ r s (p ∙ sym q)
 
--- a refusal is no acceptance
-other : {e n k : ℕ} → paper.refused e n ≡ paper.accepted k → ⊥
-other a = let z : _≡_ {A = ℕ} 0 1 = cc in omega arith
+  -- ---- demand 1: a refusal writes nothing
+  pub refusal-keeps : {e n : ℕ} → Promise x level f m m′ (Refused e n) → m′ ≡ m
+  refusal-keeps p = kept m (reading x level f) p refl .keeps
 
--- ---- demand 1: a refusal writes nothing. Demand 2: an acceptance gives exactly the numbers that are defined, and the memory past them stays
-module _ (m m′ : List ℕ) (R : Result) where
-  pub refusal-keeps : (e n : ℕ) → leaves m′ (Refused e n) ≡ into m R → m′ ≡ m
-  refusal-keeps e n p = go R p
+  -- ---- demand 2: an acceptance gives exactly the numbers that are defined, and the memory past them stays
+  pub acceptance-fills : {n : ℕ} → Promise x level f m m′ (Accepted n) → Filled m m′ (reading x level f) n
+  acceptance-fills p = filled m (reading x level f) p refl
+
+-- ---- demand 3: a lower level shows the same as a higher one, except that each outermost tag above it stands opaque; their refusals agree, but for
+-- places at or inside such tags. (19 is no refusal of the file: it is about the room, of which each call has its own.)
+
+-- a call that was made at a level of the file f, either of the two: the memory lent to it before and after, its answer, and its promise
+pub record Called (level : ℕ) (f : List ℕ) : Type 0 where
+  pub call : Call
+  pub before : List ℕ
+  pub after : List ℕ
+  pub answer : Answer
+  pub promise : Promise call level f before after answer
+
+-- it read the file: it accepted, or had no room
+abbrev pub WasRead : Answer → Type 0
+WasRead (Accepted n) = Unit {0}
+WasRead (Refused e n) = e ≡ 19
+
+-- it refused the file, with this reason and number
+pub record WasRefused (e n : ℕ) (r : Answer) : Type 0 where
+  pub refused : r ≡ Refused e n
+  pub not-room : e ≡ 19 → ⊥
+
+-- what it shows of tags: `read` the table of numbers, `tags` the tag table
+abbrev pub shown : Call → List ℕ → List Tag → List ℕ
+shown read f ts = compression f ∷ numbers ts
+shown tags f ts = tagTable ts
+
+-- ts are the tags that the file has at its level; and if it accepted, what stands in front is what it shows of them
+pub record TagsOf {level : ℕ} {f : List ℕ} (C : Called level f) (ts : List Tag) : Type 0 where
+  pub walked : ts ≡ walkFile high level f .tags
+  pub in-front : (n : ℕ) → C .answer ≡ Accepted n → take n (C .after) ≡ shown (C .call) f ts
+
+-- ---- from its answer to the walk and back
+module _ {level : ℕ} {f : List ℕ} (C : Called level f) where
+  abbrev w : Walk
+  w = walkFile high level f
+
+  abbrev R : Result
+  R = reading (C .call) level f
+
+  reading-is : R ≡ result (shown (C .call) f (w .tags)) (w .ended)
+  unfolding readFile readTags
+  reading-is = go (C .call)
     where
-      room : (ns : List ℕ) (c : Bool) → leaves m′ (Refused e n) ≡ pick c (accepts m ns) (refusesWith m 19 (length ns)) → m′ ≡ m
-      room ns true p = absurd (other (ap (λ (l : Left). l .answer) p))
-      room ns false p = ap (λ (l : Left). l .lent) p
+      go : (x : Call) → reading x level f ≡ result (shown x f (w .tags)) (w .ended)
+      go read = refl
+      go tags = refl
 
-      go : (R : Result) → leaves m′ (Refused e n) ≡ into m R → m′ ≡ m
-      go (gives ns) p = room ns (leb (length ns) (length m)) p
-      go (refuses e′ n′) p = ap (λ (l : Left). l .lent) p
-
-  pub acceptance-fills : (n : ℕ) → leaves m′ (Accepted n) ≡ into m R → (R ≡ gives (take n m′)) × (drop n m′ ≡ drop n m) × (n ≤ length m)
-  acceptance-fills n p = go R p
+  reason-is : {e n : ℕ} → R ≡ refuses e n → IsReason e
+  reason-is {e} {n} = go (C .call)
     where
-      room : (ns : List ℕ) (c : Bool) → leb (length ns) (length m) ≡ c → leaves m′ (Accepted n) ≡ pick c (accepts m ns) (refusesWith m 19 (length ns))
-          → (gives ns ≡ gives (take n m′)) × (drop n m′ ≡ drop n m) × (n ≤ length m)
-      room ns false e p = absurd (other (sym (ap (λ (l : Left). l .answer) p)))
-      room ns true e p =
-          let a : paper.accepted n ≡ paper.accepted (length ns) = ap (λ (l : Left). l .answer) p in
-          let k : n ≡ length ns = cc in
-          let l : m′ ≡ ns ++ drop (length ns) m = ap (λ (l : Left). l .lent) p in (
-            ap gives (sym (ap (take n) l ∙ take-at ns (drop (length ns) m) n (sym k))),
-            ap (drop n) l ∙ drop-at ns (drop (length ns) m) n (sym k) ∙ ap (λ (i : ℕ). drop i m) (sym k),
-            omega (arith, leb-true (length ns) (length m) e),
-          )
+      go : (x : Call) → reading x level f ≡ refuses e n → IsReason e
+      go read q = read-reason high level f q
+      go tags q = tags-reason high level f q
 
-      go : (R : Result) → leaves m′ (Accepted n) ≡ into m R → (R ≡ gives (take n m′)) × (drop n m′ ≡ drop n m) × (n ≤ length m)
-      go (gives ns) p = room ns (leb (length ns) (length m)) refl p
-      go (refuses e′ n′) p = absurd (other (sym (ap (λ (l : Left). l .answer) p)))
+  gives-whole : {ns : List ℕ} → R ≡ gives ns → (w .ended ≡ whole) × (ns ≡ shown (C .call) f (w .tags))
+  gives-whole {ns} q = go (w .ended) (sym reading-is ∙ q)
+    where
+      go : (z : Outcome) → result (shown (C .call) f (w .tags)) z ≡ gives ns → (z ≡ whole) × (ns ≡ shown (C .call) f (w .tags))
+      go whole q = (refl, cc)
+      go (fault e n) q = clash cc
 
--- ---- demand 3: two calls at levels lo ≤ hi, each with its own room
-module _ (lo hi : ℕ) (f : List ℕ) (below : lo ≤ hi) (known : hi ≤ 1023) where
-  abbrev H : Walk
-  H = walkFile high hi f
+  was-read : WasRead (C .answer) → w .ended ≡ whole
+  was-read h = go (C .answer) h (C .promise)
+    where
+      why : {e n : ℕ} → e ≡ 19 → (S : Result) → R ≡ S → Why (C .before) e n S → w .ended ≡ whole
+      why h S q faulty = absurd (omega (arith, h, reason-is q))
+      why h S q (full a b c) = gives-whole q .0
 
-  abbrev L : Walk
-  L = walkFile high lo f
+      go : (r : Answer) → WasRead r → Promise (C .call) level f (C .before) (C .after) r → w .ended ≡ whole
+      go (Accepted n) h p = gives-whole (filled (C .before) R p refl .shows) .0
+      go (Refused e n) h p = why h R refl (kept (C .before) R p refl .why)
 
+  was-refused : {e n : ℕ} → WasRefused e n (C .answer) → w .ended ≡ fault e n
+  was-refused {e} {n} h = why R refl (kept (C .before) R (C .promise) (ap answerOf (h .refused)) .why)
+    where
+      out : (z : Outcome) → result (shown (C .call) f (w .tags)) z ≡ refuses e n → z ≡ fault e n
+      out whole q = clash cc
+      out (fault e′ n′) q = cc
+
+      why : (S : Result) → R ≡ S → Why (C .before) e n S → w .ended ≡ fault e n
+      why S q faulty = out (w .ended) (sym reading-is ∙ q)
+      why S q (full a b c) = absurd (h .not-room a)
+
+  refuses-so : {e n : ℕ} → w .ended ≡ fault e n → WasRefused e n (C .answer)
+  refuses-so {e} {n} q =
+      let d : R ≡ refuses e n = reading-is ∙ ap (result (shown (C .call) f (w .tags))) q in
+      record { refused = leaves-one (C .after) (C .before) (C .answer) (Refused e n) (C .promise ∙ ap (into (C .before)) d) .1; not-room = λ h. omega (arith, h, reason-is d) }
+
+  tags-of : TagsOf C (w .tags)
+  tags-of = record { walked = refl; in-front = λ n e. gives-whole (filled (C .before) R (C .promise) (ap answerOf e) .shows) .1 }
+
+-- ---- two calls of one file, L at the lower level and H at the higher, each with its own room
+
+-- (a) there are tags, those of the higher call, and the lower shows the same tags with each outermost one above its level opaque and what is inside
+-- it left out: in front of its memory if there is room, else 19 with how many numbers there are
+pub record SameButHidden {lo hi : ℕ} {f : List ℕ} (L : Called lo f) (H : Called hi f) : Type 0 where
+  pub ts : List Tag
+  pub higher : TagsOf H ts
+  pub lower : Shows (shown (L .call) f (hide lo f ts)) (L .before) (L .after) (L .answer)
+
+-- (b) where the lower refuses the file with e and n, the higher refuses it: with the same reason and number, or with a number at or inside a tag above
+-- the lower level, one of those that the lower passed
+pub data Agrees {hi : ℕ} {f : List ℕ} (lo e n : ℕ) (H : Called hi f) : Type 0 where
+  same : WasRefused e n (H .answer) → Agrees lo e n H
+  hidden : {e′ n′ : ℕ} → WasRefused e′ n′ (H .answer) → InHidden lo n′ (walkFile high lo f .tags) → Agrees lo e n H
+
+-- (c) there are tags, those of the lower call, and place n is at or inside one above its level
+pub record InHiddenOf {lo : ℕ} {f : List ℕ} (L : Called lo f) (n : ℕ) : Type 0 where
+  pub ts : List Tag
+  pub lower : TagsOf L ts
+  pub inside : InHidden lo n ts
+
+module _ (lo hi : ℕ) (f : List ℕ) (below : lo ≤ hi) (known : hi ≤ 1023) (L : Called lo f) (H : Called hi f) where
   law : Levels high lo hi f
   law = levels high lo hi f below known
 
-  -- where the higher level reads the file, the lower shows the same, with each outermost tag above it opaque
-  pub lower-shows : (m : List ℕ) {m′ : List ℕ} (r : Answer) → H .ended ≡ whole → Reads lo f m m′ r → leaves m′ r ≡ into m (gives (compression f ∷ numbers (hide lo f (H .tags))))
-  unfolding readFile
-  lower-shows m r e p = p ∙ ap (λ (w : Walk). into m (result (table f w) (w .ended))) (law .accepted e)
+  -- where the higher reads the file, the lower does, and shows the same but for what is hidden
+  pub lower-accepts : WasRead (H .answer) → SameButHidden L H
+  lower-accepts h = record {
+    ts = walkFile high hi f .tags;
+    higher = tags-of H;
+    lower = shows (shown (L .call) f (hide lo f (walkFile high hi f .tags))) (L .before) (L .answer)
+        (L .promise ∙ ap (into (L .before)) (reading-is L ∙ ap (λ (w : Walk). result (shown (L .call) f (w .tags)) (w .ended)) (law .accepted (was-read H h))));
+  }
 
-  pub lower-rows : (m : List ℕ) {m′ : List ℕ} (r : Answer) → H .ended ≡ whole → ReadsTags lo f m m′ r → leaves m′ r ≡ into m (gives (tagTable (hide lo f (H .tags))))
-  unfolding readTags
-  lower-rows m r e p = p ∙ ap (λ (w : Walk). into m (result (tagTable (w .tags)) (w .ended))) (law .accepted e)
-
-  -- where the lower level refuses the file, the higher refuses it: alike, or with a place at or inside a tag above the lower level
-  pub data Agrees (e n : ℕ) : Answer → Type 0 where
-    same : Agrees e n (Refused e n)
-    hidden : {e′ n′ : ℕ} → InHidden lo n′ (L .tags) → Agrees e n (Refused e′ n′)
-
-  -- a refusal other than 19 is the walk's
-  refused-by : (level : ℕ) (m : List ℕ) {m′ : List ℕ} {e n : ℕ} → (e ≡ 19 → ⊥) → Reads level f m m′ (Refused e n) → walkFile high level f .ended ≡ fault e n
-  unfolding readFile
-  refused-by level m {m′} {e} {n} h p = go (walkFile high level f .ended) p
+  -- where the lower refuses the file, the higher does
+  pub lower-refuses : {e n : ℕ} → WasRefused e n (L .answer) → Agrees lo e n H
+  lower-refuses {e} {n} h = go (walkFile high hi f .ended) (law .refused e n (was-refused L h)) refl
     where
-      room : (ns : List ℕ) (c : Bool) → leaves m′ (Refused e n) ≡ pick c (accepts m ns) (refusesWith m 19 (length ns)) → ⊥
-      room ns true p = other (ap (λ (l : Left). l .answer) p)
-      room ns false p = let a : paper.refused e n ≡ paper.refused 19 (length ns) = ap (λ (l : Left). l .answer) p in h cc
+      go : (z : Outcome) → Refuses lo (walkFile high lo f .tags) e n z → walkFile high hi f .ended ≡ z → Agrees lo e n H
+      go z alike u = same (refuses-so H u)
+      go z (apart i) u = hidden (refuses-so H u) i
 
-      go : (z : Outcome) → leaves m′ (Refused e n) ≡ into m (result (table f (walkFile high level f)) z) → z ≡ fault e n
-      go whole p = absurd (room (table f (walkFile high level f)) (leb (length (table f (walkFile high level f))) (length m)) p)
-      go (fault e′ n′) p = let a : paper.refused e n ≡ paper.refused e′ n′ = ap (λ (l : Left). l .answer) p in cc
-
-  refuses-so : (level : ℕ) (m : List ℕ) {m′ : List ℕ} (r : Answer) {e n : ℕ} → walkFile high level f .ended ≡ fault e n → Reads level f m m′ r → r ≡ Refused e n
-  unfolding readFile
-  refuses-so level m {m′} r {e} {n} q p =
-      leaves-one m′ m r (Refused e n) (p ∙ ap (λ (z : Outcome). into m (result (table f (walkFile high level f)) z)) q) .1
-
-  pub refusals-agree : (m k : List ℕ) {m′ k′ : List ℕ} {e n : ℕ} (s : Answer) → (e ≡ 19 → ⊥) → Reads lo f m m′ (Refused e n) → Reads hi f k k′ s → Agrees e n s
-  refusals-agree m k {e = e} {n = n} s h p q = go (H .ended) (law .refused e n (refused-by lo m h p)) refl
-    where
-      go : (z : Outcome) → Refuses lo (L .tags) e n z → H .ended ≡ z → Agrees e n s
-      go z alike u = subst (λ (x : Answer). Agrees e n x) (sym (refuses-so hi k s u q)) same
-      go z (apart i) u = subst (λ (x : Answer). Agrees e n x) (sym (refuses-so hi k s u q)) (hidden i)
-
-  -- where only the higher level refuses it, its place is at or inside a tag above the lower level
-  pub higher-alone : (k : List ℕ) {k′ : List ℕ} {e n : ℕ} → L .ended ≡ whole → (e ≡ 19 → ⊥) → Reads hi f k k′ (Refused e n) → InHidden lo n (L .tags)
-  higher-alone k {e = e} {n = n} w h q = law .only e n w (refused-by hi k h q)
+  -- where only the higher refuses the file, it does so at or inside a tag that the lower shows opaque
+  pub higher-alone : {e n : ℕ} → WasRead (L .answer) → WasRefused e n (H .answer) → InHiddenOf L n
+  higher-alone {e} {n} a h = record { ts = walkFile high lo f .tags; lower = tags-of L; inside = law .only e n (was-read L a) (was-refused H h) }

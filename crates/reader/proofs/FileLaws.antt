@@ -2,25 +2,26 @@
 use Prim.Native.Nat.{ℕ, _+_, _*_, _≤_, _<_}
 use mathlib.Core.List.{List, _++_}
 use mathlib.Core.Path.{_≡_, refl, ap, sym, _∙_}
-use mathlib.Core.Bool.{Bool, true, false}
 use native.Mathlib.Nat.{zero-add}
 use native.Mathlib.Omega.{arith}
 use lib.ListN.{length, getD, drop, set, length-set}
 use lib.Seq.{sets, sets-eq, length-sets}
-use lib.Dec.{ltb, leb, eqb}
-use borrow.Author.Tests.{lt-ltb, le-ltb, lt-leb, le-leb, leb-true, eq-eqb, ne-eqb, eqb-true}
+use lib.Dec.{leb, eqb}
+use borrow.Author.Tests.{lt-ltb, le-ltb, lt-leb, le-leb, eq-eqb, ne-eqb}
 use Rattle.format.specs.Tests.{pick, _and_}
 use Rattle.format.specs.Bits.{high}
-use Rattle.format.specs.FileAndTags.{le32, signatureRight, versionRight, classOf, Outcome, whole, fault, Walk, broken, file, walkList}
+use Rattle.format.specs.FileAndTags.{le32, versionRight, lengthRight, classOf, Outcome, whole, fault, Walk, file, walkList}
 use Rattle.format.specs.TableOfNumbers.{numbers, table, tagTable}
 use Rattle.format.specs.Reasons.{startFault, walkFile, gives, refuses, result, readFile, readTags, into}
-use Rattle.format.proofs.LevelLaws.{long-file}
+use Rattle.format.proofs.StartLaws.{good-start, whole-start}
+use Rattle.format.proofs.Absurd.{clash}
 use Rattle.answers.specs.Answers.{leaves}
 use Rattle.answers.specs.declared.Answer.the-variants.{Accepted, Refused}
 use Rattle.classes.specs.Classes.{classBy}
-use Rattle.classes.specs.declared.Reads.{Reads}
-use Rattle.classes.specs.declared.Reads.the-variants.{Lists}
-use Rattle.lists.specs.Lists.{Listed, listed, walkedOf, laid, Bounds}
+use Rattle.classes.specs.declared.Scope.{Scope}
+use Rattle.classes.specs.declared.Scope.the-variants.{Lists}
+use Rattle.bits.specs.declared.BytePlace.{BytePlace}
+use Rattle.lists.specs.Lists.{byteAt, Listed, listed, walkedOf, walkOver, Bounds}
 use Rattle.lists.specs.declared.Walked.{Walked}
 use Rattle.lists.specs.declared.Walked.the-variants.{Next, Fault}
 use Rattle.lists.proofs.ListLaws.{piece, piece-rest, length-piece}
@@ -38,61 +39,63 @@ module _ (level : ℕ) (f : List ℕ) where
     unfolding startFault
     start-2 h = rw (le-ltb 1023 level known, lt-ltb (length f) 9 h)
 
-    -- the numbers that the code looks at
-    module _ (long : 9 ≤ length f) {a b c : ℕ} (a-is : a ≡ getD f 0 0) (b-is : b ≡ getD f 1 0) (c-is : c ≡ getD f 2 0) where
-      pub start-3 : (a + 256 * b + 65536 * c ≡ 0x474150 → ⊥) → 3 ≡ startFault level f
+    -- the numbers that the code looks at, one after the other
+    module _ (long : 9 ≤ length f) {a : ℕ} (a-is : a ≡ getD f 0 0) where
+      pub start-3-first : (a ≡ 0x50 → ⊥) → 3 ≡ startFault level f
       unfolding startFault
-      start-3 h = rw (le-ltb 1023 level known, le-ltb (length f) 9 long, ← a-is, ← b-is, ← c-is, ne-eqb (a + 256 * b + 65536 * c) 0x474150 h)
+      start-3-first h = rw (le-ltb 1023 level known, le-ltb (length f) 9 long, ← a-is, ne-eqb a 0x50 h)
 
-      module _ (signed : a + 256 * b + 65536 * c ≡ 0x474150) {v : ℕ} (v-is : v ≡ getD f 3 0) where
-        pub start-4 : (v ≡ 1 → ⊥) → 4 ≡ startFault level f
+      module _ (p-is : a ≡ 0x50) {b : ℕ} (b-is : b ≡ getD f 1 0) where
+        pub start-3-second : (b ≡ 0x41 → ⊥) → 3 ≡ startFault level f
         unfolding startFault
-        start-4 h = rw (le-ltb 1023 level known, le-ltb (length f) 9 long, ← a-is, ← b-is, ← c-is, eq-eqb (a + 256 * b + 65536 * c) 0x474150 signed, ← v-is, ne-eqb v 1 h)
+        start-3-second h = rw (le-ltb 1023 level known, le-ltb (length f) 9 long, ← a-is, eq-eqb a 0x50 p-is, ← b-is, ne-eqb b 0x41 h)
 
-        module _ (first : v ≡ 1) {n : ℕ} (n-is : n ≡ le32 (drop 4 f)) where
-          start-5-or-0 : pick (eqb n (length f) and leb (length f) 16777216) 0 5 ≡ startFault level f
+        module _ (q-is : b ≡ 0x41) {c : ℕ} (c-is : c ≡ getD f 2 0) where
+          -- the signature is judged
+          signed : pick (eqb c 0x47) (pick (versionRight f) (pick (lengthRight f) 0 5) 4) 3 ≡ startFault level f
           unfolding startFault
-          start-5-or-0 = rw (le-ltb 1023 level known, le-ltb (length f) 9 long, ← a-is, ← b-is, ← c-is, eq-eqb (a + 256 * b + 65536 * c) 0x474150 signed, ← v-is, eq-eqb v 1 first, ← n-is)
+          signed = rw (le-ltb 1023 level known, le-ltb (length f) 9 long, ← a-is, eq-eqb a 0x50 p-is, ← b-is, eq-eqb b 0x41 q-is, ← c-is)
 
-          pub start-5 : (n ≡ length f → ⊥) → 5 ≡ startFault level f
-          start-5 h = rw (ne-eqb n (length f) h) at start-5-or-0
+          pub start-3 : (c ≡ 0x47 → ⊥) → 3 ≡ startFault level f
+          start-3 h = rw (ne-eqb c 0x47 h) at signed
 
-          pub start-5-long : n ≡ length f → 16777216 < length f → 5 ≡ startFault level f
-          start-5-long e h = rw (eq-eqb n (length f) e, lt-leb (length f) 16777216 h) at start-5-or-0
+          module _ (g-is : c ≡ 0x47) {v : ℕ} (v-is : v ≡ getD f 3 0) where
+            pub start-4 : (v ≡ 1 → ⊥) → 4 ≡ startFault level f
+            start-4 h = rw (eq-eqb c 0x47 g-is, ← v-is, ne-eqb v 1 h) at signed
 
-          pub start-0 : n ≡ length f → length f ≤ 16777216 → 0 ≡ startFault level f
-          start-0 e h = rw (eq-eqb n (length f) e, le-leb (length f) 16777216 h) at start-5-or-0
+            module _ (first : v ≡ 1) {n : ℕ} (n-is : n ≡ le32 (drop 4 f)) where
+              start-5-or-0 : pick (eqb n (length f) and leb (length f) 16777216) 0 5 ≡ startFault level f
+              start-5-or-0 = rw (eq-eqb c 0x47 g-is, ← v-is, eq-eqb v 1 first, ← n-is) at signed
 
-  -- a file that passes them
+              pub start-5 : (n ≡ length f → ⊥) → 5 ≡ startFault level f
+              start-5 h = rw (ne-eqb n (length f) h) at start-5-or-0
+
+              pub start-5-long : n ≡ length f → 16777216 < length f → 5 ≡ startFault level f
+              start-5-long e h = rw (eq-eqb n (length f) e, lt-leb (length f) 16777216 h) at start-5-or-0
+
+              pub start-0 : n ≡ length f → length f ≤ 16777216 → 0 ≡ startFault level f
+              start-0 e h = rw (eq-eqb n (length f) e, le-leb (length f) 16777216 h) at start-5-or-0
+
+  -- a file that passes them: what `read_tags` requires of it
   pub fair-file : startFault level f ≡ 0 → (9 ≤ length f) × (length f ≤ 16777216)
-  unfolding startFault
-  fair-file e = (long-file level f e, short (ltb 1023 level) (ltb (length f) 9) (signatureRight f) (versionRight f) (eqb (le32 (drop 4 f)) (length f)) (leb (length f) 16777216) refl e)
-    where
-      short : (a b c d n m : Bool) → leb (length f) 16777216 ≡ m → _≡_ {A = ℕ} (pick a 1 (pick b 2 (pick c (pick d (pick (n and m) 0 5) 4) 3))) 0 → length f ≤ 16777216
-      short true b c d n m h e = absurd (omega arith)
-      short false true c d n m h e = absurd (omega arith)
-      short false false false d n m h e = absurd (omega arith)
-      short false false true false n m h e = absurd (omega arith)
-      short false false true true false m h e = absurd (omega arith)
-      short false false true true true false h e = absurd (omega arith)
-      short false false true true true true h e = leb-true (length f) 16777216 h
+  fair-file e = let s = good-start level f e in (s .long, s .limit)
 
   walk-is : startFault level f ≡ 0 → walkFile high level f ≡ walkList high (classOf level) 8 file 9 (drop 9 f)
   unfolding walkFile
   walk-is e = rw (eq-eqb (startFault level f) 0 e)
 
   -- ---- the run that counts
-  pub survey-start : {e : ℕ} → e ≡ startFault level f → (e ≡ 0 → ⊥) → Fault e 0 ≡ surveyed (walkFile high level f)
+  pub survey-start : {e : ℕ} → e ≡ startFault level f → (e ≡ 0 → ⊥) → Fault e (byteAt 0) ≡ surveyed (walkFile high level f)
   unfolding walkFile
   survey-start {e} q h = rw (← q, ne-eqb e 0 h)
 
   pub tags-bounds : 9 ≤ length f → length f ≤ 16777216 → Bounds 8 9 (length (piece 9 (length f) f)) 1 0
   tags-bounds l h = record { depth = omega arith; place = omega (arith, length-piece 9 (length f) f (omega arith)); index = omega arith; row = omega arith }
 
-  pub tags-read : (reads : Reads) (t g : List ℕ) {x : Listed} → x ≡ laid t 1 g 0 (walkList high (classBy reads level) 8 file 9 (piece 9 (length f) f)) → x ≡ laid t 1 g 0 (walkList high (classBy reads level) 8 file 9 (drop 9 f))
-  tags-read reads t g e = e ∙ ap (λ (r : List ℕ). laid t 1 g 0 (walkList high (classBy reads level) 8 file 9 r)) (piece-rest 9 f)
+  pub tags-read : (scope : Scope) (t g : List ℕ) {x : Listed} → x ≡ walkOver t 1 g 0 (walkList high (classBy scope level) 8 file 9 (piece 9 (length f) f)) → x ≡ walkOver t 1 g 0 (walkList high (classBy scope level) 8 file 9 (drop 9 f))
+  tags-read scope t g e = e ∙ ap (λ (r : List ℕ). walkOver t 1 g 0 (walkList high (classBy scope level) 8 file 9 r)) (piece-rest 9 f)
 
-  pub survey-walk : (t g : List ℕ) {t′ g′ : List ℕ} {x : Walked} → startFault level f ≡ 0 → listed t′ g′ x ≡ laid t 1 g 0 (walkList high (classOf level) 8 file 9 (drop 9 f)) → x ≡ surveyed (walkFile high level f)
+  pub survey-walk : (t g : List ℕ) {t′ g′ : List ℕ} {x : Walked} → startFault level f ≡ 0 → listed t′ g′ x ≡ walkOver t 1 g 0 (walkList high (classOf level) 8 file 9 (drop 9 f)) → x ≡ surveyed (walkFile high level f)
   survey-walk t g z e = ap (λ (l : Listed). l .answer) e ∙ rw (zero-add, walk-is z)
 
   -- ---- what it tells
@@ -100,10 +103,10 @@ module _ (level : ℕ) (f : List ℕ) where
   w = walkFile high level f
 
   -- it found a refusal
-  pub survey-refused : {e n : ℕ} → Fault e n ≡ surveyed w → (ns : List ℕ) → refuses e n ≡ result ns (w .ended)
+  pub survey-refused : {e : ℕ} {n : BytePlace} → Fault e n ≡ surveyed w → (ns : List ℕ) → refuses e (n .0) ≡ result ns (w .ended)
   survey-refused {e} {n} q ns = go (w .ended) q
     where
-      go : (z : Outcome) → Fault e n ≡ walkedOf (1 + length (numbers (w .tags))) (length (tagTable (w .tags))) z → refuses e n ≡ result ns z
+      go : (z : Outcome) → Fault e n ≡ walkedOf (1 + length (numbers (w .tags))) (length (tagTable (w .tags))) z → refuses e (n .0) ≡ result ns z
       go whole q = cc
       go (fault e′ n′) q = cc
 
@@ -115,16 +118,13 @@ module _ (level : ℕ) (f : List ℕ) where
     pub start : startFault level f ≡ 0
 
   pub survey-found : {k m : ℕ} → Next k m ≡ surveyed w → Found k m
-  unfolding walkFile
-  survey-found {k} {m} q = record { ended = go (w .ended) q .0; numbers-are = go (w .ended) q .1; rows-are = go (w .ended) q .2; start = from (eqb (startFault level f) 0) refl q }
+  survey-found {k} {m} q =
+      let u : (w .ended ≡ whole) × (k ≡ length (table f w)) × (m ≡ length (tagTable (w .tags))) = go (w .ended) q in
+      record { ended = u .0; numbers-are = u .1; rows-are = u .2; start = whole-start level f high (u .0) }
     where
       go : (z : Outcome) → Next k m ≡ walkedOf (1 + length (numbers (w .tags))) (length (tagTable (w .tags))) z → (z ≡ whole) × (k ≡ length (table f w)) × (m ≡ length (tagTable (w .tags)))
       go whole q = (refl, (let z : k ≡ 1 + length (numbers (w .tags)) = cc in omega arith), cc)
-      go (fault e n) q = absurd (let z : _≡_ {A = ℕ} 0 1 = cc in omega arith)
-
-      from : (c : Bool) → eqb (startFault level f) 0 ≡ c → Next k m ≡ surveyed (pick c (walkList high (classOf level) 8 file 9 (drop 9 f)) (broken (startFault level f) 0)) → startFault level f ≡ 0
-      from true e q = eqb-true (startFault level f) 0 e
-      from false e q = absurd (let z : _≡_ {A = ℕ} 0 1 = cc in omega arith)
+      go (fault e n) q = clash cc
 
 -- ---- what a call leaves: the lent memory m, and the numbers ns for it
 module _ (m ns : List ℕ) where
@@ -140,7 +140,7 @@ module _ (m ns : List ℕ) where
 
 module _ (level : ℕ) (f m : List ℕ) where
   -- ---- `read`
-  pub read-refused : {e n : ℕ} → Fault e n ≡ surveyed (walkFile high level f) → leaves m (Refused e n) ≡ into m (readFile high level f)
+  pub read-refused : {e : ℕ} {n : BytePlace} → Fault e n ≡ surveyed (walkFile high level f) → leaves m (Refused e (n .0)) ≡ into m (readFile high level f)
   unfolding readFile
   read-refused q = ap (into m) (survey-refused level f q (table f (walkFile high level f)))
 
@@ -153,18 +153,18 @@ module _ (level : ℕ) (f m : List ℕ) where
 
   -- the compression byte c was stored first
   pub read-done : {k j c : ℕ} (g : List ℕ) {t g′ : List ℕ} {x : Walked} → Next k j ≡ surveyed (walkFile high level f) → k ≤ length m → c ≡ getD f 8 0
-      → listed t g′ x ≡ laid (set m 0 c) 1 g 0 (walkList high (classOf level) 8 file 9 (drop 9 f)) → leaves t (Accepted k) ≡ into m (readFile high level f)
+      → listed t g′ x ≡ walkOver (set m 0 c) 1 g 0 (walkList high (classOf level) 8 file 9 (drop 9 f)) → leaves t (Accepted k) ≡ into m (readFile high level f)
   read-done g q h e d =
       let u : Found level f _ _ = survey-found level f q in
       laid-in m (table f (walkFile high level f)) (u .numbers-are) h (ap (λ (l : Listed). l .table) d ∙ rw (e, walk-is level f (u .start))) ∙ ap (into m) (sym (read-is u))
 
   -- the lent memory keeps its length
-  pub read-size : {c : ℕ} (g : List ℕ) {t g′ : List ℕ} {x : Walked} → c ≡ getD f 8 0 → listed t g′ x ≡ laid (set m 0 c) 1 g 0 (walkList high (classOf level) 8 file 9 (drop 9 f)) → length t ≡ length m
+  pub read-size : {c : ℕ} (g : List ℕ) {t g′ : List ℕ} {x : Walked} → c ≡ getD f 8 0 → listed t g′ x ≡ walkOver (set m 0 c) 1 g 0 (walkList high (classOf level) 8 file 9 (drop 9 f)) → length t ≡ length m
   read-size {c} g h e =
       ap (λ (l : Listed). length (l .table)) e ∙ length-sets (set m 0 c) 1 (numbers (walkList high (classOf level) 8 file 9 (drop 9 f) .tags)) ∙ length-set m 0 c
 
   -- ---- `tags`
-  pub tags-refused : {e n : ℕ} → Fault e n ≡ surveyed (walkFile high level f) → leaves m (Refused e n) ≡ into m (readTags high level f)
+  pub tags-refused : {e : ℕ} {n : BytePlace} → Fault e n ≡ surveyed (walkFile high level f) → leaves m (Refused e (n .0)) ≡ into m (readTags high level f)
   unfolding readTags
   tags-refused q = ap (into m) (survey-refused level f q (tagTable (walkFile high level f .tags)))
 
@@ -177,7 +177,7 @@ module _ (level : ℕ) (f m : List ℕ) where
 
   -- the run that fills read the lists alone
   pub tags-done : {k j : ℕ} (t : List ℕ) {t′ g : List ℕ} {x : Walked} → Next k j ≡ surveyed (walkFile high level f) → j ≤ length m
-      → listed t′ g x ≡ laid t 1 m 0 (walkList high (classBy Lists level) 8 file 9 (drop 9 f)) → leaves g (Accepted j) ≡ into m (readTags high level f)
+      → listed t′ g x ≡ walkOver t 1 m 0 (walkList high (classBy Lists level) 8 file 9 (drop 9 f)) → leaves g (Accepted j) ≡ into m (readTags high level f)
   tags-done t q h d =
       let u : Found level f _ _ = survey-found level f q in
       let e : walkList high (classOf level) 8 file 9 (drop 9 f) .ended ≡ whole = ap (λ (w : Walk). w .ended) (sym (walk-is level f (u .start))) ∙ u .ended in

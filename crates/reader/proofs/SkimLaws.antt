@@ -1,18 +1,18 @@
 -- A walk of the lists alone, with every other body opaque, gives the tag table of the walk that reads all, where that accepts: `skim-rows`.
-use Prim.Native.Nat.{ℕ, zero, suc, pred, _+_, _-_, _/_}
+use Prim.Native.Nat.{ℕ, zero, suc, pred, _+_, _-_}
 use mathlib.Core.List.{List, [], _∷_, _++_}
 use mathlib.Core.Path.{_≡_, refl, ap, subst, sym}
 use mathlib.Core.Bool.{Bool, true, false}
 use lib.ListN.{length, take, drop}
 use Rattle.format.specs.Bits.{high}
 use Rattle.format.specs.Reading.{Ending, At, Fault}
-use Rattle.format.specs.Items.{run}
+use Rattle.format.specs.Items.{run, toByte}
 use Rattle.format.specs.Bodies.{readBody}
-use Rattle.format.specs.FileAndTags.{Class, opaque, end, container, known, classOf, isEnd, Tag, Outcome, whole, fault, Walk, noTags, chain, Head, head, noHead, rawHead, passes, readHead, Owner, inside, Inside, endAt, front, opened, within, afterTag, tagThen, oneTag, walk, walkList}
+use Rattle.format.specs.FileAndTags.{Class, opaque, end, container, known, classOf, isEnd, Tag, Outcome, whole, fault, Walk, noTags, chain, Head, head, noHead, rawHead, passes, readHead, Owner, inside, TagInside, endAt, front, opened, within, afterTag, tagThen, oneTag, walk, walkList}
 use Rattle.format.specs.TableOfNumbers.{tagTable}
 use Rattle.format.proofs.EngineLaws.{tagTable-append}
 use Rattle.classes.specs.Classes.{skimmed, classBy}
-use Rattle.classes.specs.declared.Reads.the-variants.{Lists}
+use Rattle.classes.specs.declared.Scope.the-variants.{Lists}
 use Rattle.classes.proofs.ClassLaws.{end-skimmed, container-skimmed}
 
 -- the walk w that reads all, which ended so, and the walk v of the lists alone: after a fault nothing is said
@@ -21,12 +21,12 @@ Alike w v whole = (v .ended ≡ whole) × (tagTable (v .tags) ≡ tagTable (w .t
 Alike w v (fault e n) = Unit {0}
 
 -- a tag, with what stands in it, and what follows
-alike-then : (d code a size len : ℕ) (i j : Inside) (w v : Walk) → Alike (i .walk) (j .walk) (i .walk .ended) → Alike w v (w .ended)
+alike-then : (d code a size len : ℕ) (i j : TagInside) (w v : Walk) → Alike (i .walk) (j .walk) (i .walk .ended) → Alike w v (w .ended)
     → Alike (tagThen d code a size len i w) (tagThen d code a size len j v) (tagThen d code a size len i w .ended)
 alike-then d code a size len i j w v x y = inner (i .walk .ended) x
   where
-    row : Inside → Tag
-    row i = record { depth = d; code = code; place = a; size = size; length = len; state = i .state; values = i .values }
+    row : TagInside → Tag
+    row i = record { depth = d; code = code; place = a; headerSize = size; bodyLength = len; state = i .state; values = i .values }
 
     rest : tagTable (j .walk .tags) ≡ tagTable (i .walk .tags) → (z : Outcome) → Alike w v z
         → Alike (record { tags = (row i ∷ i .walk .tags) ++ w .tags; ended = z }) (record { tags = (row j ∷ j .walk .tags) ++ v .tags; ended = v .ended }) z
@@ -57,7 +57,7 @@ alike-within R S u (known y) a s body = go (readBody high y body .ended)
 alike-within R S u (container f) a s body = go (run high body (front f) 0 .shown) (run high body (front f) 0 .ended)
   where
     go : (xs : List ℕ) (z : Ending) → Alike (opened R a s body xs z .walk) (opened S a s body xs z .walk) (opened R a s body xs z .walk .ended)
-    go xs (At p) = u (inside a) (s + p / 8) (drop (p / 8) body)
+    go xs (At p) = u (inside a) (s + toByte p) (drop (toByte p) body)
     go xs (Fault e) = tt
 
 module _ (level : ℕ) where

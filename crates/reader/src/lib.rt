@@ -3,14 +3,15 @@ ghost use mathlib.Core.Path.{_≡_};
 ghost use Prim.Native.Nat.{_≤_};
 ghost use lib.ListN.{length, drop};
 ghost use Rattle.format.specs.Bits.{high};
-ghost use Rattle.format.specs.FileAndTags.{file as «ownFile», walkList};
+ghost use Rattle.format.specs.FileAndTags.{file as ownFile, walkList};
 ghost use Rattle.format.specs.Reasons.{startFault, walkFile, readFile, readTags, into};
 ghost use Rattle.answers.specs.Answers.{leaves};
 ghost use Rattle.classes.specs.Classes.{classBy};
-ghost use Rattle.lists.specs.Lists.{listed, laid};
+ghost use Rattle.lists.specs.Lists.{listed, walkOver};
 ghost use Rattle.reader.specs.Survey.{surveyed};
 use answers::Answer;
-use classes::Reads;
+use bits::BytePlace;
+use classes::Scope;
 use lists::Owner;
 use lists::Walked;
 
@@ -21,34 +22,39 @@ fn start_fault(level: u32, file: &[u8]) -> u32
     if 1023 < level {
         return 1;
     }
-    let n = file.len();
-    if n < 9 {
+    let size = file.len();
+    if size < 9 {
         return 2;
     }
-    let signature = bits::byte_at(file, 0)
-        + 256 * bits::byte_at(file, 1)
-        + 65536 * bits::byte_at(file, 2);
-    if signature != 0x474150 {
+    if bits::byte_at(file, 0) != 0x50 {
+        return 3;
+    }
+    if bits::byte_at(file, 1) != 0x41 {
+        return 3;
+    }
+    if bits::byte_at(file, 2) != 0x47 {
         return 3;
     }
     if bits::byte_at(file, 3) != 1 {
         return 4;
     }
-    if headers::le32_at(file, 4) as usize != n {
+    if headers::le32_at(file, 4) as usize != size {
         return 5;
     }
-    if 16777216 < n {
+    if 16777216 < size {
         return 5;
     }
     0
 }
 
 // The tags at depth 0, which follow the header's nine bytes; eight depths may lie below them. The compression byte stands before their numbers.
-fn read_tags(reads: Reads, level: u32, file: &[u8], t: &mut [u64], g: &mut [u32]) -> Walked
+fn read_tags(scope: Scope, level: u32, file: &[u8], table: &mut [u64], rows: &mut [u32]) -> Walked
     requires { ⌜ (9 ≤ length (now file)) × (length (now file) ≤ 16777216) ⌝ }
-    ensures { λ x. ⌜ listed (now (t .exit)) (now (g .exit)) x ≡ laid (now (t .entry)) 1 (now (g .entry)) 0 (walkList high (classBy reads level) 8 «ownFile» 9 (drop 9 (now (file .entry)))) ⌝ }
+    ensures { λ x. ⌜ listed (now (table .exit)) (now (rows .exit)) x ≡ walkOver (now (table .entry)) 1 (now (rows .entry)) 0 (walkList high (classBy scope level) 8 ownFile 9 (drop 9 (now (file .entry)))) ⌝ }
 {
-    lists::read_list(reads, level, 8, Owner::File, 9, &file[9..], t, 1, g, 0)
+    let at = BytePlace(9);
+    let room = &file[9..];
+    lists::read_list(scope, level, 8, Owner::File, at, room, table, 1, rows, 0)
 }
 
 // The run that counts: nothing is lent to it, so it finds the refusal, or how many numbers there are in the two tables.
@@ -57,11 +63,11 @@ fn survey(level: u32, file: &[u8]) -> Walked
 {
     let why = start_fault(level, file);
     if why != 0 {
-        return Walked::Fault(why, 0);
+        return Walked::Fault(why, BytePlace(0));
     }
-    let mut t = [0u64; 1];
-    let mut g = [0u32; 1];
-    read_tags(Reads::All, level, file, &mut t[..0], &mut g[..0])
+    let mut table = [0u64; 1];
+    let mut rows = [0u32; 1];
+    read_tags(Scope::All, level, file, &mut table[..0], &mut rows[..0])
 }
 
 // Reads a file into the table of numbers.
@@ -69,15 +75,15 @@ pub fn read(level: u32, file: &[u8], table: &mut [u64]) -> Answer
     ensures { λ r. ⌜ leaves (now (table .exit)) r ≡ into (now (table .entry)) (readFile high level (now (file .entry))) ⌝ }
 {
     match survey(level, file) {
-        Walked::Fault(why, n) => Answer::Refused(why, n as u64),
-        Walked::Next(k, _) => {
-            if table.len() < k {
-                return Answer::Refused(19, k as u64);
+        Walked::Fault(why, place) => Answer::Refused(why, place.0 as u64),
+        Walked::Next(in_table, _) => {
+            if table.len() < in_table {
+                return Answer::Refused(19, in_table as u64);
             }
             table[0] = bits::byte_at(file, 8);
             let mut none = [0u32; 1];
-            read_tags(Reads::All, level, file, table, &mut none[..0]);
-            Answer::Accepted(k as u64)
+            read_tags(Scope::All, level, file, table, &mut none[..0]);
+            Answer::Accepted(in_table as u64)
         }
     }
 }
@@ -87,14 +93,14 @@ pub fn tags(level: u32, file: &[u8], tags: &mut [u32]) -> Answer
     ensures { λ r. ⌜ leaves (now (tags .exit)) r ≡ into (now (tags .entry)) (readTags high level (now (file .entry))) ⌝ }
 {
     match survey(level, file) {
-        Walked::Fault(why, n) => Answer::Refused(why, n as u64),
-        Walked::Next(_, m) => {
-            if tags.len() < m {
-                return Answer::Refused(19, m as u64);
+        Walked::Fault(why, place) => Answer::Refused(why, place.0 as u64),
+        Walked::Next(_, in_rows) => {
+            if tags.len() < in_rows {
+                return Answer::Refused(19, in_rows as u64);
             }
             let mut none = [0u64; 1];
-            read_tags(Reads::Lists, level, file, &mut none[..0], tags);
-            Answer::Accepted(m as u64)
+            read_tags(Scope::Lists, level, file, &mut none[..0], tags);
+            Answer::Accepted(in_rows as u64)
         }
     }
 }

@@ -1,4 +1,5 @@
 // Reads files and writes them back, and writes tables and reads them back: a line for each record on standard input.
+// What is lent is filled before each call. A refusal must leave all of it so, and an acceptance what is past its count: else the line says TOUCHED.
 // tests/reference/make_round_trips.py makes the records, and what has to be printed.
 ghost use Prim.Native.Nat.{_+_, _≤_, _<_};
 ghost use lib.ListN.{length};
@@ -8,8 +9,13 @@ use libc::STDOUT_FILENO;
 
 const FILE: u8 = 0;
 
-// What the output is filled with, to see what was written.
+// What an output and a table are filled with, to see what was written.
 const FILLED: u8 = 0xAA;
+
+const FILLED_NUMBER: u64 = 0xAAAA_AAAA_AAAA_AAAA;
+
+// How many numbers are lent for a file's table, and bytes for a file.
+const ROOM: usize = 16384;
 
 // A record's kind, its level and the count of the bytes that follow.
 struct Head {
@@ -70,6 +76,25 @@ fn is_filled(out: &[u8]) -> bool {
     true
 }
 
+fn fill_numbers(table: &mut [u64]) {
+    let mut i = 0;
+    while i < table.len() {
+        table[i] = FILLED_NUMBER;
+        i += 1;
+    }
+}
+
+fn are_filled(table: &[u64]) -> bool {
+    let mut i = 0;
+    while i < table.len() {
+        if table[i] != FILLED_NUMBER {
+            return false;
+        }
+        i += 1;
+    }
+    true
+}
+
 fn same_bytes(a: &[u8], b: &[u8]) -> bool {
     if a.len() != b.len() {
         return false;
@@ -106,19 +131,28 @@ fn say_same(same: bool) {
     }
 }
 
+fn say_kept(kept: bool) {
+    if kept {
+        say(b" kept");
+    } else {
+        say(b" TOUCHED");
+    }
+}
+
 // What was read of a file, written: the same bytes, and nothing behind them is touched.
 fn write_back(level: u32, table: &[u64], file: &[u8], out: &mut [u8]) {
     fill(out);
     match writer::write(level, table, out) {
-        Answer::Refused(reason, number) => say_refusal(reason, number),
+        Answer::Refused(reason, number) => {
+            say_refusal(reason, number);
+            say_kept(is_filled(out));
+        }
         Answer::Accepted(n) => {
             say(b" write");
             say_number(n);
             let m = least(n as usize, out.len());
             say_same(same_bytes(file, &out[0..m]));
-            if !is_filled(&out[m..]) {
-                say(b" TOUCHED");
-            }
+            say_kept(is_filled(&out[m..]));
         }
     }
 }
@@ -140,22 +174,45 @@ fn write_short(level: u32, table: &[u64], file: &[u8], out: &mut [u8]) {
             say_number(number);
         }
     }
-    if is_filled(part) {
-        say(b" kept");
-    } else {
-        say(b" TOUCHED");
+    say_kept(is_filled(part));
+}
+
+// A file that was accepted, read with room for one number less than it needs: 19, and nothing is touched.
+fn read_short(level: u32, file: &[u8], needed: usize) {
+    let mut table = [0u64; ROOM];
+    let room = least(needed, ROOM);
+    if room == 0 {
+        return;
     }
+    let end = room - 1;
+    let part = &mut table[0..end];
+    fill_numbers(part);
+    match reader::read(level, file, part) {
+        Answer::Accepted(_) => say(b" TAKEN"),
+        Answer::Refused(reason, number) => {
+            say(b" short");
+            say_number(reason as u64);
+            say_number(number);
+        }
+    }
+    say_kept(are_filled(part));
 }
 
 fn try_file(level: u32, file: &[u8], table: &mut [u64], out: &mut [u8]) {
     say(b"file");
     say_number(level as u64);
+    fill_numbers(table);
     match reader::read(level, file, table) {
-        Answer::Refused(reason, number) => say_refusal(reason, number),
+        Answer::Refused(reason, number) => {
+            say_refusal(reason, number);
+            say_kept(are_filled(table));
+        }
         Answer::Accepted(n) => {
             say(b" read");
             say_number(n);
             let m = least(n as usize, table.len());
+            say_kept(are_filled(&table[m..]));
+            read_short(level, file, m);
             write_back(level, &table[0..m], file, out);
             write_short(level, &table[0..m], file, out);
         }
@@ -184,14 +241,19 @@ fn load(body: &[u8], table: &mut [u64]) -> usize
 
 // What was written of a table, read: the same numbers.
 fn read_back(level: u32, file: &[u8], table: &[u64]) {
-    let mut again = [0u64; 8192];
+    let mut again = [0u64; ROOM];
+    fill_numbers(&mut again);
     match reader::read(level, file, &mut again) {
-        Answer::Refused(reason, number) => say_refusal(reason, number),
+        Answer::Refused(reason, number) => {
+            say_refusal(reason, number);
+            say_kept(are_filled(&again));
+        }
         Answer::Accepted(n) => {
             say(b" read");
             say_number(n);
-            let m = least(n as usize, 8192);
+            let m = least(n as usize, ROOM);
             say_same(same_numbers(table, &again[0..m]));
+            say_kept(are_filled(&again[m..]));
         }
     }
 }
@@ -199,12 +261,17 @@ fn read_back(level: u32, file: &[u8], table: &[u64]) {
 fn try_table(level: u32, table: &[u64], out: &mut [u8]) {
     say(b"table");
     say_number(level as u64);
+    fill(out);
     match writer::write(level, table, out) {
-        Answer::Refused(reason, number) => say_refusal(reason, number),
+        Answer::Refused(reason, number) => {
+            say_refusal(reason, number);
+            say_kept(is_filled(out));
+        }
         Answer::Accepted(n) => {
             say(b" write");
             say_number(n);
             let m = least(n as usize, out.len());
+            say_kept(is_filled(&out[m..]));
             read_back(level, &out[0..m], table);
         }
     }
@@ -262,9 +329,9 @@ fn next_in(room: &mut [u8], table: &mut [u64], out: &mut [u8]) -> bool {
 
 // One record, if there is one more.
 fn try_next() -> bool {
-    let mut room = io::buffer();
-    let mut table = [0u64; 8192];
-    let mut out = io::buffer();
+    let mut room = [0u8; ROOM];
+    let mut table = [0u64; ROOM];
+    let mut out = [0u8; ROOM];
     next_in(&mut room, &mut table, &mut out)
 }
 

@@ -169,31 +169,34 @@ pub flow-done : (o : List ℕ) (p a w v m : ℕ) {st : State} → Holds p a → 
 flow-done o p a w v m h l e d = sym (flow-start o p a w v h l ∙ rw (← e) d)
 
 -- ---- the skip to a whole byte
-pub waiting-lt : (p a m : ℕ) → Holds p a → (p % 8 ≡ 0 → ⊥) → m ≡ 2 ^ (8 - p % 8) → a * m < 256
-waiting-lt p a m h n e =
+pub waiting-lt : (p a m : ℕ) → Holds p a → m ≡ 2 ^ (8 - p % 8) → a * m < 256
+waiting-lt p a m h e =
     let c : p % 8 + (8 - p % 8) ≡ 8 = omega arith in
     let s : a * 2 ^ (8 - p % 8) + 0 < 2 ^ (p % 8) * 2 ^ (8 - p % 8) = digits-lt h (pow-pos (8 - p % 8)) in
     let t : 2 ^ (p % 8) * 2 ^ (8 - p % 8) ≡ 256 = sym (pow-add 2 (p % 8) (8 - p % 8)) ∙ ap (λ (k : ℕ). 2 ^ k) c in
     rw e (omega arith)
 
-pub skip-none : (o : List ℕ) (p a : ℕ) → Holds p a → p % 8 ≡ 0 → Skipped (mk o p a) o (p / 8) p
-unfolding lay dig
-skip-none o p a h e =
-    let s : skipped p ≡ 0 = omega arith in
-    let z : a ≡ 0 = omega (arith, rw (e, pow-zero) at h) in
-    record { whole = omega arith; laid = rw (s, z) }
+-- none is skipped; or some are
+module _ (o : List ℕ) (p a : ℕ) {i q : ℕ} (h : Holds p a) (at : q ≡ p + skipped p) (whole : q ≡ 8 * i) where
+  pub skip-none : p % 8 ≡ 0 → Skipped (mk o p a) o i q
+  unfolding lay dig
+  skip-none f =
+      let s : skipped p ≡ 0 = omega arith in
+      let z : a ≡ 0 = omega (arith, rw (f, pow-zero) at h) in
+      let t : q ≡ p = omega (arith, at, s) in
+      record { whole = whole; laid = rw (s, z, t) }
 
-pub skip-some : (o : List ℕ) (p a m : ℕ) {u : List ℕ} → Holds p a → (p % 8 ≡ 0 → ⊥) → m ≡ 2 ^ (8 - p % 8) → u ≡ set o (p / 8) (a * m)
-    → Skipped (mk o p a) u (p / 8 + 1) (p + (8 - p % 8))
-skip-some o p a m h n e d =
-    let k : skipped p ≡ suc (7 - p % 8) = omega arith in
-    let w : 8 - p % 8 ≡ suc (7 - p % 8) = omega arith in
-    record {
-      whole = omega arith;
-      laid =
-          rw (d, e, k, w)
-          (sym (lay-full o (7 - p % 8) p a 0 (omega arith) (pow-pos (suc (7 - p % 8))) ∙ mk-eq (ap (set o (p / 8)) (add-zero (a * 2 ^ suc (7 - p % 8)))) refl refl));
-    }
+  pub skip-some : (m : ℕ) {u : List ℕ} → (p % 8 ≡ 0 → ⊥) → m ≡ 2 ^ (8 - p % 8) → u ≡ set o (p / 8) (a * m) → Skipped (mk o p a) u i q
+  skip-some m n e d =
+      let k : skipped p ≡ suc (7 - p % 8) = omega (arith, n) in
+      let v : 8 - p % 8 ≡ suc (7 - p % 8) = omega arith in
+      let t : q ≡ p + suc (7 - p % 8) = omega (arith, at, k) in
+      record {
+        whole = whole;
+        laid =
+            rw (d, e, k, v, t)
+            (sym (lay-full o (7 - p % 8) p a 0 (omega arith) (pow-pos (suc (7 - p % 8))) ∙ mk-eq (ap (set o (p / 8)) (add-zero (a * 2 ^ suc (7 - p % 8)))) refl refl));
+      }
 
 -- ---- whole bytes, from a whole byte on
 pub lay-byte : (o : List ℕ) (i v : ℕ) {u : List ℕ} {p : ℕ} → v < 256 → p ≡ 8 * i → u ≡ set o i v → lay (mk o p 0) (dig high 8 v) ≡ mk u (p + 8) 0

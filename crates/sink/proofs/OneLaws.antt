@@ -1,22 +1,22 @@
 -- No second answer fits a promise on a body that was written; and where there is one, no second output.
 use Prim.Native.Nat.{ℕ}
 use mathlib.Core.List.{List}
-use mathlib.Core.Path.{_≡_, refl, ap, sym, _∙_}
-use native.Mathlib.Omega.{arith}
-use Rattle.sink.specs.Lain.{Lain, lain, unlain, lainAs}
+use mathlib.Core.Path.{_≡_, refl}
+use Rattle.format.specs.Possible.{Possible}
+use Rattle.format.proofs.OneLaws.{Same, Tells, answer-one}
+use Rattle.sink.specs.Lain.{Lain, lain, lainAs}
 use Rattle.sink.specs.declared.Body.{Body}
 use Rattle.sink.specs.declared.Body.the-variants.{To, No}
 
--- two answers with their outputs, of which at most the outputs differ, and these only where nothing was written
-abbrev Same : List ℕ → Body → List ℕ → Body → Type 0
-Same u (To p) v b = (u ≡ v) × (To p ≡ b)
-Same u No v b = No ≡ b
+abbrev output : Lain → List ℕ
+output (lain o p) = o
 
-pub lain-one : (u : List ℕ) (a : Body) (v : List ℕ) (b : Body) {x : Lain} → lainAs u a ≡ x → lainAs v b ≡ x → Same u a v b
-lain-one u a v b e d = go a b (e ∙ sym d)
-  where
-    go : (a b : Body) → lainAs u a ≡ lainAs v b → Same u a v b
-    go (To p) (To q) f = (cc, (let z : p ≡ q = cc in ap To z))
-    go (To p) No f = absurd (let z : _≡_ {A = ℕ} 0 1 = cc in omega arith)
-    go No (To q) f = absurd (let z : _≡_ {A = ℕ} 0 1 = cc in omega arith)
-    go No No f = refl
+abbrev answer : Lain → Body
+answer (lain o p) = To (record { 0 = p })
+
+tells : (u : List ℕ) (a : Body) → Tells output answer No (lainAs u a) u a
+tells u (To p) = (refl, refl)
+tells u No = refl
+
+pub lain-one : (u : List ℕ) (a : Body) (v : List ℕ) (b : Body) {x : Possible Lain} → lainAs u a ≡ x → lainAs v b ≡ x → Same x u a v b
+lain-one = answer-one lainAs output answer No tells

@@ -5,7 +5,7 @@ use lib.Dec.{leb}
 use lib.ListN.{length}
 use lib.Seq.{sets}
 use Rattle.format.specs.Tests.{pick}
-use Rattle.format.specs.WritingBodies.{Bytes, bytes, impossible}
+use Rattle.format.specs.Possible.{Possible, this, cannot}
 use Rattle.sink.specs.declared.Body.{Body}
 use Rattle.sink.specs.declared.Body.the-variants.{To, No}
 
@@ -16,13 +16,12 @@ longest = 16777216
 -- the output after a body, and the next byte place; where there is no body, nothing is said of the output
 pub data Lain : Type 0 where
   lain : List ℕ → ℕ → Lain
-  unlain : Lain
 
 -- bytes put over the output o from place a on; what does not fit the output is dropped, and what is longer than a file has no place
-unfoldable pub lies : List ℕ → ℕ → Bytes → Lain
-lies o a (bytes b) = pick (leb (a + length b) longest) (lain (sets o a b) (a + length b)) unlain
-lies o a impossible = unlain
+unfoldable pub lies : List ℕ → ℕ → Possible (List ℕ) → Possible Lain
+lies o a (this b) = pick (leb (a + length b) longest) (this (lain (sets o a b) (a + length b))) cannot
+lies o a cannot = cannot
 
-abbrev pub lainAs : List ℕ → Body → Lain
-lainAs o (To p) = lain o p
-lainAs o No = unlain
+abbrev pub lainAs : List ℕ → Body → Possible Lain
+lainAs o (To p) = this (lain o (p .0))
+lainAs o No = cannot

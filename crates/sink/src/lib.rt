@@ -5,9 +5,10 @@ ghost use lib.ListN.{set};
 ghost use Rattle.format.specs.Bits.{high};
 ghost use Rattle.format.specs.Items.{skipped};
 ghost use Rattle.format.specs.WritingItems.{dig};
-ghost use Rattle.sink.specs.Laying.{at as «under», lay, Holds, Skipped};
+ghost use Rattle.sink.specs.Laying.{at as under, lay, Holds, Skipped};
 use bits::BitPlace;
 use bits::BytePlace;
+use bits::Whole;
 
 // The next bit place, and the bits of its byte that were put, as a number.
 pub struct Sink {
@@ -15,81 +16,71 @@ pub struct Sink {
     pub part: u64,
 }
 
-// A whole byte, in both counts.
-pub struct Whole {
-    pub byte: BytePlace,
-    pub bit: BitPlace,
-}
-
 // A body was written up to a byte place; or no file has it.
 pub enum Body {
-    To(usize),
+    To(BytePlace),
     No,
 }
 
 // Stores a byte where there is room for it.
-pub fn put_byte(out: &mut [u8], i: usize, v: u64)
-    requires { ⌜ v < 256 ⌝ }
-    ensures { λ r. ⌜ now (out .exit) ≡ set (now (out .entry)) i v ⌝ }
+pub fn put_byte(out: &mut [u8], i: usize, value: u64)
+    requires { ⌜ value < 256 ⌝ }
+    ensures { λ r. ⌜ now (out .exit) ≡ set (now (out .entry)) i value ⌝ }
 {
     if i < out.len() {
-        out[i] = v as u8;
+        out[i] = value as u8;
     }
 }
 
 // A power of two.
-pub fn power(n: usize) -> u64
-    requires { ⌜ n < 64 ⌝ }
-    ensures { λ r. ⌜ (r ≡ 2 ^ n) × (0 < r) ⌝ }
+pub fn power(exponent: usize) -> u64
+    requires { ⌜ exponent < 64 ⌝ }
+    ensures { λ r. ⌜ (r ≡ 2 ^ exponent) × (0 < r) ⌝ }
 {
-    1u64 << n
+    1u64 << exponent
 }
 
 // A field of w bits: those that wait and these, a byte at a time.
-pub fn put_bits(out: &mut [u8], s: Sink, v: u64, w: usize) -> Sink
-    requires { ⌜ Holds (s .place .0) (s .part) × (s .place .0 ≤ 2 ^ 60) × (w ≤ 32) × (v < 2 ^ w) ⌝ }
-    ensures { λ r. ⌜ «under» (now (out .exit)) r ≡ lay («under» (now (out .entry)) s) (dig high w v) ⌝ }
+pub fn put_bits(out: &mut [u8], sink: Sink, value: u64, width: usize) -> Sink
+    requires { ⌜ Holds (sink .place .0) (sink .part) × (sink .place .0 ≤ 2 ^ 60) × (width ≤ 32) × (value < 2 ^ width) ⌝ }
+    ensures { λ r. ⌜ under (now (out .exit)) r ≡ lay (under (now (out .entry)) sink) (dig high width value) ⌝ }
 {
-    let p = s.place.0;
-    let a = s.part;
-    let mut i = p / 8;
-    let mut n = p % 8 + w;
-    let mut x = a * power(w) + v;
-    let place = BitPlace(p + w);
+    let at = sink.place.0;
+    let begun = sink.part;
+    let mut i = at / 8;
+    let mut count = at % 8 + width;
+    let mut waiting = begun * power(width) + value;
+    let place = BitPlace(at + width);
     // Past the end no byte is stored: only the bits that wait are left to know.
     if out.len() <= i {
-        let part = x % power(n % 8);
+        let part = waiting % power(count % 8);
         return Sink { place, part };
     }
-    while 8 <= n {
-        n -= 8;
-        let m = power(n);
-        put_byte(out, i, x / m);
-        x %= m;
+    while 8 <= count {
+        count -= 8;
+        let unit = power(count);
+        put_byte(out, i, waiting / unit);
+        waiting %= unit;
         i += 1;
     }
-    Sink { place, part: x }
+    Sink {
+        place,
+        part: waiting,
+    }
 }
 
 // The next whole byte: zero bits up to it.
-pub fn align(out: &mut [u8], s: Sink) -> Whole
-    requires { ⌜ Holds (s .place .0) (s .part) × (s .place .0 ≤ 2 ^ 60) ⌝ }
-    ensures { λ r. ⌜ Skipped («under» (now (out .entry)) s) (now (out .exit)) (r .byte .0) (r .bit .0) ⌝ }
+pub fn align(out: &mut [u8], sink: Sink) -> Whole
+    requires { ⌜ Holds (sink .place .0) (sink .part) × (sink .place .0 ≤ 2 ^ 60) ⌝ }
+    ensures { λ r. ⌜ Skipped (under (now (out .entry)) sink) (now (out .exit)) (r .byte .0) (r .bit .0) ⌝ }
 {
-    let p = s.place.0;
-    let i = p / 8;
-    let used = p % 8;
+    let place = sink.place.0;
+    let used = place % 8;
+    // Asked first, as the reader does.
     if used == 0 {
-        return Whole {
-            byte: BytePlace(i),
-            bit: BitPlace(p),
-        };
+        return bits::next_byte(sink.place);
     }
-    let a = s.part;
-    let skipped = 8 - used;
-    put_byte(out, i, a * power(skipped));
-    Whole {
-        byte: BytePlace(i + 1),
-        bit: BitPlace(p + skipped),
-    }
+    let begun = sink.part;
+    put_byte(out, place / 8, begun * power(8 - used));
+    bits::next_byte(sink.place)
 }

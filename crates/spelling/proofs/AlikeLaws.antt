@@ -9,7 +9,8 @@ use Rattle.format.specs.Bits.{high}
 use Rattle.format.specs.Reading.{Reading, shows}
 use Rattle.format.specs.Formats.{Format}
 use Rattle.format.specs.Items.{run}
-use Rattle.format.specs.WritingItems.{dig, Written, wrote, cannot}
+use Rattle.format.specs.Possible.{Possible, this, cannot}
+use Rattle.format.specs.WritingItems.{dig, Written, wrote}
 use Rattle.format.specs.WritingFormats.{unrun}
 use Rattle.format.specs.WritingBodies.{bit, pack}
 use Rattle.format.proofs.BitLaws.{Has, length-dig}
@@ -17,7 +18,7 @@ use Rattle.format.proofs.ByteLaws.{has-pack, length-pack}
 use Rattle.format.proofs.ItemLaws.{round-trip}
 use Rattle.format.proofs.Trip.{has-split, There, ThereIf, Back}
 use Rattle.sink.specs.Laying.{State}
-use Rattle.spelling.specs.Writing.{after, ran}
+use Rattle.spelling.specs.Writing.{writtenOver, ran}
 
 -- the same bits are there
 bit-one : (x y : Bool) → bit x ≡ bit y → x ≡ y
@@ -58,15 +59,15 @@ module _ (p : ℕ) (bs : List Bool) where
   wide = omega (arith, length-pack high size all)
 
 module _ (f g : Format) (alike : (b : List ℕ) (p : ℕ) → run high b f p ≡ run high b g p) where
-  same-way : (ns : List ℕ) (p : ℕ) (xs : List ℕ) (bs : List Bool) (ys : List ℕ) → unrun high f ns p ≡ wrote xs bs ys → unrun high g ns p ≡ wrote xs bs ys
+  same-way : (ns : List ℕ) (p : ℕ) (xs : List ℕ) (bs : List Bool) (ys : List ℕ) → unrun high f ns p ≡ this (wrote xs bs ys) → unrun high g ns p ≡ this (wrote xs bs ys)
   same-way ns p xs bs ys e = read (rw e at (round-trip high f .back ns p))
     where
-      there : There high (holder p bs) p (p + length bs) xs (λ ns p. unrun high g ns p) → ns ≡ xs ++ ys → unrun high g ns p ≡ wrote xs bs ys
+      there : There high (holder p bs) p (p + length bs) xs (λ ns p. unrun high g ns p) → ns ≡ xs ++ ys → unrun high g ns p ≡ this (wrote xs bs ys)
       there t parts =
           let z : t .bits ≡ bs = has-one (holder p bs) p (t .bits) bs (omega (arith, t .ends)) (t .has) (holds p bs) in
           rw (parts, t .again ys, z)
 
-      read : Back high ns xs bs ys p (λ b p. run high b f p) → unrun high g ns p ≡ wrote xs bs ys
+      read : Back high ns xs bs ys p (λ b p. run high b f p) → unrun high g ns p ≡ this (wrote xs bs ys)
       read h =
           let r : run high (holder p bs) g p ≡ shows xs (p + length bs) = sym (alike (holder p bs) p) ∙ h .reads (holder p bs) (holds p bs) in
           there (subst (λ (x : Reading). ThereIf high (holder p bs) p (x .shown) (λ ns p. unrun high g ns p) (x .ended)) r (round-trip high g .there (holder p bs) p (wide p bs))) (h .parts)
@@ -74,11 +75,11 @@ module _ (f g : Format) (alike : (b : List ℕ) (p : ℕ) → run high b f p ≡
 pub written-alike : (f g : Format) → ((b : List ℕ) (p : ℕ) → run high b f p ≡ run high b g p) → (ns : List ℕ) (p : ℕ) → unrun high f ns p ≡ unrun high g ns p
 written-alike f g alike ns p = go (unrun high f ns p) refl (unrun high g ns p) refl
   where
-    go : (w : Written) → unrun high f ns p ≡ w → (v : Written) → unrun high g ns p ≡ v → unrun high f ns p ≡ unrun high g ns p
-    go (wrote xs bs ys) e v d = e ∙ sym (same-way f g alike ns p xs bs ys e)
-    go cannot e (wrote xs bs ys) d = same-way g f (λ b q. sym (alike b q)) ns p xs bs ys d ∙ sym d
+    go : (w : Possible Written) → unrun high f ns p ≡ w → (v : Possible Written) → unrun high g ns p ≡ v → unrun high f ns p ≡ unrun high g ns p
+    go (this (wrote xs bs ys)) e v d = e ∙ sym (same-way f g alike ns p xs bs ys e)
+    go cannot e (this (wrote xs bs ys)) d = same-way g f (λ b q. sym (alike b q)) ns p xs bs ys d ∙ sym d
     go cannot e cannot d = e ∙ sym d
 
 pub ran-alike : (t : List ℕ) (st : State) (k : ℕ) (f g : Format) → ((b : List ℕ) (p : ℕ) → run high b f p ≡ run high b g p) → ran t st k f ≡ ran t st k g
 unfolding ran
-ran-alike t st k f g alike = ap (after st k) (written-alike f g alike (drop k t) (st .place))
+ran-alike t st k f g alike = ap (writtenOver st k) (written-alike f g alike (drop k t) (st .place))

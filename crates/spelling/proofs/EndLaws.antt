@@ -14,17 +14,18 @@ use Rattle.format.specs.Bits.{high}
 use Rattle.format.specs.Formats.{Format}
 use Rattle.format.specs.Items.{skipped}
 use Rattle.format.specs.FileAndTags.{front}
-use Rattle.format.specs.WritingItems.{dig, Written, wrote, cannot, writeItem}
+use Rattle.format.specs.Possible.{Possible, this, cannot}
+use Rattle.format.specs.WritingItems.{dig, Written, wrote, writeItem}
 use Rattle.format.specs.WritingFormats.{onward, unrun}
-use Rattle.format.specs.WritingBodies.{Bytes, bytes, impossible, packed, pack}
+use Rattle.format.specs.WritingBodies.{packed, pack}
 use Rattle.format.proofs.BitLaws.{length-dig}
 use Rattle.format.proofs.ByteLaws.{length-pack}
-use Rattle.sink.specs.Lain.{Lain, lain, unlain, lies, longest}
+use Rattle.sink.specs.Lain.{Lain, lain, lies, longest}
 use Rattle.sink.specs.Laying.{State, mk, at, lay, Holds, Skipped}
 use Rattle.sink.specs.declared.Sink.{Sink}
 use Rattle.sink.proofs.LayingLaws.{lay-append, lay-pack, lay-place}
 use Rattle.spelling.specs.Ends.{skippedTo, concluded, FineAfter}
-use Rattle.spelling.specs.Writing.{Seen, here, gone, seen, ends, after, ran, limit, Fine}
+use Rattle.spelling.specs.Writing.{Seen, here, seen, ends, writtenOver, ran, limit, Fine}
 use Rattle.spelling.specs.declared.Put.{Put}
 use Rattle.spelling.specs.declared.Put.the-variants.{Done, Impossible}
 use Rattle.spelling.proofs.RunLaws.{ends-in, ends-out, parts, ran-fine, skip-le}
@@ -34,7 +35,7 @@ module _ (f : Format) (vs : List ℕ) where
   shifted : (a : ℕ) → unrun high (front f) vs (8 * a) ≡ unrun high (front f) vs 0
   shifted a = let e : 8 * a ≡ 0 + 8 * a = omega arith in ap (unrun high (front f) vs) e ∙ shift (front f) vs 0 a
 
-  whole : (xs : List ℕ) (bs : List Bool) (ys : List ℕ) → unrun high (front f) vs 0 ≡ wrote xs bs ys → length bs % 8 ≡ 0
+  whole : (xs : List ℕ) (bs : List Bool) (ys : List ℕ) → unrun high (front f) vs 0 ≡ this (wrote xs bs ys) → length bs % 8 ≡ 0
   unfolding unrun
   whole xs bs ys e = whole-bytes (unrun high f vs 0) xs bs ys e
 
@@ -44,16 +45,16 @@ module _ (f : Format) (vs : List ℕ) where
     st = mk o (8 * a) 0
 
     -- all values are used up
-    close : Seen → Lain
-    close (here s k) = pick (eqb k (length vs)) (lain (s .bytes) (s .place / 8)) unlain
-    close gone = unlain
+    close : Possible Seen → Possible Lain
+    close (this (here s k)) = pick (eqb k (length vs)) (this (lain (s .bytes) (s .place / 8))) cannot
+    close cannot = cannot
 
-    any-end : lies o a (packed high (unrun high (front f) vs 0)) ≡ close (after st 0 (unrun high (front f) vs 0))
-    unfolding lies after ends st close
+    any-end : lies o a (packed high (unrun high (front f) vs 0)) ≡ close (writtenOver st 0 (unrun high (front f) vs 0))
+    unfolding lies writtenOver ends st close
     any-end = go (unrun high (front f) vs 0) refl
       where
         wrote-so : (xs : List ℕ) (bs : List Bool) (ys : List ℕ) → vs ≡ xs ++ ys → length bs % 8 ≡ 0 → (c : Bool) → leb (lay st bs .place) limit ≡ c
-            → lies o a (packed high (wrote xs bs ys)) ≡ close (pick c (here (lay st bs) (0 + length xs)) gone)
+            → lies o a (packed high (this (wrote xs bs ys))) ≡ close (pick c (this (here (lay st bs) (0 + length xs))) cannot)
         wrote-so xs bs [] e m c q = fits c q
           where
             k : ℕ
@@ -69,7 +70,7 @@ module _ (f : Format) (vs : List ℕ) where
             jn = eq-eqb (0 + length xs) (length vs) (omega (arith, ap length e, length-append xs []))
 
             fits : (c : Bool) → leb (lay st bs .place) limit ≡ c
-                → pick (leb (a + length (pack high k bs)) longest) (lain (sets o a (pack high k bs)) (a + length (pack high k bs))) unlain ≡ close (pick c (here (lay st bs) (0 + length xs)) gone)
+                → pick (leb (a + length (pack high k bs)) longest) (this (lain (sets o a (pack high k bs)) (a + length (pack high k bs)))) cannot ≡ close (pick c (this (here (lay st bs) (0 + length xs))) cannot)
             fits true q =
                 let s : lay st bs ≡ mk (sets o a (pack high k bs)) (8 * (a + k)) 0 = lay-pack o a k bs (omega arith) in
                 let l : leb (a + length (pack high k bs)) longest ≡ true = le-leb (a + length (pack high k bs)) longest (omega (arith, leb-true (lay st bs .place) limit q, pl, ln)) in
@@ -83,17 +84,17 @@ module _ (f : Format) (vs : List ℕ) where
             rw n
         wrote-so xs bs (z ∷ ys) e m false q = refl
 
-        go : (w : Written) → unrun high (front f) vs 0 ≡ w → lies o a (packed high w) ≡ close (after st 0 w)
+        go : (w : Possible Written) → unrun high (front f) vs 0 ≡ w → lies o a (packed high w) ≡ close (writtenOver st 0 w)
         go cannot e = refl
-        go (wrote xs bs ys) e = wrote-so xs bs ys (parts (front f) vs 0 xs ys bs e) (whole xs bs ys e) (leb (lay st bs .place) limit) refl
+        go (this (wrote xs bs ys)) e = wrote-so xs bs ys (parts (front f) vs 0 xs ys bs e) (whole xs bs ys e) (leb (lay st bs .place) limit) refl
 
     -- as the code put it, and then the skip
-    skip-last : close (after st 0 (unrun high (front f) vs (8 * a))) ≡ concluded (length vs) (ran vs st 0 f)
-    unfolding ran unrun writeItem after ends st close
+    skip-last : close (writtenOver st 0 (unrun high (front f) vs (8 * a))) ≡ concluded (length vs) (ran vs st 0 f)
+    unfolding ran unrun writeItem writtenOver ends st close
     skip-last = go (unrun high f vs (8 * a))
       where
         lim : (xs : List ℕ) (bs : List Bool) (c : Bool) → leb (lay st bs .place) limit ≡ c
-            → close (ends (lay st (bs ++ dig high (skipped (8 * a + length bs)) 0)) (0 + length (xs ++ []))) ≡ concluded (length vs) (pick c (here (lay st bs) (0 + length xs)) gone)
+            → close (ends (lay st (bs ++ dig high (skipped (8 * a + length bs)) 0)) (0 + length (xs ++ []))) ≡ concluded (length vs) (pick c (this (here (lay st bs) (0 + length xs))) cannot)
         lim xs bs true q =
             let p : lay st bs .place ≡ 8 * a + length bs = lay-place st bs in
             let s : lay st (bs ++ dig high (skipped (8 * a + length bs)) 0) ≡ skippedTo (lay st bs) = lay-append st bs (dig high (skipped (8 * a + length bs)) 0) ∙ rw (← p) in
@@ -105,23 +106,23 @@ module _ (f : Format) (vs : List ℕ) where
             ap close (ends-out (lay st (bs ++ dig high (skipped (8 * a + length bs)) 0)) (0 + length (xs ++ []))
             (omega (arith, leb-false (lay st bs .place) limit q, lay-place st bs, lay-place st (bs ++ dig high (skipped (8 * a + length bs)) 0), length-append bs (dig high (skipped (8 * a + length bs)) 0))))
 
-        go : (w : Written) → close (after st 0 (onward w (8 * a) (λ xs ys q. wrote [] (dig high (skipped q) 0) ys))) ≡ concluded (length vs) (after st 0 w)
+        go : (w : Possible Written) → close (writtenOver st 0 (onward w (8 * a) (λ xs ys q. this (wrote [] (dig high (skipped q) 0) ys)))) ≡ concluded (length vs) (writtenOver st 0 w)
         go cannot = refl
-        go (wrote xs bs ys) = lim xs bs (leb (lay st bs .place) limit) refl
+        go (this (wrote xs bs ys)) = lim xs bs (leb (lay st bs .place) limit) refl
 
     pub front-law : lies o a (packed high (unrun high (front f) vs 0)) ≡ concluded (length vs) (ran vs (mk o (8 * a) 0) 0 f)
     unfolding st
-    front-law = any-end ∙ ap (λ (w : Written). close (after st 0 w)) (sym (shifted a)) ∙ skip-last
+    front-law = any-end ∙ ap (λ (w : Possible Written). close (writtenOver st 0 w)) (sym (shifted a)) ∙ skip-last
 
     -- as the code has it
-    pub front-done : {x : Lain} {s : Seen} → x ≡ concluded (length vs) s → s ≡ ran vs (mk o (8 * a) 0) 0 f → x ≡ lies o a (packed high (unrun high (front f) vs 0))
-    front-done e d = e ∙ ap (concluded (length vs)) d ∙ sym front-law
+    pub front-done : {x : Possible Lain} {s : Possible Seen} {q : ℕ} → q ≡ 8 * a → x ≡ concluded (length vs) s → s ≡ ran vs (mk o q 0) 0 f → x ≡ lies o a (packed high (unrun high (front f) vs 0))
+    front-done p e d = e ∙ ap (concluded (length vs)) (d ∙ ap (λ (q : ℕ). ran vs (mk o q 0) 0 f) p) ∙ sym front-law
 
 -- past the longest file there is no place
-pub lies-over : (o : List ℕ) (a : ℕ) (b : Bytes) → longest < a → unlain ≡ lies o a b
+pub lies-over : (o : List ℕ) (a : ℕ) (b : Possible (List ℕ)) → longest < a → cannot ≡ lies o a b
 unfolding lies
-lies-over o a impossible h = refl
-lies-over o a (bytes x) h = rw (lt-leb (a + length x) longest (omega arith))
+lies-over o a cannot h = refl
+lies-over o a (this x) h = rw (lt-leb (a + length x) longest (omega arith))
 
 -- what was written leaves a sink to go on with
 pub front-fine : (vs o : List ℕ) (s : Sink) (f : Format) (u : List ℕ) (R : Put) → Fine s → seen u R ≡ ran vs (at o s) 0 f → FineAfter R
@@ -133,14 +134,14 @@ module _ (n : ℕ) (o : List ℕ) (R : Put) (s : Sink) (k : ℕ) (e : R ≡ Done
   pub end-fine : FineAfter R → Fine s
   end-fine h = subst FineAfter e h
 
-  pub end-left : (k ≡ n → ⊥) → unlain ≡ concluded n (seen o R)
+  pub end-left : (k ≡ n → ⊥) → cannot ≡ concluded n (seen o R)
   end-left h = rw (e, ne-eqb k n h)
 
-  pub end-done : {u : List ℕ} {byte bit : ℕ} → k ≡ n → Skipped (at o s) u byte bit → lain u byte ≡ concluded n (seen o R)
+  pub end-done : {u : List ℕ} {byte bit : ℕ} → k ≡ n → Skipped (at o s) u byte bit → this (lain u byte) ≡ concluded n (seen o R)
   end-done {u} {byte} {bit} h skip =
       let p : skippedTo (at o s) ≡ mk u bit 0 = sym (skip .laid) in
       let d : bit / 8 ≡ byte = omega (arith, skip .whole) in
       rw (e, eq-eqb k n h, p, d)
 
-pub start-fine : (a : ℕ) → a ≤ longest → Holds (8 * a) 0 × (8 * a ≤ limit)
-start-fine a h = (pow-pos (8 * a % 8), omega arith)
+pub start-fine : (a q : ℕ) → q ≡ 8 * a → a ≤ longest → Holds q 0 × (q ≤ limit)
+start-fine a q e h = (pow-pos (q % 8), omega arith)

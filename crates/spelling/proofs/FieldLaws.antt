@@ -15,27 +15,29 @@ use Rattle.format.specs.Tests.{pick}
 use Rattle.format.specs.Bits.{high}
 use Rattle.format.specs.Formats.{item, Item, _▹_, times, the}
 use Rattle.format.specs.Items.{signExtend}
-use Rattle.format.specs.WritingItems.{dig, Bits, spelt, none, single, writeItem, spellUB, undo, unextend}
+use Rattle.format.specs.Possible.{Possible, this, cannot}
+use Rattle.format.specs.WritingItems.{dig, single, writeItem, spellUB, undo, unextend}
 use Rattle.format.specs.WritingFormats.{unrun}
 use Rattle.table.specs.Fields.{allows, fieldOf, signed, announces, announced}
 use Rattle.table.specs.declared.fields.Field.{Field}
 use Rattle.table.specs.declared.fields.Field.the-variants.{Verb, Interpolation, Bit, ByteValue, Coordinate}
 use Rattle.format.proofs.BitLaws.{length-dig}
+use Rattle.format.proofs.Absurd.{clash}
 use Rattle.sink.specs.Laying.{State, at, lay, Holds}
 use Rattle.sink.specs.declared.Sink.{Sink}
 use Rattle.sink.proofs.LayingLaws.{lay-ok, lay-place}
 use Rattle.spelling.specs.declared.Put.{Put}
 use Rattle.spelling.specs.declared.Put.the-variants.{Done, Impossible}
-use Rattle.spelling.specs.Writing.{gone, seen, ends, ran, limit, Fine, finish}
+use Rattle.spelling.specs.Writing.{seen, ends, ran, limit, Fine, finish}
 use Rattle.spelling.specs.Spellings.{Announces}
 use Rattle.spelling.proofs.RunLaws.{then-done, then-stop, finish-ends, times-end, times-one, times-bad, times-few, one-done, OneDone, the-one}
 use Rattle.spelling.proofs.NumberLaws.{passing-single}
 
 -- ---- UB[w]
-ub-in : (w v : ℕ) → v < 2 ^ w → spellUB high w v ≡ spelt (dig high w v)
+ub-in : (w v : ℕ) → v < 2 ^ w → spellUB high w v ≡ this (dig high w v)
 ub-in w v h = rw (lt-ltb _ _ h)
 
-ub-out : (w v : ℕ) → 2 ^ w ≤ v → spellUB high w v ≡ none
+ub-out : (w v : ℕ) → 2 ^ w ≤ v → spellUB high w v ≡ cannot
 ub-out w v h = rw (le-ltb _ _ h)
 
 -- ---- SB[w]: m is 2 ^ w and h half of it; u is v + h, wrapped
@@ -57,10 +59,10 @@ module _ (w v m h u : ℕ) (low : 1 ≤ w) (few : w ≤ 32) (is : m ≡ 2 ^ w) (
       let q : v ≡ (2 ^ (64 - w) - 1) * 2 ^ w + d = omega arith in
       rw (is, q) (lo (2 ^ (64 - w) - 1) w (omega arith))
 
-  pub sb-in : u < m → undo (signExtend w) (unextend w) (spellUB high w) v ≡ spelt (dig high w (v % m))
+  pub sb-in : u < m → undo (signExtend w) (unextend w) (spellUB high w) v ≡ this (dig high w (v % m))
   sb-in l = go (ltb v h) refl
     where
-      go : (c : Bool) → ltb v h ≡ c → undo (signExtend w) (unextend w) (spellUB high w) v ≡ spelt (dig high w (v % m))
+      go : (c : Bool) → ltb v h ≡ c → undo (signExtend w) (unextend w) (spellUB high w) v ≡ this (dig high w (v % m))
       go true q =
           let k : v < h = ltb-true v h q in
           let a : ltb (v * 2) (2 ^ w) ≡ true = lt-ltb (v * 2) (2 ^ w) (omega (arith, even)) in
@@ -77,13 +79,13 @@ module _ (w v m h u : ℕ) (low : 1 ≤ w) (few : w ≤ 32) (is : m ≡ 2 ^ w) (
           let f : ltb d (2 ^ w) ≡ true = lt-ltb d (2 ^ w) (omega (arith, m-small, even)) in
           rw (a, b, eq-eqb _ _ e, f, r)
 
-  pub sb-out : m ≤ u → undo (signExtend w) (unextend w) (spellUB high w) v ≡ none
+  pub sb-out : m ≤ u → undo (signExtend w) (unextend w) (spellUB high w) v ≡ cannot
   sb-out l = go (ltb ((v - (2 ^ 64 - 2 ^ w)) * 2) (2 ^ w)) refl
     where
       a : ltb (v * 2) (2 ^ w) ≡ false
       a = le-ltb (v * 2) (2 ^ w) (omega (arith, m-small, even))
 
-      go : (c : Bool) → ltb ((v - (2 ^ 64 - 2 ^ w)) * 2) (2 ^ w) ≡ c → undo (signExtend w) (unextend w) (spellUB high w) v ≡ none
+      go : (c : Bool) → ltb ((v - (2 ^ 64 - 2 ^ w)) * 2) (2 ^ w) ≡ c → undo (signExtend w) (unextend w) (spellUB high w) v ≡ cannot
       go true q = rw (a, q, ne-eqb (v - (2 ^ 64 - 2 ^ w)) v (λ z. omega (arith, m-small, even, pow-pos w)))
       go false q =
           rw (
@@ -93,15 +95,15 @@ module _ (w v m h u : ℕ) (low : 1 ≤ w) (few : w ≤ 32) (is : m ≡ 2 ^ w) (
           )
 
 -- ---- one field by its kind
-abbrev fieldSpelling : Field → ℕ → ℕ → Bits
+abbrev fieldSpelling : Field → ℕ → ℕ → Possible (List Bool)
 fieldSpelling Verb w v = spellUB high w v
 fieldSpelling Interpolation w v = spellUB high w v
 fieldSpelling Bit w v = spellUB high w v
 fieldSpelling ByteValue w v = spellUB high w v
 fieldSpelling Coordinate w v = undo (signExtend w) (unextend w) (spellUB high w) v
 
-unfoldable pub fieldBits : Field → ℕ → ℕ → ℕ → Bits
-fieldBits f w p v = pick (allows f v) (fieldSpelling f w v) none
+unfoldable pub fieldBits : Field → ℕ → ℕ → ℕ → Possible (List Bool)
+fieldBits f w p v = pick (allows f v) (fieldSpelling f w v) cannot
 
 pub field-is : (f : Field) (w : ℕ) (ns : List ℕ) (p : ℕ) → unrun high (fieldOf f w) ns p ≡ single (fieldBits f w p) ns
 unfolding unrun writeItem fieldBits
@@ -111,7 +113,7 @@ field-is Bit w ns p = refl
 field-is ByteValue w ns p = passing-single (λ ns. leb (the ns) 255) (spellUB high w) ns
 field-is Coordinate w ns p = refl
 
-pub field-sb : (w p v : ℕ) {b : Bits} → undo (signExtend w) (unextend w) (spellUB high w) v ≡ b → fieldBits Coordinate w p v ≡ b
+pub field-sb : (w p v : ℕ) {b : Possible (List Bool)} → undo (signExtend w) (unextend w) (spellUB high w) v ≡ b → fieldBits Coordinate w p v ≡ b
 unfolding fieldBits
 field-sb w p v e = e
 
@@ -120,33 +122,33 @@ unsigned-is Verb w v h = refl
 unsigned-is Interpolation w v h = refl
 unsigned-is Bit w v h = refl
 unsigned-is ByteValue w v h = refl
-unsigned-is Coordinate w v h = absurd (let z : _≡_ {A = ℕ} 0 1 = cc in omega arith)
+unsigned-is Coordinate w v h = clash cc
 
 -- m is 2 ^ w, and c whether the number is allowed
 module _ (f : Field) (w p v m : ℕ) (un : signed f ≡ false) (is : m ≡ 2 ^ w) where
-  pub field-large : m ≤ v → fieldBits f w p v ≡ none
+  pub field-large : m ≤ v → fieldBits f w p v ≡ cannot
   unfolding fieldBits
   field-large h = go (allows f v)
     where
-      go : (c : Bool) → pick c (fieldSpelling f w v) none ≡ none
+      go : (c : Bool) → pick c (fieldSpelling f w v) cannot ≡ cannot
       go true = unsigned-is f w v un ∙ ub-out w v (omega arith)
       go false = refl
 
-  pub field-out : {c : Bool} → c ≡ allows f v → not c ≡ true → fieldBits f w p v ≡ none
+  pub field-out : {c : Bool} → c ≡ allows f v → not c ≡ true → fieldBits f w p v ≡ cannot
   unfolding fieldBits
   field-out {c} e h = go c e h
     where
-      go : (c : Bool) → c ≡ allows f v → not c ≡ true → pick (allows f v) (fieldSpelling f w v) none ≡ none
-      go true e h = absurd (let z : _≡_ {A = ℕ} 0 1 = cc in omega arith)
+      go : (c : Bool) → c ≡ allows f v → not c ≡ true → pick (allows f v) (fieldSpelling f w v) cannot ≡ cannot
+      go true e h = clash cc
       go false e h = rw (sym e)
 
-  pub field-in : {c : Bool} → c ≡ allows f v → not c ≡ false → v < m → fieldBits f w p v ≡ spelt (dig high w v)
+  pub field-in : {c : Bool} → c ≡ allows f v → not c ≡ false → v < m → fieldBits f w p v ≡ this (dig high w v)
   unfolding fieldBits
   field-in {c} e h l = go c e h
     where
-      go : (c : Bool) → c ≡ allows f v → not c ≡ false → pick (allows f v) (fieldSpelling f w v) none ≡ spelt (dig high w v)
+      go : (c : Bool) → c ≡ allows f v → not c ≡ false → pick (allows f v) (fieldSpelling f w v) cannot ≡ this (dig high w v)
       go true e h = rw (sym e) (unsigned-is f w v un ∙ ub-in w v (omega arith))
-      go false e h = absurd (let z : _≡_ {A = ℕ} 0 1 = cc in omega arith)
+      go false e h = clash cc
 
 -- ---- a run of fields: i of n were put, and no place was judged
 pub record Going (f : Field) (w : ℕ) (t o : List ℕ) (s : Sink) (k n : ℕ) (u : List ℕ) (cur : Sink) (i : ℕ) : Type 0 where
@@ -156,7 +158,7 @@ pub record Going (f : Field) (w : ℕ) (t o : List ℕ) (s : Sink) (k n : ℕ) (
   pub low : cur .place .0 ≤ limit + 32 * i
   pub rest : ran t (at o s) k (times n (fieldOf f w)) ≡ ran t (at u cur) (k + i) (times (n - i) (fieldOf f w))
 
-pub fields-few : (f : Field) (w : ℕ) (t o : List ℕ) (s : Sink) (k n : ℕ) {m : ℕ} → m ≡ min n (length t - k) → m < n → gone ≡ ran t (at o s) k (times n (fieldOf f w))
+pub fields-few : (f : Field) (w : ℕ) (t o : List ℕ) (s : Sink) (k n : ℕ) {m : ℕ} → m ≡ min n (length t - k) → m < n → cannot ≡ ran t (at o s) k (times n (fieldOf f w))
 fields-few f w t o s k n e h = sym (times-few (fieldOf f w) (fieldBits f w) (field-is f w) t (at o s) k n (omega arith))
 
 pub fields-start : (f : Field) (w : ℕ) (t o : List ℕ) (s : Sink) (k n : ℕ) → Fine s → Going f w t o s k n o s 0
@@ -169,10 +171,10 @@ fields-start f w t o s k n fine = record {
 }
 
 module _ {f : Field} {w : ℕ} {t o : List ℕ} {s : Sink} {k n : ℕ} {u : List ℕ} {cur : Sink} {i : ℕ} (g : Going f w t o s k n u cur i) (more : i < n) {m : ℕ} (is : m ≡ min n (length t - k)) (few : n ≤ m) where
-  pub fields-bad : fieldBits f w (cur .place .0) (getD t (k + i) 0) ≡ none → gone ≡ ran t (at o s) k (times n (fieldOf f w))
+  pub fields-bad : fieldBits f w (cur .place .0) (getD t (k + i) 0) ≡ cannot → cannot ≡ ran t (at o s) k (times n (fieldOf f w))
   fields-bad e = sym (g .rest ∙ times-bad (fieldOf f w) (fieldBits f w) (field-is f w) t (at u cur) (k + i) (n - i) (omega arith) (omega arith) e)
 
-  pub fields-next : (x : ℕ) {u′ : List ℕ} {s′ : Sink} → w ≤ 32 → fieldBits f w (cur .place .0) (getD t (k + i) 0) ≡ spelt (dig high w x) → length u′ ≡ length u
+  pub fields-next : (x : ℕ) {u′ : List ℕ} {s′ : Sink} → w ≤ 32 → fieldBits f w (cur .place .0) (getD t (k + i) 0) ≡ this (dig high w x) → length u′ ≡ length u
       → at u′ s′ ≡ lay (at u cur) (dig high w x) → Going f w t o s k n u′ s′ (i + 1)
   fields-next x {u′} {s′} h e size d = record {
     size = size ∙ g .size;
@@ -231,10 +233,10 @@ signed-announces t k n Impossible = tt
 
 pub signed-run : (f : Field) (w : ℕ) (t : List ℕ) (st : State) (k n : ℕ) (u : List ℕ) (R : Put) → signed f ≡ true → seen u R ≡ ran t st k (times n (fieldOf Coordinate w))
     → (seen u R ≡ ran t st k (times n (fieldOf f w))) × Announces f t k n R 0
-signed-run Verb w t st k n u R h e = absurd (let z : _≡_ {A = ℕ} 0 1 = cc in omega arith)
-signed-run Interpolation w t st k n u R h e = absurd (let z : _≡_ {A = ℕ} 0 1 = cc in omega arith)
-signed-run Bit w t st k n u R h e = absurd (let z : _≡_ {A = ℕ} 0 1 = cc in omega arith)
-signed-run ByteValue w t st k n u R h e = absurd (let z : _≡_ {A = ℕ} 0 1 = cc in omega arith)
+signed-run Verb w t st k n u R h e = clash cc
+signed-run Interpolation w t st k n u R h e = clash cc
+signed-run Bit w t st k n u R h e = clash cc
+signed-run ByteValue w t st k n u R h e = clash cc
 signed-run Coordinate w t st k n u R h e = (e, signed-announces t k n R)
 
 -- what a run that was written announces
@@ -242,30 +244,30 @@ pub announces-done : (f : Field) (t : List ℕ) (k n m : ℕ) {R : Put} {s : Sin
 announces-done f t k n m a e = subst (λ (x : Put). Announces f t k n x m) e a
 
 -- ---- a width
-unfoldable pub widthBits : ℕ → ℕ → Bits
+unfoldable pub widthBits : ℕ → ℕ → Possible (List Bool)
 widthBits p v = undo suc pred (spellUB high 5) v
 
 pub width-is : (ns : List ℕ) (p : ℕ) → unrun high (item Item.width) ns p ≡ single (widthBits p) ns
 unfolding unrun writeItem widthBits
 width-is ns p = refl
 
-pub width-zero : (p v : ℕ) → v ≡ 0 → widthBits p v ≡ none
+pub width-zero : (p v : ℕ) → v ≡ 0 → widthBits p v ≡ cannot
 unfolding widthBits
 width-zero p v e = rw e
 
-pub width-large : (p v : ℕ) → 32 < v → widthBits p v ≡ none
+pub width-large : (p v : ℕ) → 32 < v → widthBits p v ≡ cannot
 unfolding widthBits
 width-large p zero h = absurd (omega arith)
 width-large p (suc v) h = rw (eq-eqb (suc v) (suc v) refl, le-ltb v (2 ^ 5) (omega arith))
 
-pub width-in : (p v : ℕ) → (v ≡ 0 → ⊥) → v ≤ 32 → widthBits p v ≡ spelt (dig high 5 (v - 1))
+pub width-in : (p v : ℕ) → (v ≡ 0 → ⊥) → v ≤ 32 → widthBits p v ≡ this (dig high 5 (v - 1))
 unfolding widthBits
 width-in p zero h l = absurd (h refl)
 width-in p (suc v) h l = let z : suc v - 1 ≡ v = omega arith in rw (eq-eqb (suc v) (suc v) refl, lt-ltb v (2 ^ 5) (omega arith), z)
 
 -- ---- a width, and n fields of it
 module _ (f : Field) (t : List ℕ) (st : State) (k n : ℕ) (u : List ℕ) (R : Put) (first : seen u R ≡ ran t st k (item Item.width)) where
-  pub scaled-stop : R ≡ Impossible → ran t st k (item Item.width ▹ λ w. times n (fieldOf f (the w))) ≡ gone
+  pub scaled-stop : R ≡ Impossible → ran t st k (item Item.width ▹ λ w. times n (fieldOf f (the w))) ≡ cannot
   scaled-stop e = then-stop t st k (item Item.width) (λ w. times n (fieldOf f (the w))) u R first e
 
   module _ (s : Sink) (j : ℕ) (e : R ≡ Done s j) where

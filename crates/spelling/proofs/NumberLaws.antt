@@ -11,7 +11,8 @@ use Rattle.format.specs.Tests.{pick, _and_, _or_}
 use Rattle.format.specs.Bits.{high}
 use Rattle.format.specs.Formats.{Format, _▹_, the}
 use Rattle.format.specs.Items.{skipped}
-use Rattle.format.specs.WritingItems.{dig, Bits, spelt, none, before, put, single, writeItem, spellUB, spellVar, spellI32, spellLE}
+use Rattle.format.specs.Possible.{Possible, this, cannot}
+use Rattle.format.specs.WritingItems.{dig, before, put, single, writeItem, spellUB, spellVar, spellI32, spellLE}
 use Rattle.format.specs.WritingFormats.{passing, adjoin, unrun}
 use Rattle.items.specs.Kinds.{formatOf, rangeFault}
 use Rattle.items.specs.declared.Item.{Item}
@@ -21,25 +22,25 @@ use Rattle.sink.specs.declared.Sink.{Sink}
 use Rattle.sink.proofs.LayingLaws.{lay-byte, lay-none}
 use Rattle.spelling.specs.declared.Put.{Put}
 use Rattle.spelling.specs.declared.Put.the-variants.{Done, Impossible}
-use Rattle.spelling.specs.Writing.{Sunk, sunk, unsunk, laid, Seen, here, seen, ran}
+use Rattle.spelling.specs.Writing.{bitsOver, Seen, here, seen, ran}
 use Rattle.spelling.specs.Spellings.{spellingOf}
 use Rattle.spelling.proofs.RunLaws.{then-stop, then-done, laid-before, laid-in, laid-no, one-done, OneDone, the-one}
 
 -- ---- a byte
-pub byte-in : (o : List ℕ) (i p v : ℕ) {u : List ℕ} → p ≡ 8 * i → v ≤ 255 → u ≡ set o i v → sunk (mk u (p + 8) 0) ≡ laid (mk o p 0) (spellUB high 8 v)
+pub byte-in : (o : List ℕ) (i p v : ℕ) {u : List ℕ} → p ≡ 8 * i → v ≤ 255 → u ≡ set o i v → this (mk u (p + 8) 0) ≡ bitsOver (mk o p 0) (spellUB high 8 v)
 byte-in o i p v e h d = laid-in (mk o p 0) (spellUB high 8 v) (rw (lt-ltb v (2 ^ 8) (omega arith))) (sym (lay-byte o i v (omega arith) e d))
 
-pub byte-no : (st : State) (v : ℕ) → 255 < v → unsunk ≡ laid st (spellUB high 8 v)
+pub byte-no : (st : State) (v : ℕ) → 255 < v → cannot ≡ bitsOver st (spellUB high 8 v)
 byte-no st v h = laid-no st (spellUB high 8 v) (rw (le-ltb v (2 ^ 8) (omega arith)))
 
 -- one byte, and what follows it
-pub byte-then : (o : List ℕ) (i p v : ℕ) {u : List ℕ} (b : Bits) → v < 256 → p ≡ 8 * i → u ≡ set o i v → laid (mk o p 0) (before (dig high 8 v) b) ≡ laid (mk u (p + 8) 0) b
-byte-then o i p v b h e d = laid-before (mk o p 0) (dig high 8 v) b ∙ ap (λ (st : State). laid st b) (lay-byte o i v h e d)
+pub byte-then : (o : List ℕ) (i p v : ℕ) {u : List ℕ} (b : Possible (List Bool)) → v < 256 → p ≡ 8 * i → u ≡ set o i v → bitsOver (mk o p 0) (before (dig high 8 v) b) ≡ bitsOver (mk u (p + 8) 0) b
+byte-then o i p v b h e d = laid-before (mk o p 0) (dig high 8 v) b ∙ ap (λ (st : State). bitsOver st b) (lay-byte o i v h e d)
 
 -- ---- a Float
 pub float-in : (o : List ℕ) (i p v : ℕ) {u₀ u₁ u₂ u₃ : List ℕ} → p ≡ 8 * i → v ≤ 4294967295
     → u₀ ≡ set o i (v % 256) → u₁ ≡ set u₀ (i + 1) (v / 256 % 256) → u₂ ≡ set u₁ (i + 2) (v / 65536 % 256) → u₃ ≡ set u₂ (i + 3) (v / 16777216)
-    → sunk (mk u₃ (p + 32) 0) ≡ laid (mk o p 0) (spellLE high v 4)
+    → this (mk u₃ (p + 32) 0) ≡ bitsOver (mk o p 0) (spellLE high v 4)
 unfolding spellLE
 float-in o i p v {u₀} {u₁} {u₂} {u₃} e h e₀ e₁ e₂ e₃ =
     let q₂ : v / 256 / 256 ≡ v / 65536 = omega arith in
@@ -47,19 +48,19 @@ float-in o i p v {u₀} {u₁} {u₂} {u₃} e h e₀ e₁ e₂ e₃ =
     let q₄ : v / 16777216 / 256 ≡ 0 = omega arith in
     let l₃ : v / 16777216 % 256 ≡ v / 16777216 = omega arith in
     let l : p + 8 + 8 + 8 + 8 ≡ p + 32 = omega arith in
-    let b₃ : Bits = before (dig high 8 (v / 16777216)) (spelt []) in
-    let b₂ : Bits = before (dig high 8 (v / 65536 % 256)) b₃ in
-    let b₁ : Bits = before (dig high 8 (v / 256 % 256)) b₂ in
+    let b₃ : Possible (List Bool) = before (dig high 8 (v / 16777216)) (this []) in
+    let b₂ : Possible (List Bool) = before (dig high 8 (v / 65536 % 256)) b₃ in
+    let b₁ : Possible (List Bool) = before (dig high 8 (v / 256 % 256)) b₂ in
     sym
     (rw (q₂, q₃, q₄, l₃)
     (byte-then o i p (v % 256) b₁ (omega arith) e e₀
     ∙ byte-then u₀ (i + 1) (p + 8) (v / 256 % 256) b₂ (omega arith) (omega arith) e₁
     ∙ byte-then u₁ (i + 2) (p + 8 + 8) (v / 65536 % 256) b₃ (omega arith) (omega arith) e₂
-    ∙ byte-then u₂ (i + 3) (p + 8 + 8 + 8) (v / 16777216) (spelt []) (omega arith) (omega arith) e₃
-    ∙ ap (λ (x : ℕ). laid (mk u₃ x 0) (spelt [])) l
-    ∙ ap sunk (lay-none (mk u₃ (p + 32) 0))))
+    ∙ byte-then u₂ (i + 3) (p + 8 + 8 + 8) (v / 16777216) (this []) (omega arith) (omega arith) e₃
+    ∙ ap (λ (x : ℕ). bitsOver (mk u₃ x 0) (this [])) l
+    ∙ ap this (lay-none (mk u₃ (p + 32) 0))))
 
-pub float-no : (st : State) (v : ℕ) → 4294967295 < v → unsunk ≡ laid st (spellLE high v 4)
+pub float-no : (st : State) (v : ℕ) → 4294967295 < v → cannot ≡ bitsOver st (spellLE high v 4)
 unfolding spellLE
 float-no st v h =
     let n : eqb (v / 256 / 256 / 256 / 256) 0 ≡ false = ne-eqb (v / 256 / 256 / 256 / 256) 0 (λ e. omega arith) in
@@ -68,28 +69,28 @@ float-no st v h =
 -- ---- seven bits a byte
 module _ (o : List ℕ) (i p top v : ℕ) (e : p ≡ 8 * i) where
   pub var-more : (k : ℕ) {u : List ℕ} → (k ≡ 0 → ⊥) → 128 ≤ v → u ≡ set o i (128 + v % 128)
-      → laid (mk o p 0) (spellVar high top v k) ≡ laid (mk u (p + 8) 0) (spellVar high top (v / 128) (k - 1))
+      → bitsOver (mk o p 0) (spellVar high top v k) ≡ bitsOver (mk u (p + 8) 0) (spellVar high top (v / 128) (k - 1))
   unfolding spellVar
   var-more zero h l d = absurd (h refl)
   var-more (suc k) h l d =
       let q : suc k - 1 ≡ k = omega arith in
       rw (le-ltb v 128 l, q) (byte-then o i p (128 + v % 128) (spellVar high top (v / 128) k) (omega arith) e d)
 
-  pub var-long : (k : ℕ) → top < 128 → k ≡ 0 → 128 ≤ v → unsunk ≡ laid (mk o p 0) (spellVar high top v k)
+  pub var-long : (k : ℕ) → top < 128 → k ≡ 0 → 128 ≤ v → cannot ≡ bitsOver (mk o p 0) (spellVar high top v k)
   unfolding spellVar
   var-long k t h l = rw (h, lt-leb v top (omega arith))
 
-  pub var-over : (k : ℕ) → k ≡ 0 → top < v → unsunk ≡ laid (mk o p 0) (spellVar high top v k)
+  pub var-over : (k : ℕ) → k ≡ 0 → top < v → cannot ≡ bitsOver (mk o p 0) (spellVar high top v k)
   unfolding spellVar
   var-over k h l = rw (h, lt-leb v top l)
 
-  pub var-end : (k : ℕ) {u : List ℕ} → v < 128 → (k ≡ 0 → v ≤ top) → u ≡ set o i v → sunk (mk u (p + 8) 0) ≡ laid (mk o p 0) (spellVar high top v k)
+  pub var-end : (k : ℕ) {u : List ℕ} → v < 128 → (k ≡ 0 → v ≤ top) → u ≡ set o i v → this (mk u (p + 8) 0) ≡ bitsOver (mk o p 0) (spellVar high top v k)
   unfolding spellVar
-  var-end zero l h d = rw (le-leb v top (h refl)) (ap sunk (sym (lay-byte o i v (omega arith) e d)))
-  var-end (suc k) l h d = rw (lt-ltb v 128 l) (ap sunk (sym (lay-byte o i v (omega arith) e d)))
+  var-end zero l h d = rw (le-leb v top (h refl)) (ap this (sym (lay-byte o i v (omega arith) e d)))
+  var-end (suc k) l h d = rw (lt-ltb v 128 l) (ap this (sym (lay-byte o i v (omega arith) e d)))
 
 -- ---- I32
-var-none : (d : ℕ) → 4294967296 ≤ d → spellVar high 15 d 4 ≡ none
+var-none : (d : ℕ) → 4294967296 ≤ d → spellVar high 15 d 4 ≡ cannot
 unfolding spellVar
 var-none d h =
     rw (
@@ -118,42 +119,42 @@ minus v l h =
 pub i32-minus : (v m : ℕ) → v < 18446744073709551616 → 9223372036854775808 ≤ v → 2 ^ 64 - v ≡ m → spellI32 high v ≡ spellVar high 15 (m * 2 + 1) 4
 i32-minus v m l h e = minus v l h ∙ ap (λ (x : ℕ). spellVar high 15 (x * 2 + 1) 4) e
 
-pub i32-none : (v m : ℕ) → v < 18446744073709551616 → 9223372036854775808 ≤ v → 2 ^ 64 - v ≡ m → 2147483647 < m → spellI32 high v ≡ none
+pub i32-none : (v m : ℕ) → v < 18446744073709551616 → 9223372036854775808 ≤ v → 2 ^ 64 - v ≡ m → 2147483647 < m → spellI32 high v ≡ cannot
 i32-none v m l h e g = i32-minus v m l h e ∙ var-none (m * 2 + 1) (omega arith)
 
 -- ---- an item: the skip, its spelling, its range
-unfoldable pub bitsOf : Item → ℕ → ℕ → Bits
-bitsOf kind p v = pick (eqb (rangeFault kind v) 0) (before (dig high (skipped p) 0) (spellingOf kind v)) none
+unfoldable pub bitsOf : Item → ℕ → ℕ → Possible (List Bool)
+bitsOf kind p v = pick (eqb (rangeFault kind v) 0) (before (dig high (skipped p) 0) (spellingOf kind v)) cannot
 
-pub single-eq : (f g : ℕ → Bits) → ((v : ℕ) → f v ≡ g v) → (ns : List ℕ) → single f ns ≡ single g ns
+pub single-eq : (f g : ℕ → Possible (List Bool)) → ((v : ℕ) → f v ≡ g v) → (ns : List ℕ) → single f ns ≡ single g ns
 single-eq f g h [] = refl
-single-eq f g h (v ∷ ns) = ap (λ (b : Bits). put (v ∷ []) b ns) (h v)
+single-eq f g h (v ∷ ns) = ap (λ (b : Possible (List Bool)). put (v ∷ []) b ns) (h v)
 
-adjoin-single : (bs : List Bool) (f : ℕ → Bits) (ns : List ℕ) → adjoin [] bs (single f ns) ≡ single (λ v. before bs (f v)) ns
+adjoin-single : (bs : List Bool) (f : ℕ → Possible (List Bool)) (ns : List ℕ) → adjoin [] bs (single f ns) ≡ single (λ v. before bs (f v)) ns
 adjoin-single bs f [] = refl
 adjoin-single bs f (v ∷ ns) = go (f v)
   where
-    go : (b : Bits) → adjoin [] bs (put (v ∷ []) b ns) ≡ put (v ∷ []) (before bs b) ns
-    go (spelt xs) = refl
-    go none = refl
+    go : (b : Possible (List Bool)) → adjoin [] bs (put (v ∷ []) b ns) ≡ put (v ∷ []) (before bs b) ns
+    go (this xs) = refl
+    go cannot = refl
 
-pub passing-single : (c : List ℕ → Bool) (f : ℕ → Bits) (ns : List ℕ) → passing c (single f ns) ≡ single (λ v. pick (c (v ∷ [])) (f v) none) ns
+pub passing-single : (c : List ℕ → Bool) (f : ℕ → Possible (List Bool)) (ns : List ℕ) → passing c (single f ns) ≡ single (λ v. pick (c (v ∷ [])) (f v) cannot) ns
 passing-single c f [] = refl
 passing-single c f (v ∷ ns) = go (f v) (c (v ∷ [])) refl
   where
-    go : (b : Bits) (d : Bool) → c (v ∷ []) ≡ d → passing c (put (v ∷ []) b ns) ≡ put (v ∷ []) (pick (c (v ∷ [])) b none) ns
-    go (spelt bs) true e = rw e
-    go (spelt bs) false e = rw e
-    go none true e = rw e
-    go none false e = rw e
+    go : (b : Possible (List Bool)) (d : Bool) → c (v ∷ []) ≡ d → passing c (put (v ∷ []) b ns) ≡ put (v ∷ []) (pick (c (v ∷ [])) b cannot) ns
+    go (this bs) true e = rw e
+    go (this bs) false e = rw e
+    go cannot true e = rw e
+    go cannot false e = rw e
 
-tested : (c : Bool) (e : ℕ) (b : Bits) → (e ≡ 0 → ⊥) → pick c b none ≡ pick (eqb (pick c 0 e) 0) b none
+tested : (c : Bool) (e : ℕ) (b : Possible (List Bool)) → (e ≡ 0 → ⊥) → pick c b cannot ≡ pick (eqb (pick c 0 e) 0) b cannot
 tested true e b h = refl
 tested false e b h = rw (ne-eqb e 0 h)
 
 -- with a test: its fault is e
-range-is : (c : List ℕ → Bool) (e p : ℕ) (f : ℕ → Bits) (ns : List ℕ) → (e ≡ 0 → ⊥)
-    → passing c (adjoin [] (dig high (skipped p) 0) (single f ns)) ≡ single (λ v. pick (eqb (pick (c (v ∷ [])) 0 e) 0) (before (dig high (skipped p) 0) (f v)) none) ns
+range-is : (c : List ℕ → Bool) (e p : ℕ) (f : ℕ → Possible (List Bool)) (ns : List ℕ) → (e ≡ 0 → ⊥)
+    → passing c (adjoin [] (dig high (skipped p) 0) (single f ns)) ≡ single (λ v. pick (eqb (pick (c (v ∷ [])) 0 e) 0) (before (dig high (skipped p) 0) (f v)) cannot) ns
 range-is c e p f ns h =
     ap (passing c) (adjoin-single (dig high (skipped p) 0) f ns)
     ∙ passing-single c (λ v. before (dig high (skipped p) 0) (f v)) ns
@@ -170,19 +171,19 @@ item-is (Enum top) ns p = range-is (λ ns. leb (the ns) top) 16 p (spellUB high 
 item-is BlendMode ns p = range-is (λ ns. leb (the ns) 16 or (leb 21 (the ns) and leb (the ns) 26)) 16 p (spellUB high 8) ns (λ e. omega arith)
 item-is (Count lo) ns p = range-is (λ ns. leb lo (the ns) and leb (the ns) 4096) 17 p (λ v. spellVar high 15 v 4) ns (λ e. omega arith)
 
-pub item-out : (kind : Item) (p v : ℕ) {r : ℕ} → r ≡ rangeFault kind v → (r ≡ 0 → ⊥) → bitsOf kind p v ≡ none
+pub item-out : (kind : Item) (p v : ℕ) {r : ℕ} → r ≡ rangeFault kind v → (r ≡ 0 → ⊥) → bitsOf kind p v ≡ cannot
 unfolding bitsOf
 item-out kind p v e h = rw (ne-eqb (rangeFault kind v) 0 (λ z. h (e ∙ z)))
 
-pub item-in : (kind : Item) (st : State) (v : ℕ) {r byte bit : ℕ} {u : List ℕ} {x : Sunk} → r ≡ rangeFault kind v → (r ≡ 0) → Skipped st u byte bit
-    → x ≡ laid (mk u bit 0) (spellingOf kind v) → x ≡ laid st (bitsOf kind (st .place) v)
+pub item-in : (kind : Item) (st : State) (v : ℕ) {r byte bit : ℕ} {u : List ℕ} {x : Possible State} → r ≡ rangeFault kind v → (r ≡ 0) → Skipped st u byte bit
+    → x ≡ bitsOver (mk u bit 0) (spellingOf kind v) → x ≡ bitsOver st (bitsOf kind (st .place) v)
 unfolding bitsOf
 item-in kind st v e h skip d =
-    d ∙ ap (λ (s : State). laid s (spellingOf kind v)) (skip .laid) ∙ sym (laid-before st (dig high (skipped (st .place)) 0) (spellingOf kind v))
+    d ∙ ap (λ (s : State). bitsOver s (spellingOf kind v)) (skip .laid) ∙ sym (laid-before st (dig high (skipped (st .place)) 0) (spellingOf kind v))
     ∙ (let z : eqb (rangeFault kind v) 0 ≡ true = eq-eqb (rangeFault kind v) 0 (sym e ∙ h) in rw z)
 
 -- ---- a count that was written is in its range
-pub count-done : (lo : ℕ) (t : List ℕ) (st st′ : State) (k j : ℕ) → ran t st k (formatOf (Count lo)) ≡ here st′ j
+pub count-done : (lo : ℕ) (t : List ℕ) (st st′ : State) (k j : ℕ) → ran t st k (formatOf (Count lo)) ≡ this (here st′ j)
     → (j ≡ k + 1) × (k < length t) × (lo ≤ getD t k 0) × (getD t k 0 ≤ 4096)
 unfolding bitsOf rangeFault
 count-done lo t st st′ k j e = (d .next, d .inside, go (leb lo (getD t k 0)) refl (leb (getD t k 0) 4096) refl .0, go (leb lo (getD t k 0)) refl (leb (getD t k 0) 4096) refl .1)
@@ -215,5 +216,5 @@ module _ (lo : ℕ) (g : ℕ → Format) (t : List ℕ) (st : State) (k : ℕ) (
         then-done t st k (formatOf (Count lo)) (λ n. g (the n)) u R first s j e
         ∙ ap (λ (n : ℕ). ran t (at u s) j (g n)) (the-one t k j (done .0) (done .1))
 
-    pub counted-on : {x : Seen} → x ≡ ran t (at u s) j (g (getD t k 0)) → x ≡ ran t st k (formatOf (Count lo) ▹ λ n. g (the n))
+    pub counted-on : {x : Possible Seen} → x ≡ ran t (at u s) j (g (getD t k 0)) → x ≡ ran t st k (formatOf (Count lo) ▹ λ n. g (the n))
     counted-on d = d ∙ sym counted-done

@@ -15,10 +15,12 @@ use Rattle.format.specs.Tests.{pick}
 use Rattle.format.specs.Bits.{high}
 use Rattle.format.specs.Formats.{Item, Format, nothing, item, _▹_, _▸_, times, the}
 use Rattle.format.specs.Items.{skipped}
-use Rattle.format.specs.WritingItems.{dig, Bits, spelt, none, before, Written, wrote, cannot, put, single, writeItem}
+use Rattle.format.specs.Possible.{Possible, this, cannot}
+use Rattle.format.specs.WritingItems.{dig, before, Written, wrote, put, single, writeItem}
 use Rattle.format.specs.WritingFormats.{adjoin, onward, unrun}
 use Rattle.format.proofs.BitLaws.{length-dig}
 use Rattle.format.proofs.ItemLaws.{round-trip}
+use Rattle.format.proofs.Absurd.{clash}
 use Rattle.sink.specs.Laying.{State, at, lay, Holds, Skipped}
 use Rattle.sink.specs.declared.Sink.{Sink}
 use Rattle.sink.proofs.LayingLaws.{lay-append, lay-none, lay-place, lay-ok}
@@ -26,14 +28,14 @@ use Rattle.spelling.specs.declared.Put.{Put}
 use Rattle.spelling.specs.declared.Put.the-variants.{Done, Impossible}
 use Rattle.spelling.specs.declared.Spelt.{Spelt}
 use Rattle.spelling.specs.declared.Spelt.the-variants.{In, No}
-use Rattle.spelling.specs.Writing.{sunk, unsunk, laid, got, Seen, here, gone, seen, ends, after, ran, limit, Fine, finish, OnByte}
+use Rattle.spelling.specs.Writing.{bitsOver, got, Seen, here, seen, ends, writtenOver, ran, limit, Fine, finish, OnByte}
 
 -- ---- where a format ends
-pub ends-in : (st : State) (k : ℕ) → st .place ≤ limit → ends st k ≡ here st k
+pub ends-in : (st : State) (k : ℕ) → st .place ≤ limit → ends st k ≡ this (here st k)
 unfolding ends
 ends-in st k h = rw (le-leb _ _ h)
 
-pub ends-out : (st : State) (k : ℕ) → limit < st .place → ends st k ≡ gone
+pub ends-out : (st : State) (k : ℕ) → limit < st .place → ends st k ≡ cannot
 unfolding ends
 ends-out st k h = rw (lt-leb _ _ h)
 
@@ -41,35 +43,35 @@ pub finish-ends : (o : List ℕ) (s : Sink) (k : ℕ) → seen o (finish s k) �
 unfolding ends
 finish-ends o s k = go (leb (s .place .0) limit)
   where
-    go : (c : Bool) → seen o (pick c (Done s k) Impossible) ≡ pick c (here (at o s) k) gone
+    go : (c : Bool) → seen o (pick c (Done s k) Impossible) ≡ pick c (this (here (at o s) k)) cannot
     go true = refl
     go false = refl
 
 -- ---- the values used, and those left
-pub parts : (f : Format) (ns : List ℕ) (p : ℕ) (xs ys : List ℕ) (bs : List Bool) → unrun high f ns p ≡ wrote xs bs ys → ns ≡ xs ++ ys
+pub parts : (f : Format) (ns : List ℕ) (p : ℕ) (xs ys : List ℕ) (bs : List Bool) → unrun high f ns p ≡ this (wrote xs bs ys) → ns ≡ xs ++ ys
 parts f ns p xs ys bs e = (rw e at (round-trip high f .back ns p)) .parts
 
 module _ (t : List ℕ) (k : ℕ) (g : List ℕ → Format) where
   -- what follows a format that was written from index k on
-  abbrev pub resume : Seen → Seen
-  resume (here st j) = ran t st j (g (take (j - k) (drop k t)))
-  resume gone = gone
+  abbrev pub resume : Possible Seen → Possible Seen
+  resume (this (here st j)) = ran t st j (g (take (j - k) (drop k t)))
+  resume cannot = cannot
 
 -- THE law: one format and then another
 pub ran-then : (t : List ℕ) (st : State) (k : ℕ) (f : Format) (g : List ℕ → Format) → ran t st k (f ▹ g) ≡ resume t k g (ran t st k f)
-unfolding ran unrun after ends
+unfolding ran unrun writtenOver ends
 ran-then t st k f g = go (unrun high f (drop k t) (st .place)) refl
   where
-    bits : (xs : List ℕ) (bs : List Bool) (w : Written) → (c : Bool) → leb (lay st bs .place) limit ≡ c
-        → after st k (adjoin xs bs w) ≡ pick c (after (lay st bs) (k + length xs) w) gone
-    bits xs bs (wrote xs′ bs′ ys′) true e = ap₂ ends (lay-append st bs bs′) (rw (length-append, add-assoc))
-    bits xs bs (wrote xs′ bs′ ys′) false e =
+    bits : (xs : List ℕ) (bs : List Bool) (w : Possible Written) → (c : Bool) → leb (lay st bs .place) limit ≡ c
+        → writtenOver st k (adjoin xs bs w) ≡ pick c (writtenOver (lay st bs) (k + length xs) w) cannot
+    bits xs bs (this (wrote xs′ bs′ ys′)) true e = ap₂ ends (lay-append st bs bs′) (rw (length-append, add-assoc))
+    bits xs bs (this (wrote xs′ bs′ ys′)) false e =
         ends-out (lay st (bs ++ bs′)) _ (omega (arith, leb-false (lay st bs .place) limit e, lay-place st (bs ++ bs′), lay-place st bs, length-append bs bs′))
     bits xs bs cannot true e = refl
     bits xs bs cannot false e = refl
 
     back : (xs : List ℕ) (bs : List Bool) (ys : List ℕ) → drop k t ≡ xs ++ ys → (c : Bool) → leb (lay st bs .place) limit ≡ c
-        → pick c (after (lay st bs) (k + length xs) (unrun high (g xs) ys (st .place + length bs))) gone ≡ resume t k g (pick c (here (lay st bs) (k + length xs)) gone)
+        → pick c (writtenOver (lay st bs) (k + length xs) (unrun high (g xs) ys (st .place + length bs))) cannot ≡ resume t k g (pick c (this (here (lay st bs) (k + length xs))) cannot)
     back xs bs ys d false e = refl
     back xs bs ys d true e =
         let n : k + length xs - k ≡ length xs = omega arith in
@@ -77,15 +79,15 @@ ran-then t st k f g = go (unrun high f (drop k t) (st .place)) refl
         let b : drop (k + length xs) t ≡ ys = sym (drop-drop (length xs) k t) ∙ rw d (drop-append-seam xs ys) in
         rw (a, b, lay-place)
 
-    go : (w : Written) → unrun high f (drop k t) (st .place) ≡ w
-        → after st k (onward w (st .place) (λ xs ys q. unrun high (g xs) ys q)) ≡ resume t k g (after st k w)
+    go : (w : Possible Written) → unrun high f (drop k t) (st .place) ≡ w
+        → writtenOver st k (onward w (st .place) (λ xs ys q. unrun high (g xs) ys q)) ≡ resume t k g (writtenOver st k w)
     go cannot e = refl
-    go (wrote xs bs ys) e =
+    go (this (wrote xs bs ys)) e =
         bits xs bs (unrun high (g xs) ys (st .place + length bs)) (leb (lay st bs .place) limit) refl
         ∙ back xs bs ys (parts f (drop k t) (st .place) xs ys bs e) (leb (lay st bs .place) limit) refl
 
-pub ran-nothing : (t : List ℕ) (st : State) (k : ℕ) → st .place ≤ limit → ran t st k nothing ≡ here st k
-unfolding ran unrun after
+pub ran-nothing : (t : List ℕ) (st : State) (k : ℕ) → st .place ≤ limit → ran t st k nothing ≡ this (here st k)
+unfolding ran unrun writtenOver
 ran-nothing t st k h = rw (lay-none, add-zero) (ends-in st k h)
 
 -- ---- one format and then another: R is the first one's answer, u the output that it left
@@ -93,11 +95,11 @@ module _ (t : List ℕ) (st : State) (k : ℕ) (f : Format) (g : List ℕ → Fo
   pub then-done : (s : Sink) (j : ℕ) → R ≡ Done s j → ran t st k (f ▹ g) ≡ ran t (at u s) j (g (take (j - k) (drop k t)))
   then-done s j e = ran-then t st k f g ∙ ap (resume t k g) (sym first ∙ ap (seen u) e)
 
-  pub then-stop : R ≡ Impossible → ran t st k (f ▹ g) ≡ gone
+  pub then-stop : R ≡ Impossible → ran t st k (f ▹ g) ≡ cannot
   then-stop e = ran-then t st k f g ∙ ap (resume t k g) (sym first ∙ ap (seen u) e)
 
   -- the same as the code has it: x is what the second leaves
-  pub then-on : (s : Sink) (j : ℕ) {x : Seen} → R ≡ Done s j → x ≡ ran t (at u s) j (g (take (j - k) (drop k t))) → x ≡ ran t st k (f ▹ g)
+  pub then-on : (s : Sink) (j : ℕ) {x : Possible Seen} → R ≡ Done s j → x ≡ ran t (at u s) j (g (take (j - k) (drop k t))) → x ≡ ran t st k (f ▹ g)
   then-on s j e d = d ∙ sym (then-done s j e)
 
   pub then-off : R ≡ Impossible → seen u R ≡ ran t st k (f ▹ g)
@@ -111,24 +113,24 @@ times-pred f (suc n) h = let e : suc n - 1 ≡ n = omega arith in rw e
 
 -- none of them: no place was judged before
 pub times-end : (t : List ℕ) (st : State) (k : ℕ) (f : Format) (n : ℕ) → n ≡ 0 → ran t st k (times n f) ≡ ends st k
-unfolding ran unrun after times
+unfolding ran unrun writtenOver times
 times-end t st k f n e = rw (e, lay-none, add-zero)
 
 -- ---- what was written leaves a sink to go on with
 pub ran-fine : (t o : List ℕ) (s : Sink) (k : ℕ) (f : Format) (u : List ℕ) (R : Put) → Fine s → seen u R ≡ ran t (at o s) k f
     → (s′ : Sink) (j : ℕ) → R ≡ Done s′ j → Fine s′
-unfolding ran after ends
+unfolding ran writtenOver ends
 ran-fine t o s k f u R fine e s′ j d = go (unrun high f (drop k t) (s .place .0)) (sym e ∙ ap (seen u) d)
   where
-    out-of : (bs : List Bool) (i : ℕ) (c : Bool) → leb (lay (at o s) bs .place) limit ≡ c → pick c (here (lay (at o s) bs) i) gone ≡ here (at u s′) j → Fine s′
+    out-of : (bs : List Bool) (i : ℕ) (c : Bool) → leb (lay (at o s) bs .place) limit ≡ c → pick c (this (here (lay (at o s) bs) i)) cannot ≡ this (here (at u s′) j) → Fine s′
     out-of bs i true q h =
         let z : lay (at o s) bs ≡ at u s′ = cc in
         (subst (λ (x : State). Holds (x .place) (x .part)) z (lay-ok (at o s) bs (fine .0)), subst (λ (x : State). x .place ≤ limit) z (leb-true (lay (at o s) bs .place) limit q))
-    out-of bs i false q h = absurd (let z : _≡_ {A = ℕ} 0 1 = cc in omega arith)
+    out-of bs i false q h = clash cc
 
-    go : (w : Written) → after (at o s) k w ≡ here (at u s′) j → Fine s′
-    go cannot h = absurd (let z : _≡_ {A = ℕ} 0 1 = cc in omega arith)
-    go (wrote xs bs ys) h = out-of bs (k + length xs) (leb (lay (at o s) bs .place) limit) refl h
+    go : (w : Possible Written) → writtenOver (at o s) k w ≡ this (here (at u s′) j) → Fine s′
+    go cannot h = clash cc
+    go (this (wrote xs bs ys)) h = out-of bs (k + length xs) (leb (lay (at o s) bs .place) limit) refl h
 
 -- ---- a loop that writes the format f part by part: of it g is to come
 pub record Going (t o : List ℕ) (s : Sink) (k : ℕ) (f : Format) (u : List ℕ) (cur : Sink) (j : ℕ) (g : Format) : Type 0 where
@@ -158,107 +160,107 @@ module _ {t o : List ℕ} {s : Sink} {k : ℕ} {f : Format} {u : List ℕ} {cur 
       rest = going .rest ∙ ap (ran t (at u cur) j) is ∙ then-done t (at u cur) j part (λ xs. rest) u′ R first s′ i e;
     }
 
-  pub going-over : g ≡ nothing → here (at u cur) j ≡ ran t (at o s) k f
+  pub going-over : g ≡ nothing → this (here (at u cur) j) ≡ ran t (at o s) k f
   going-over e = sym (going .rest ∙ ap (ran t (at u cur) j) e ∙ ran-nothing t (at u cur) j (going .fine .1))
 
 -- ---- one number: g p v are the bits of v from place p on
-too-few : (f : Format) (g : ℕ → ℕ → Bits) → ((ns : List ℕ) (p : ℕ) → unrun high f ns p ≡ single (g p) ns) → (n : ℕ) (ns : List ℕ) (p : ℕ) → length ns < n → unrun high (times n f) ns p ≡ cannot
+too-few : (f : Format) (g : ℕ → ℕ → Possible (List Bool)) → ((ns : List ℕ) (p : ℕ) → unrun high f ns p ≡ single (g p) ns) → (n : ℕ) (ns : List ℕ) (p : ℕ) → length ns < n → unrun high (times n f) ns p ≡ cannot
 unfolding unrun times
 too-few f g is zero ns p h = absurd (omega arith)
-too-few f g is (suc n) ns p h = ap (λ (w : Written). onward w p (λ xs ys q. unrun high (times n f) ys q)) (is ns p) ∙ go ns h (too-few f g is n)
+too-few f g is (suc n) ns p h = ap (λ (w : Possible Written). onward w p (λ xs ys q. unrun high (times n f) ys q)) (is ns p) ∙ go ns h (too-few f g is n)
   where
-    on : (v : ℕ) (ys : List ℕ) → ((q : ℕ) → unrun high (times n f) ys q ≡ cannot) → (b : Bits) → onward (put (v ∷ []) b ys) p (λ xs ys q. unrun high (times n f) ys q) ≡ cannot
-    on v ys more (spelt bs) = ap (adjoin (v ∷ []) bs) (more (p + length bs))
-    on v ys more none = refl
+    on : (v : ℕ) (ys : List ℕ) → ((q : ℕ) → unrun high (times n f) ys q ≡ cannot) → (b : Possible (List Bool)) → onward (put (v ∷ []) b ys) p (λ xs ys q. unrun high (times n f) ys q) ≡ cannot
+    on v ys more (this bs) = ap (adjoin (v ∷ []) bs) (more (p + length bs))
+    on v ys more cannot = refl
 
     go : (ns : List ℕ) → length ns < suc n → ((ys : List ℕ) (q : ℕ) → length ys < n → unrun high (times n f) ys q ≡ cannot)
         → onward (single (g p) ns) p (λ xs ys q. unrun high (times n f) ys q) ≡ cannot
     go [] h more = refl
     go (v ∷ ys) h more = on v ys (λ q. more ys q (omega arith)) (g p v)
 
-module _ (f : Format) (g : ℕ → ℕ → Bits) (is : (ns : List ℕ) (p : ℕ) → unrun high f ns p ≡ single (g p) ns) (t : List ℕ) (st : State) (k : ℕ) where
-  pub one-none : length t ≤ k → ran t st k f ≡ gone
-  unfolding ran after
-  one-none h = ap (after st k) (is (drop k t) (st .place)) ∙ go (drop k t) (omega (arith, length-drop k t))
+module _ (f : Format) (g : ℕ → ℕ → Possible (List Bool)) (is : (ns : List ℕ) (p : ℕ) → unrun high f ns p ≡ single (g p) ns) (t : List ℕ) (st : State) (k : ℕ) where
+  pub one-none : length t ≤ k → ran t st k f ≡ cannot
+  unfolding ran writtenOver
+  one-none h = ap (writtenOver st k) (is (drop k t) (st .place)) ∙ go (drop k t) (omega (arith, length-drop k t))
     where
-      go : (ns : List ℕ) → length ns ≡ 0 → after st k (single (g (st .place)) ns) ≡ gone
+      go : (ns : List ℕ) → length ns ≡ 0 → writtenOver st k (single (g (st .place)) ns) ≡ cannot
       go [] e = refl
       go (x ∷ ns) e = absurd (omega arith)
 
-  pub one-some : k < length t → ran t st k f ≡ after st k (put (getD t k 0 ∷ []) (g (st .place) (getD t k 0)) (drop (suc k) t))
+  pub one-some : k < length t → ran t st k f ≡ writtenOver st k (put (getD t k 0 ∷ []) (g (st .place) (getD t k 0)) (drop (suc k) t))
   unfolding ran
-  one-some h = ap (after st k) (is (drop k t) (st .place)) ∙ rw (drop-cons t k 0 h)
+  one-some h = ap (writtenOver st k) (is (drop k t) (st .place)) ∙ rw (drop-cons t k 0 h)
 
-  pub one-bad : k < length t → g (st .place) (getD t k 0) ≡ none → ran t st k f ≡ gone
-  unfolding after
+  pub one-bad : k < length t → g (st .place) (getD t k 0) ≡ cannot → ran t st k f ≡ cannot
+  unfolding writtenOver
   one-bad h e = one-some h ∙ rw e
 
   -- what follows goes on after its bits, wherever they end: if that is past the limit, the whole is gone either way
-  one-then : (h : List ℕ → Format) (bs : List Bool) → k < length t → g (st .place) (getD t k 0) ≡ spelt bs → ran t st k (f ▹ h) ≡ ran t (lay st bs) (k + 1) (h (getD t k 0 ∷ []))
-  unfolding ran unrun after
+  one-then : (h : List ℕ → Format) (bs : List Bool) → k < length t → g (st .place) (getD t k 0) ≡ this bs → ran t st k (f ▹ h) ≡ ran t (lay st bs) (k + 1) (h (getD t k 0 ∷ []))
+  unfolding ran unrun writtenOver
   one-then h bs l e =
-      ap (λ (w : Written). after st k (onward w (st .place) (λ xs ys q. unrun high (h xs) ys q)))
-      (is (drop k t) (st .place) ∙ ap (single (g (st .place))) (drop-cons t k 0 l) ∙ ap (λ (b : Bits). put (getD t k 0 ∷ []) b (drop (suc k) t)) e)
+      ap (λ (w : Possible Written). writtenOver st k (onward w (st .place) (λ xs ys q. unrun high (h xs) ys q)))
+      (is (drop k t) (st .place) ∙ ap (single (g (st .place))) (drop-cons t k 0 l) ∙ ap (λ (b : Possible (List Bool)). put (getD t k 0 ∷ []) b (drop (suc k) t)) e)
       ∙ go (unrun high (h (getD t k 0 ∷ [])) (drop (suc k) t) (st .place + length bs))
-      ∙ ap₂ (λ (i p : ℕ). after (lay st bs) i (unrun high (h (getD t k 0 ∷ [])) (drop i t) p)) (sym (add-one k)) (sym (lay-place st bs))
+      ∙ ap₂ (λ (i p : ℕ). writtenOver (lay st bs) i (unrun high (h (getD t k 0 ∷ [])) (drop i t) p)) (sym (add-one k)) (sym (lay-place st bs))
     where
-      go : (w : Written) → after st k (adjoin (getD t k 0 ∷ []) bs w) ≡ after (lay st bs) (suc k) w
-      go (wrote xs bs′ ys) = ap₂ ends (lay-append st bs bs′) (let z : k + suc (length xs) ≡ suc k + length xs = omega arith in z)
+      go : (w : Possible Written) → writtenOver st k (adjoin (getD t k 0 ∷ []) bs w) ≡ writtenOver (lay st bs) (suc k) w
+      go (this (wrote xs bs′ ys)) = ap₂ ends (lay-append st bs bs′) (let z : k + suc (length xs) ≡ suc k + length xs = omega arith in z)
       go cannot = refl
 
-  pub times-one : (n : ℕ) (bs : List Bool) → 0 < n → k < length t → g (st .place) (getD t k 0) ≡ spelt bs → ran t st k (times n f) ≡ ran t (lay st bs) (k + 1) (times (n - 1) f)
+  pub times-one : (n : ℕ) (bs : List Bool) → 0 < n → k < length t → g (st .place) (getD t k 0) ≡ this bs → ran t st k (times n f) ≡ ran t (lay st bs) (k + 1) (times (n - 1) f)
   times-one n bs some l e = ap (ran t st k) (times-pred f n some) ∙ one-then (λ xs. times (n - 1) f) bs l e
 
-  pub times-bad : (n : ℕ) → 0 < n → k < length t → g (st .place) (getD t k 0) ≡ none → ran t st k (times n f) ≡ gone
+  pub times-bad : (n : ℕ) → 0 < n → k < length t → g (st .place) (getD t k 0) ≡ cannot → ran t st k (times n f) ≡ cannot
   times-bad n some l e = ap (ran t st k) (times-pred f n some) ∙ ran-then t st k f (λ xs. times (n - 1) f) ∙ ap (resume t k (λ xs. times (n - 1) f)) (one-bad l e)
 
   -- too few numbers are left
-  pub times-few : (n : ℕ) → length t - k < n → ran t st k (times n f) ≡ gone
-  unfolding ran after
-  times-few n h = ap (after st k) (too-few f g is n (drop k t) (st .place) (rw length-drop h))
+  pub times-few : (n : ℕ) → length t - k < n → ran t st k (times n f) ≡ cannot
+  unfolding ran writtenOver
+  times-few n h = ap (writtenOver st k) (too-few f g is n (drop k t) (st .place) (rw length-drop h))
 
-  pub one-in : (u : List ℕ) (R : Spelt) → k < length t → got u R ≡ laid st (g (st .place) (getD t k 0)) → (s : Sink) → R ≡ In s → ran t st k f ≡ ends (at u s) (k + 1)
-  unfolding after
+  pub one-in : (u : List ℕ) (R : Spelt) → k < length t → got u R ≡ bitsOver st (g (st .place) (getD t k 0)) → (s : Sink) → R ≡ In s → ran t st k f ≡ ends (at u s) (k + 1)
+  unfolding writtenOver
   one-in u R h e s d = one-some h ∙ go (g (st .place) (getD t k 0)) (ap (got u) (sym d) ∙ e)
     where
-      go : (b : Bits) → sunk (at u s) ≡ laid st b → after st k (put (getD t k 0 ∷ []) b (drop (suc k) t)) ≡ ends (at u s) (k + 1)
-      go (spelt bs) q = let z : lay st bs ≡ at u s = cc in ap (λ (x : State). ends x (k + 1)) z
-      go none q = absurd (let z : _≡_ {A = ℕ} 0 1 = cc in omega arith)
+      go : (b : Possible (List Bool)) → this (at u s) ≡ bitsOver st b → writtenOver st k (put (getD t k 0 ∷ []) b (drop (suc k) t)) ≡ ends (at u s) (k + 1)
+      go (this bs) q = let z : lay st bs ≡ at u s = cc in ap (λ (x : State). ends x (k + 1)) z
+      go cannot q = clash cc
 
-  pub one-no : (u : List ℕ) (R : Spelt) → k < length t → got u R ≡ laid st (g (st .place) (getD t k 0)) → R ≡ No → ran t st k f ≡ gone
-  unfolding after
+  pub one-no : (u : List ℕ) (R : Spelt) → k < length t → got u R ≡ bitsOver st (g (st .place) (getD t k 0)) → R ≡ No → ran t st k f ≡ cannot
+  unfolding writtenOver
   one-no u R h e d = one-some h ∙ go (g (st .place) (getD t k 0)) (ap (got u) (sym d) ∙ e)
     where
-      go : (b : Bits) → unsunk ≡ laid st b → after st k (put (getD t k 0 ∷ []) b (drop (suc k) t)) ≡ gone
-      go (spelt bs) q = absurd (let z : _≡_ {A = ℕ} 0 1 = cc in omega arith)
-      go none q = refl
+      go : (b : Possible (List Bool)) → cannot ≡ bitsOver st b → writtenOver st k (put (getD t k 0 ∷ []) b (drop (suc k) t)) ≡ cannot
+      go (this bs) q = clash cc
+      go cannot q = refl
 
   -- it used up one number, which has a spelling
   pub record OneDone (j : ℕ) : Type 0 where
     pub next : j ≡ k + 1
     pub inside : k < length t
-    pub spells : g (st .place) (getD t k 0) ≡ none → ⊥
+    pub spells : g (st .place) (getD t k 0) ≡ cannot → ⊥
 
-  pub one-done : (st′ : State) (j : ℕ) → ran t st k f ≡ here st′ j → OneDone j
-  unfolding after ends
+  pub one-done : (st′ : State) (j : ℕ) → ran t st k f ≡ this (here st′ j) → OneDone j
+  unfolding writtenOver ends
   one-done st′ j e = go (leb (length t) k) refl
     where
-      one : (c : Bool) (x : State) → pick c (here x (k + 1)) gone ≡ here st′ j → j ≡ k + 1
+      one : (c : Bool) (x : State) → pick c (this (here x (k + 1))) cannot ≡ this (here st′ j) → j ≡ k + 1
       one true x q = cc
-      one false x q = absurd (let z : _≡_ {A = ℕ} 0 1 = cc in omega arith)
+      one false x q = clash cc
 
-      index : (b : Bits) → after st k (put (getD t k 0 ∷ []) b (drop (suc k) t)) ≡ here st′ j → j ≡ k + 1
-      index (spelt bs) q = one (leb (lay st bs .place) limit) (lay st bs) q
-      index none q = absurd (let z : _≡_ {A = ℕ} 0 1 = cc in omega arith)
+      index : (b : Possible (List Bool)) → writtenOver st k (put (getD t k 0 ∷ []) b (drop (suc k) t)) ≡ this (here st′ j) → j ≡ k + 1
+      index (this bs) q = one (leb (lay st bs .place) limit) (lay st bs) q
+      index cannot q = clash cc
 
       go : (c : Bool) → leb (length t) k ≡ c → OneDone j
-      go true q = absurd (let m : gone ≡ here st′ j = sym (one-none (leb-true (length t) k q)) ∙ e in let z : _≡_ {A = ℕ} 0 1 = cc in omega arith)
+      go true q = absurd (let m : cannot ≡ this (here st′ j) = sym (one-none (leb-true (length t) k q)) ∙ e in clash cc)
       go false q =
           let h : k < length t = leb-false (length t) k q in
           record {
             next = index (g (st .place) (getD t k 0)) (sym (one-some h) ∙ e);
             inside = h;
-            spells = λ m. let n : gone ≡ here st′ j = sym (one-bad h m) ∙ e in let z : _≡_ {A = ℕ} 0 1 = cc in omega arith;
+            spells = λ m. let n : cannot ≡ this (here st′ j) = sym (one-bad h m) ∙ e in clash cc;
           }
 
 pub the-one : (t : List ℕ) (k j : ℕ) → j ≡ k + 1 → k < length t → the (take (j - k) (drop k t)) ≡ getD t k 0
@@ -283,23 +285,23 @@ pub skip-fine : (st : State) {u : List ℕ} {byte bit : ℕ} → st .place ≤ l
 skip-fine st {u} {byte} {bit} low skip = (pow-pos (bit % 8), skip-place st low skip .1)
 
 module _ (t : List ℕ) (st : State) (k : ℕ) {st′ : State} (low : st .place ≤ limit) (skip : st′ ≡ lay st (dig high (skipped (st .place)) 0)) where
-  pub ran-align : ran t st k (item Item.align) ≡ here st′ k
-  unfolding ran unrun writeItem after
+  pub ran-align : ran t st k (item Item.align) ≡ this (here st′ k)
+  unfolding ran unrun writeItem writtenOver
   ran-align = rw (add-zero, ← skip) (ends-in st′ k (skip-end st low skip))
 
   pub align-then : (g : List ℕ → Format) → ran t st k (item Item.align ▹ g) ≡ ran t st′ k (g [])
   align-then g = ran-then t st k (item Item.align) g ∙ ap (resume t k g) ran-align ∙ (let z : k - k ≡ 0 = omega arith in rw z)
 
-  pub align-on : (g : List ℕ → Format) {x : Seen} → x ≡ ran t st′ k (g []) → x ≡ ran t st k (item Item.align ▹ g)
+  pub align-on : (g : List ℕ → Format) {x : Possible Seen} → x ≡ ran t st′ k (g []) → x ≡ ran t st k (item Item.align ▹ g)
   align-on g d = d ∙ sym (align-then g)
 
 -- bits in front of a spelling
-pub laid-before : (st : State) (xs : List Bool) (b : Bits) → laid st (before xs b) ≡ laid (lay st xs) b
-laid-before st xs (spelt bs) = ap sunk (lay-append st xs bs)
-laid-before st xs none = refl
+pub laid-before : (st : State) (xs : List Bool) (b : Possible (List Bool)) → bitsOver st (before xs b) ≡ bitsOver (lay st xs) b
+laid-before st xs (this bs) = ap this (lay-append st xs bs)
+laid-before st xs cannot = refl
 
-pub laid-in : (st : State) (b : Bits) {bs : List Bool} {st′ : State} → b ≡ spelt bs → st′ ≡ lay st bs → sunk st′ ≡ laid st b
+pub laid-in : (st : State) (b : Possible (List Bool)) {bs : List Bool} {st′ : State} → b ≡ this bs → st′ ≡ lay st bs → this st′ ≡ bitsOver st b
 laid-in st b e d = rw (e, d)
 
-pub laid-no : (st : State) (b : Bits) → b ≡ none → unsunk ≡ laid st b
+pub laid-no : (st : State) (b : Possible (List Bool)) → b ≡ cannot → cannot ≡ bitsOver st b
 laid-no st b e = rw e

@@ -8,16 +8,18 @@ use lib.ListN.{length, length-append}
 use Rattle.format.specs.Bits.{high}
 use Rattle.format.specs.Formats.{Item, Format, nothing, item, only, _▹_}
 use Rattle.format.specs.Items.{skipped}
-use Rattle.format.specs.WritingItems.{dig, Written, wrote, cannot, writeItem}
+use Rattle.format.specs.Possible.{Possible, this, cannot}
+use Rattle.format.specs.WritingItems.{dig, Written, wrote, writeItem}
 use Rattle.format.specs.WritingFormats.{passing, adjoin, onward, unrun}
 use Rattle.format.proofs.BitLaws.{length-dig}
+use Rattle.format.proofs.Absurd.{clash}
 
 skipped-shift : (p m : ℕ) → skipped (p + 8 * m) ≡ skipped p
 skipped-shift p m = let e : (p + 8 * m) % 8 ≡ p % 8 = omega arith in rw e
 
 item-shift : (i : Item) (ns : List ℕ) (p m : ℕ) → writeItem high i ns (p + 8 * m) ≡ writeItem high i ns p
 unfolding writeItem
-item-shift Item.align ns p m = ap (λ (n : ℕ). wrote [] (dig high n 0) ns) (skipped-shift p m)
+item-shift Item.align ns p m = ap (λ (n : ℕ). this (wrote [] (dig high n 0) ns)) (skipped-shift p m)
 item-shift (Item.UB n) ns p m = refl
 item-shift (Item.SB n) ns p m = refl
 item-shift Item.width ns p m = refl
@@ -29,10 +31,10 @@ item-shift (Item.echo n) ns p m = refl
 item-shift (Item.LE n) ns p m = refl
 item-shift Item.string ns p m = refl
 
-pub onward-shift : (w : Written) (p m : ℕ) (k : List ℕ → List ℕ → ℕ → Written) → ((xs ys : List ℕ) (q : ℕ) → k xs ys (q + 8 * m) ≡ k xs ys q)
+pub onward-shift : (w : Possible Written) (p m : ℕ) (k : List ℕ → List ℕ → ℕ → Possible Written) → ((xs ys : List ℕ) (q : ℕ) → k xs ys (q + 8 * m) ≡ k xs ys q)
     → onward w (p + 8 * m) k ≡ onward w p k
 onward-shift cannot p m k h = refl
-onward-shift (wrote xs bs ys) p m k h =
+onward-shift (this (wrote xs bs ys)) p m k h =
     let e : p + 8 * m + length bs ≡ p + length bs + 8 * m = omega arith in
     ap (adjoin xs bs) (ap (k xs ys) e ∙ h xs ys (p + length bs))
 
@@ -42,13 +44,13 @@ shift nothing ns p m = refl
 shift (item i) ns p m = item-shift i ns p m
 shift (only t e f) ns p m = ap (passing t) (shift f ns p m)
 shift (f ▹ g) ns p m =
-    ap (λ (w : Written). onward w (p + 8 * m) (λ xs ys q. unrun high (g xs) ys q)) (shift f ns p m)
+    ap (λ (w : Possible Written). onward w (p + 8 * m) (λ xs ys q. unrun high (g xs) ys q)) (shift f ns p m)
     ∙ onward-shift (unrun high f ns p) p m (λ xs ys q. unrun high (g xs) ys q) (λ xs ys q. shift (g xs) ys q m)
 
 -- what ends with the skip to a whole byte is whole bytes
-pub whole-bytes : (w : Written) (xs : List ℕ) (bs : List Bool) (ys : List ℕ) → onward w 0 (λ xs ys q. writeItem high Item.align ys q) ≡ wrote xs bs ys → length bs % 8 ≡ 0
+pub whole-bytes : (w : Possible Written) (xs : List ℕ) (bs : List Bool) (ys : List ℕ) → onward w 0 (λ xs ys q. writeItem high Item.align ys q) ≡ this (wrote xs bs ys) → length bs % 8 ≡ 0
 unfolding writeItem
-whole-bytes cannot xs bs ys h = absurd (let z : _≡_ {A = ℕ} 0 1 = cc in omega arith)
-whole-bytes (wrote xs′ bs′ ys′) xs bs ys h =
+whole-bytes cannot xs bs ys h = clash cc
+whole-bytes (this (wrote xs′ bs′ ys′)) xs bs ys h =
     let z : bs ≡ bs′ ++ dig high (skipped (0 + length bs′)) 0 = cc in
     omega (arith, ap length z, length-append bs′ (dig high (skipped (0 + length bs′)) 0), length-dig high (skipped (0 + length bs′)) 0)

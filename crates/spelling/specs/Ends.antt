@@ -4,10 +4,11 @@ use lib.Dec.{eqb}
 use Rattle.format.specs.Tests.{pick}
 use Rattle.format.specs.Bits.{high}
 use Rattle.format.specs.Items.{skipped}
+use Rattle.format.specs.Possible.{Possible, this, cannot}
 use Rattle.format.specs.WritingItems.{dig}
-use Rattle.sink.specs.Lain.{Lain, lain, unlain}
+use Rattle.sink.specs.Lain.{Lain, lain}
 use Rattle.sink.specs.Laying.{State, lay}
-use Rattle.spelling.specs.Writing.{Seen, here, gone, Fine}
+use Rattle.spelling.specs.Writing.{Seen, here, Fine}
 use Rattle.spelling.specs.declared.Put.{Put}
 use Rattle.spelling.specs.declared.Put.the-variants.{Done, Impossible}
 
@@ -16,9 +17,9 @@ abbrev pub skippedTo : State → State
 skippedTo st = lay st (dig high (skipped (st .place)) 0)
 
 -- n values are to be used up
-abbrev pub concluded : ℕ → Seen → Lain
-concluded n (here st k) = pick (eqb k n) (lain (skippedTo st .bytes) (skippedTo st .place / 8)) unlain
-concluded n gone = unlain
+abbrev pub concluded : ℕ → Possible Seen → Possible Lain
+concluded n (this (here st k)) = pick (eqb k n) (this (lain (skippedTo st .bytes) (skippedTo st .place / 8))) cannot
+concluded n cannot = cannot
 
 -- a sink that code may go on with, if there is one
 abbrev pub FineAfter : Put → Type 0

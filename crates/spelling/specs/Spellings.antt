@@ -2,9 +2,11 @@
 use Prim.Native.Nat.{ℕ, _*_, _-_, _≤_}
 use mathlib.Core.Path.{_≡_}
 use mathlib.Core.List.{List}
+use mathlib.Core.Bool.{Bool}
 use lib.ListN.{take, drop}
 use Rattle.format.specs.Bits.{high}
-use Rattle.format.specs.WritingItems.{Bits, spellUB, spellVar, spellI32, spellLE}
+use Rattle.format.specs.Possible.{Possible}
+use Rattle.format.specs.WritingItems.{spellUB, spellVar, spellI32, spellLE}
 use Rattle.items.specs.declared.Item.{Item}
 use Rattle.items.specs.declared.Item.the-variants.{U32, I32, Time, Float, Byte, Enum, BlendMode, Count}
 use Rattle.table.specs.Fields.{announced}
@@ -12,7 +14,7 @@ use Rattle.table.specs.declared.fields.Field.{Field}
 use Rattle.spelling.specs.declared.Put.{Put}
 use Rattle.spelling.specs.declared.Put.the-variants.{Done, Impossible}
 
-abbrev pub spellingOf : Item → ℕ → Bits
+abbrev pub spellingOf : Item → ℕ → Possible (List Bool)
 spellingOf U32 v = spellVar high 15 v 4
 spellingOf I32 v = spellI32 high v
 spellingOf Time v = spellVar high 1 v 9

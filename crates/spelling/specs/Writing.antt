@@ -1,6 +1,7 @@
 -- What the definitions' writing does to an output and a sink; and the code's answers, with the output that they leave, seen so.
 -- What cannot be written leaves an output of which nothing is said.
 use Prim.Native.Nat.{ℕ, _+_, _*_, _≤_}
+use mathlib.Core.Bool.{Bool}
 use mathlib.Core.Path.{_≡_}
 use mathlib.Core.List.{List}
 use lib.Dec.{leb}
@@ -8,7 +9,8 @@ use lib.ListN.{length, drop}
 use Rattle.format.specs.Tests.{pick}
 use Rattle.format.specs.Bits.{high}
 use Rattle.format.specs.Formats.{Format}
-use Rattle.format.specs.WritingItems.{Bits, spelt, none, Written, wrote, cannot}
+use Rattle.format.specs.Possible.{Possible, this, cannot}
+use Rattle.format.specs.WritingItems.{Written, wrote}
 use Rattle.format.specs.WritingFormats.{unrun}
 use Rattle.sink.specs.Laying.{State, at, lay, Holds}
 use Rattle.sink.specs.declared.Sink.{Sink}
@@ -18,41 +20,36 @@ use Rattle.spelling.specs.declared.Spelt.{Spelt}
 use Rattle.spelling.specs.declared.Spelt.the-variants.{In, No}
 
 -- one number
-pub data Sunk : Type 0 where
-  sunk : State → Sunk
-  unsunk : Sunk
+abbrev pub bitsOver : State → Possible (List Bool) → Possible State
+bitsOver st (this bs) = this (lay st bs)
+bitsOver st cannot = cannot
 
-abbrev pub laid : State → Bits → Sunk
-laid st (spelt bs) = sunk (lay st bs)
-laid st none = unsunk
-
-abbrev pub got : List ℕ → Spelt → Sunk
-got o (In s) = sunk (at o s)
-got o No = unsunk
+abbrev pub got : List ℕ → Spelt → Possible State
+got o (In s) = this (at o s)
+got o No = cannot
 
 -- some values: the state after them, and the index of the next one
 pub data Seen : Type 0 where
   here : State → ℕ → Seen
-  gone : Seen
 
-abbrev pub seen : List ℕ → Put → Seen
-seen o (Done s k) = here (at o s) k
-seen o Impossible = gone
+abbrev pub seen : List ℕ → Put → Possible Seen
+seen o (Done s k) = this (here (at o s) k)
+seen o Impossible = cannot
 
 -- in bits: no file is longer
 abbrev pub limit : ℕ
 limit = 134217728
 
-unfoldable pub ends : State → ℕ → Seen
-ends st k = pick (leb (st .place) limit) (here st k) gone
+unfoldable pub ends : State → ℕ → Possible Seen
+ends st k = pick (leb (st .place) limit) (this (here st k)) cannot
 
-unfoldable pub after : State → ℕ → Written → Seen
-after st k (wrote xs bs ys) = ends (lay st bs) (k + length xs)
-after st k cannot = gone
+unfoldable pub writtenOver : State → ℕ → Possible Written → Possible Seen
+writtenOver st k (this (wrote xs bs ys)) = ends (lay st bs) (k + length xs)
+writtenOver st k cannot = cannot
 
 -- a format written from index k of the values t
-unfoldable pub ran : List ℕ → State → ℕ → Format → Seen
-ran t st k f = after st k (unrun high f (drop k t) (st .place))
+unfoldable pub ran : List ℕ → State → ℕ → Format → Possible Seen
+ran t st k f = writtenOver st k (unrun high f (drop k t) (st .place))
 
 -- a sink that code may go on with
 abbrev pub Fine : Sink → Type 0

@@ -5,7 +5,7 @@ ghost use Prim.Native.Nat.{_-_, _≤_, _<_, _^_};
 ghost use Rattle.format.specs.Formats.{item, Item, times, the, _▹_};
 ghost use Rattle.table.specs.Fields.{fieldOf, signed};
 ghost use Rattle.table.specs.declared.fields.Field.the-variants.{Coordinate};
-ghost use Rattle.sink.specs.Laying.{at as «under»};
+ghost use Rattle.sink.specs.Laying.{at as under};
 ghost use Rattle.spelling.specs.Writing.{seen, ran, Fine};
 ghost use Rattle.spelling.specs.Spellings.{Announces};
 use crate::Put;
@@ -20,117 +20,139 @@ pub struct Announced {
 }
 
 // n SB fields of w bits. The sum wraps a negative number back: v is one from -half up to half. Places only grow, so the last one alone is judged.
-fn write_signed(w: usize, n: usize, out: &mut [u8], s: Sink, t: &[u64], k: usize) -> Put
-    requires { ⌜ Fine s × (1 ≤ w) × (w ≤ 32) × (n < 2 ^ 32) ⌝ }
-    ensures { λ r. ⌜ seen (now (out .exit)) r ≡ ran (now (t .entry)) («under» (now (out .entry)) s) k (times n (fieldOf Coordinate w)) ⌝ }
+fn write_signed(
+    width: usize,
+    count: usize,
+    out: &mut [u8],
+    sink: Sink,
+    values: &[u64],
+    from: usize,
+) -> Put
+    requires { ⌜ Fine sink × (1 ≤ width) × (width ≤ 32) × (count < 2 ^ 32) ⌝ }
+    ensures { λ r. ⌜ seen (now (out .exit)) r ≡ ran (now (values .entry)) (under (now (out .entry)) sink) from (times count (fieldOf Coordinate width)) ⌝ }
 {
-    if table::room_for(t.len(), k, n) < n {
+    if table::room_for(values.len(), from, count) < count {
         return Put::Impossible;
     }
-    let size = sink::power(w);
+    let size = sink::power(width);
     let half = size / 2;
-    let mut cur = s;
+    let mut cur = sink;
     let mut i = 0;
-    while i < n {
-        let v = t[k + i];
-        if size <= std::num::wrapping_add_u64(v, half) {
+    while i < count {
+        let value = values[from + i];
+        if size <= std::num::wrapping_add_u64(value, half) {
             return Put::Impossible;
         }
-        cur = sink::put_bits(out, cur, v % size, w);
+        cur = sink::put_bits(out, cur, value % size, width);
         i += 1;
     }
-    ended(cur, k + n)
+    ended(cur, from + count)
 }
 
 // n UB fields of w bits, and how many signed fields they announce.
 fn write_unsigned(
     kind: Field,
-    w: usize,
-    n: usize,
+    width: usize,
+    count: usize,
     out: &mut [u8],
-    s: Sink,
-    t: &[u64],
-    k: usize,
+    sink: Sink,
+    values: &[u64],
+    from: usize,
 ) -> Announced
-    requires { ⌜ Fine s × (1 ≤ w) × (w ≤ 32) × (n < 2 ^ 32) × (signed kind ≡ false) ⌝ }
-    ensures states { λ r. ⌜ seen (now (out .exit)) (r .put) ≡ ran (now (t .entry)) («under» (now (out .entry)) s) k (times n (fieldOf kind w)) ⌝ }
-    ensures counts { λ r. ⌜ Announces kind (now (t .entry)) k n (r .put) (r .count) ⌝ }
+    requires { ⌜ Fine sink × (1 ≤ width) × (width ≤ 32) × (count < 2 ^ 32) × (signed kind ≡ false) ⌝ }
+    ensures states { λ r. ⌜ seen (now (out .exit)) (r .put) ≡ ran (now (values .entry)) (under (now (out .entry)) sink) from (times count (fieldOf kind width)) ⌝ }
+    ensures counts { λ r. ⌜ Announces kind (now (values .entry)) from count (r .put) (r .count) ⌝ }
 {
     let put = Put::Impossible;
-    let mut count = 0;
-    let none = Announced { put, count };
-    if table::room_for(t.len(), k, n) < n {
+    let mut sum = 0;
+    let none = Announced { put, count: sum };
+    if table::room_for(values.len(), from, count) < count {
         return none;
     }
-    let size = sink::power(w);
+    let size = sink::power(width);
     let weights = table::fields::weights_of(kind);
-    let mut cur = s;
+    let mut cur = sink;
     let mut i = 0;
-    while i < n {
-        let v = t[k + i];
-        if size <= v {
+    while i < count {
+        let value = values[from + i];
+        if size <= value {
             return none;
         }
-        if !table::fields::allowed(kind, v) {
+        if !table::fields::allowed(kind, value) {
             return none;
         }
-        cur = sink::put_bits(out, cur, v, w);
-        count += table::fields::weight(&weights, v);
+        cur = sink::put_bits(out, cur, value, width);
+        sum += table::fields::weight(&weights, value);
         i += 1;
     }
-    let put = ended(cur, k + n);
-    Announced { put, count }
+    let put = ended(cur, from + count);
+    Announced { put, count: sum }
 }
 
 // n fields of w bits.
 pub fn write_fields(
     kind: Field,
-    w: usize,
-    n: usize,
+    width: usize,
+    count: usize,
     out: &mut [u8],
-    s: Sink,
-    t: &[u64],
-    k: usize,
+    sink: Sink,
+    values: &[u64],
+    from: usize,
 ) -> Announced
-    requires { ⌜ Fine s × (1 ≤ w) × (w ≤ 32) × (n < 2 ^ 32) ⌝ }
-    ensures states { λ r. ⌜ seen (now (out .exit)) (r .put) ≡ ran (now (t .entry)) («under» (now (out .entry)) s) k (times n (fieldOf kind w)) ⌝ }
-    ensures counts { λ r. ⌜ Announces kind (now (t .entry)) k n (r .put) (r .count) ⌝ }
+    requires { ⌜ Fine sink × (1 ≤ width) × (width ≤ 32) × (count < 2 ^ 32) ⌝ }
+    ensures states { λ r. ⌜ seen (now (out .exit)) (r .put) ≡ ran (now (values .entry)) (under (now (out .entry)) sink) from (times count (fieldOf kind width)) ⌝ }
+    ensures counts { λ r. ⌜ Announces kind (now (values .entry)) from count (r .put) (r .count) ⌝ }
 {
     if table::fields::is_signed(kind) {
-        let put = write_signed(w, n, out, s, t, k);
+        let put = write_signed(width, count, out, sink, values, from);
         return Announced { put, count: 0 };
     }
-    write_unsigned(kind, w, n, out, s, t, k)
+    write_unsigned(kind, width, count, out, sink, values, from)
 }
 
 // A width: one less than it, in five bits.
-fn write_width(out: &mut [u8], s: Sink, t: &[u64], k: usize) -> Put
-    requires { ⌜ Fine s ⌝ }
-    ensures { λ r. ⌜ seen (now (out .exit)) r ≡ ran (now (t .entry)) («under» (now (out .entry)) s) k (item Item.width) ⌝ }
+fn write_width(out: &mut [u8], sink: Sink, values: &[u64], from: usize) -> Put
+    requires { ⌜ Fine sink ⌝ }
+    ensures { λ r. ⌜ seen (now (out .exit)) r ≡ ran (now (values .entry)) (under (now (out .entry)) sink) from (item Item.width) ⌝ }
 {
-    if t.len() <= k {
+    if values.len() <= from {
         return Put::Impossible;
     }
-    let w = t[k];
-    if w == 0 {
+    let width = values[from];
+    if width == 0 {
         return Put::Impossible;
     }
-    if 32 < w {
+    if 32 < width {
         return Put::Impossible;
     }
-    let next = sink::put_bits(out, s, w - 1, 5);
-    ended(next, k + 1)
+    let next = sink::put_bits(out, sink, width - 1, 5);
+    ended(next, from + 1)
 }
 
 // A width, and n fields of it.
-pub fn write_scaled(kind: Field, n: usize, out: &mut [u8], s: Sink, t: &[u64], k: usize) -> Put
-    requires { ⌜ Fine s × (n < 2 ^ 32) ⌝ }
-    ensures { λ r. ⌜ seen (now (out .exit)) r ≡ ran (now (t .entry)) («under» (now (out .entry)) s) k (item Item.width ▹ λ w. times n (fieldOf kind (the w))) ⌝ }
+pub fn write_scaled(
+    kind: Field,
+    count: usize,
+    out: &mut [u8],
+    sink: Sink,
+    values: &[u64],
+    from: usize,
+) -> Put
+    requires { ⌜ Fine sink × (count < 2 ^ 32) ⌝ }
+    ensures { λ r. ⌜ seen (now (out .exit)) r ≡ ran (now (values .entry)) (under (now (out .entry)) sink) from (item Item.width ▹ λ w. times count (fieldOf kind (the w))) ⌝ }
 {
-    let r = write_width(out, s, t, k);
-    let Put::Done(next, j) = r else {
+    let r = write_width(out, sink, values, from);
+    let Put::Done(next, behind) = r else {
         return r;
     };
-    let f = write_fields(kind, t[k] as usize, n, out, next, t, j);
-    f.put
+    let fields = write_fields(
+        kind,
+        values[from] as usize,
+        count,
+        out,
+        next,
+        values,
+        behind,
+    );
+    fields.put
 }

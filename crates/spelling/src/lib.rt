@@ -5,7 +5,7 @@ ghost use Rattle.format.specs.Bits.{high};
 ghost use Rattle.format.specs.Items.{skipped};
 ghost use Rattle.format.specs.WritingItems.{dig};
 ghost use Rattle.sink.specs.Lain.{lainAs};
-ghost use Rattle.sink.specs.Laying.{at as «under», lay};
+ghost use Rattle.sink.specs.Laying.{at as under, lay};
 ghost use Rattle.spelling.specs.Ends.{concluded, FineAfter};
 ghost use Rattle.spelling.specs.Writing.{seen, ran, finish, Fine};
 
@@ -30,58 +30,59 @@ pub enum Put {
 }
 
 // No file is longer than 2^27 bits.
-pub fn ended(s: Sink, k: usize) -> Put
-    ensures { λ r. ⌜ r ≡ finish s k ⌝ }
+pub(crate) fn ended(sink: Sink, behind: usize) -> Put
+    ensures { λ r. ⌜ r ≡ finish sink behind ⌝ }
 {
-    let p = s.place.0;
-    if p <= 134217728 {
-        Put::Done(s, k)
+    let place = sink.place.0;
+    if place <= 134217728 {
+        Put::Done(sink, behind)
     } else {
         Put::Impossible
     }
 }
 
 // One item: in its range, on a whole byte.
-pub fn write_one(kind: Item, out: &mut [u8], s: Sink, t: &[u64], k: usize) -> Put
-    requires { ⌜ Fine s ⌝ }
-    ensures { λ r. ⌜ seen (now (out .exit)) r ≡ ran (now (t .entry)) («under» (now (out .entry)) s) k (formatOf kind) ⌝ }
+pub fn write_one(kind: Item, out: &mut [u8], sink: Sink, values: &[u64], from: usize) -> Put
+    requires { ⌜ Fine sink ⌝ }
+    ensures { λ r. ⌜ seen (now (out .exit)) r ≡ ran (now (values .entry)) (under (now (out .entry)) sink) from (formatOf kind) ⌝ }
 {
-    if t.len() <= k {
+    if values.len() <= from {
         return Put::Impossible;
     }
-    let v = t[k];
-    if items::out_of_range(kind, v) != 0 {
+    let value = values[from];
+    if items::out_of_range(kind, value) != 0 {
         return Put::Impossible;
     }
-    let start = sink::align(out, s);
-    let r = numbers::spell_item(kind, out, start, v);
+    let start = sink::align(out, sink);
+    let r = numbers::spell_item(kind, out, start, value);
     match r {
-        Spelt::In(next) => ended(next, k + 1),
+        Spelt::In(next) => ended(next, from + 1),
         Spelt::No => Put::Impossible,
     }
 }
 
 // Zero bits up to the next whole byte.
-pub fn skip(out: &mut [u8], s: Sink) -> Sink
-    requires { ⌜ Fine s ⌝ }
-    ensures { λ r. ⌜ («under» (now (out .exit)) r ≡ lay («under» (now (out .entry)) s) (dig high (skipped (s .place .0)) 0)) × Fine r ⌝ }
+pub fn skip(out: &mut [u8], sink: Sink) -> Sink
+    requires { ⌜ Fine sink ⌝ }
+    ensures { λ r. ⌜ (under (now (out .exit)) r ≡ lay (under (now (out .entry)) sink) (dig high (skipped (sink .place .0)) 0)) × Fine r ⌝ }
 {
-    let start = sink::align(out, s);
+    let start = sink::align(out, sink);
     let place = start.bit;
     Sink { place, part: 0 }
 }
 
 // The end of a body: all n values are used up, and zero bits go up to a whole byte.
-pub fn conclude(r: Put, n: usize, out: &mut [u8]) -> Body
-    requires { ⌜ FineAfter r ⌝ }
-    ensures { λ b. ⌜ lainAs (now (out .exit)) b ≡ concluded n (seen (now (out .entry)) r) ⌝ }
+pub fn conclude(written: Put, count: usize, out: &mut [u8]) -> Body
+    requires { ⌜ FineAfter written ⌝ }
+    ensures { λ b. ⌜ lainAs (now (out .exit)) b ≡ concluded count (seen (now (out .entry)) written) ⌝ }
 {
-    let Put::Done(s, k) = r else {
+    let Put::Done(sink, behind) = written else {
         return Body::No;
     };
-    if k != n {
+    if behind != count {
         return Body::No;
     }
-    let end = sink::align(out, s);
-    Body::To(end.byte.0)
+    let end = sink::align(out, sink);
+    let stop = end.byte;
+    Body::To(stop)
 }

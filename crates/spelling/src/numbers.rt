@@ -4,25 +4,25 @@ ghost use Prim.Native.Nat.{_<_, _≤_};
 ghost use Rattle.format.specs.Bits.{high};
 ghost use Rattle.format.specs.WritingItems.{spellUB, spellVar, spellI32, spellLE};
 ghost use Rattle.sink.specs.Laying.{mk};
-ghost use Rattle.spelling.specs.Writing.{laid, got, OnByte};
+ghost use Rattle.spelling.specs.Writing.{bitsOver, got, OnByte};
 ghost use Rattle.spelling.specs.Spellings.{spellingOf};
 use crate::Spelt;
 use bits::BitPlace;
+use bits::Whole;
 use items::Item;
 use sink::Sink;
-use sink::Whole;
 use sink::put_byte;
 
 // One byte.
-fn spell_byte(out: &mut [u8], at: Whole, v: u64) -> Spelt
+fn spell_byte(out: &mut [u8], at: Whole, value: u64) -> Spelt
     requires { ⌜ OnByte (at .byte .0) (at .bit .0) ⌝ }
-    ensures { λ r. ⌜ got (now (out .exit)) r ≡ laid (mk (now (out .entry)) (at .bit .0) 0) (spellUB high 8 v) ⌝ }
+    ensures { λ r. ⌜ got (now (out .exit)) r ≡ bitsOver (mk (now (out .entry)) (at .bit .0) 0) (spellUB high 8 value) ⌝ }
 {
-    if 255 < v {
+    if 255 < value {
         return Spelt::No;
     }
     let i = at.byte.0;
-    put_byte(out, i, v);
+    put_byte(out, i, value);
     Spelt::In(Sink {
         place: BitPlace(at.bit.0 + 8),
         part: 0,
@@ -30,18 +30,18 @@ fn spell_byte(out: &mut [u8], at: Whole, v: u64) -> Spelt
 }
 
 // A Float: four bytes, lowest first.
-fn spell_float(out: &mut [u8], at: Whole, v: u64) -> Spelt
+fn spell_float(out: &mut [u8], at: Whole, value: u64) -> Spelt
     requires { ⌜ OnByte (at .byte .0) (at .bit .0) ⌝ }
-    ensures { λ r. ⌜ got (now (out .exit)) r ≡ laid (mk (now (out .entry)) (at .bit .0) 0) (spellLE high v 4) ⌝ }
+    ensures { λ r. ⌜ got (now (out .exit)) r ≡ bitsOver (mk (now (out .entry)) (at .bit .0) 0) (spellLE high value 4) ⌝ }
 {
-    if 4294967295 < v {
+    if 4294967295 < value {
         return Spelt::No;
     }
     let i = at.byte.0;
-    put_byte(out, i, v % 256);
-    put_byte(out, i + 1, v / 256 % 256);
-    put_byte(out, i + 2, v / 65536 % 256);
-    put_byte(out, i + 3, v / 16777216);
+    put_byte(out, i, value % 256);
+    put_byte(out, i + 1, value / 256 % 256);
+    put_byte(out, i + 2, value / 65536 % 256);
+    put_byte(out, i + 3, value / 16777216);
     Spelt::In(Sink {
         place: BitPlace(at.bit.0 + 32),
         part: 0,
@@ -49,13 +49,13 @@ fn spell_float(out: &mut [u8], at: Whole, v: u64) -> Spelt
 }
 
 // Seven bits a byte, lowest first: at most `most` bytes with the top bit set, and a last one, which is at most `top` after so many.
-fn spell_var(out: &mut [u8], at: Whole, v: u64, most: u64, top: u64) -> Spelt
+fn spell_var(out: &mut [u8], at: Whole, value: u64, most: u64, top: u64) -> Spelt
     requires { ⌜ OnByte (at .byte .0) (at .bit .0) × (most ≤ 9) × (top < 128) ⌝ }
-    ensures { λ r. ⌜ got (now (out .exit)) r ≡ laid (mk (now (out .entry)) (at .bit .0) 0) (spellVar high top v most) ⌝ }
+    ensures { λ r. ⌜ got (now (out .exit)) r ≡ bitsOver (mk (now (out .entry)) (at .bit .0) 0) (spellVar high top value most) ⌝ }
 {
     let mut i = at.byte.0;
     let mut next = at.bit.0;
-    let mut rest = v;
+    let mut rest = value;
     let mut left = most;
     while 128 <= rest {
         if left == 0 {
@@ -80,14 +80,14 @@ fn spell_var(out: &mut [u8], at: Whole, v: u64, most: u64, top: u64) -> Spelt
 }
 
 // I32: twice the magnitude, plus 1 for a negative number, which the wrapping difference turns back.
-fn spell_i32(out: &mut [u8], at: Whole, v: u64) -> Spelt
+fn spell_i32(out: &mut [u8], at: Whole, value: u64) -> Spelt
     requires { ⌜ OnByte (at .byte .0) (at .bit .0) ⌝ }
-    ensures { λ r. ⌜ got (now (out .exit)) r ≡ laid (mk (now (out .entry)) (at .bit .0) 0) (spellI32 high v) ⌝ }
+    ensures { λ r. ⌜ got (now (out .exit)) r ≡ bitsOver (mk (now (out .entry)) (at .bit .0) 0) (spellI32 high value) ⌝ }
 {
-    if v < 9223372036854775808 {
-        return spell_var(out, at, v * 2, 4, 15);
+    if value < 9223372036854775808 {
+        return spell_var(out, at, value * 2, 4, 15);
     }
-    let magnitude = std::num::wrapping_sub_u64(0, v);
+    let magnitude = std::num::wrapping_sub_u64(0, value);
     if 2147483647 < magnitude {
         return Spelt::No;
     }
@@ -95,18 +95,18 @@ fn spell_i32(out: &mut [u8], at: Whole, v: u64) -> Spelt
 }
 
 // One number by its kind; its range is looked at before.
-pub(crate) fn spell_item(kind: Item, out: &mut [u8], at: Whole, v: u64) -> Spelt
+pub(crate) fn spell_item(kind: Item, out: &mut [u8], at: Whole, value: u64) -> Spelt
     requires { ⌜ OnByte (at .byte .0) (at .bit .0) ⌝ }
-    ensures { λ r. ⌜ got (now (out .exit)) r ≡ laid (mk (now (out .entry)) (at .bit .0) 0) (spellingOf kind v) ⌝ }
+    ensures { λ r. ⌜ got (now (out .exit)) r ≡ bitsOver (mk (now (out .entry)) (at .bit .0) 0) (spellingOf kind value) ⌝ }
 {
     match kind {
-        Item::U32 => spell_var(out, at, v, 4, 15),
-        Item::Count(_) => spell_var(out, at, v, 4, 15),
-        Item::I32 => spell_i32(out, at, v),
-        Item::Time => spell_var(out, at, v, 9, 1),
-        Item::Float => spell_float(out, at, v),
-        Item::Byte => spell_byte(out, at, v),
-        Item::Enum(_) => spell_byte(out, at, v),
-        Item::BlendMode => spell_byte(out, at, v),
+        Item::U32 => spell_var(out, at, value, 4, 15),
+        Item::Count(_) => spell_var(out, at, value, 4, 15),
+        Item::I32 => spell_i32(out, at, value),
+        Item::Time => spell_var(out, at, value, 9, 1),
+        Item::Float => spell_float(out, at, value),
+        Item::Byte => spell_byte(out, at, value),
+        Item::Enum(_) => spell_byte(out, at, value),
+        Item::BlendMode => spell_byte(out, at, value),
     }
 }

@@ -12,7 +12,7 @@ use Rattle.format.specs.Formats.{Format, nothing, _▹_, _▸_, times}
 use Rattle.format.specs.Items.{run}
 use Rattle.format.proofs.SizeLaws.{Fair, FairEnd}
 use Rattle.format.proofs.WalkLaws.{run-le}
-use Rattle.table.specs.State.{State, after}
+use Rattle.table.specs.State.{State, shownOver}
 use Rattle.table.specs.Fields.{Fits}
 
 -- the state, field by field
@@ -28,36 +28,36 @@ sets-append t k (x ∷ xs) ys = sets-append (set t k x) (suc k) xs ys ∙ rw (su
 
 -- ---- single readings
 
-pub after-none : (t : List ℕ) (k p : ℕ) → after t k (shows [] p) ≡ state t k (At p)
-unfolding after
+pub after-none : (t : List ℕ) (k p : ℕ) → shownOver t k (shows [] p) ≡ state t k (At p)
+unfolding shownOver
 after-none t k p = state-eq refl (add-zero k) refl
 
-pub after-one : (t : List ℕ) (k v p : ℕ) → after t k (shows (v ∷ []) p) ≡ state (set t k v) (k + 1) (At p)
-unfolding after
+pub after-one : (t : List ℕ) (k v p : ℕ) → shownOver t k (shows (v ∷ []) p) ≡ state (set t k v) (k + 1) (At p)
+unfolding shownOver
 after-one t k v p = refl
 
-pub after-stop : (t : List ℕ) (k e : ℕ) → after t k (stop e) ≡ state t k (Fault e)
-unfolding after
+pub after-stop : (t : List ℕ) (k e : ℕ) → shownOver t k (stop e) ≡ state t k (Fault e)
+unfolding shownOver
 after-stop t k e = state-eq refl (add-zero k) refl
 
 -- the same for code that stored a number, or stopped
-pub one-stored : (t : List ℕ) (k : ℕ) {v q : ℕ} {u : List ℕ} {r : Reading} → r ≡ shows (v ∷ []) q → u ≡ set t k v → state u (k + 1) (At q) ≡ after t k r
+pub one-stored : (t : List ℕ) (k : ℕ) {v q : ℕ} {u : List ℕ} {r : Reading} → r ≡ shows (v ∷ []) q → u ≡ set t k v → state u (k + 1) (At q) ≡ shownOver t k r
 one-stored t k {v} {q} e d = rw (e, d) (sym (after-one t k v q))
 
-pub one-stopped : (t : List ℕ) (k : ℕ) {e : ℕ} {r : Reading} → r ≡ stop e → state t k (Fault e) ≡ after t k r
+pub one-stopped : (t : List ℕ) (k : ℕ) {e : ℕ} {r : Reading} → r ≡ stop e → state t k (Fault e) ≡ shownOver t k r
 one-stopped t k {e} h = rw h (sym (after-stop t k e))
 
 -- ---- one reading and then another
 
 -- what is still to come after a state
 abbrev pub resume : List ℕ → ℕ → Ending → (ℕ → Reading) → State
-resume u j (At q) g = after u j (g q)
+resume u j (At q) g = shownOver u j (g q)
 resume u j (Fault e) g = state u j (Fault e)
 
 -- THE law: f and then g, laid over a table, is g laid over what f left
 pub after-follow : (t : List ℕ) (k : ℕ) (xs : List ℕ) (z : Ending) (g : List ℕ → ℕ → Reading)
-    → after t k (follow xs z g) ≡ resume (sets t k xs) (k + length xs) z (g xs)
-unfolding after
+    → shownOver t k (follow xs z g) ≡ resume (sets t k xs) (k + length xs) z (g xs)
+unfolding shownOver
 after-follow t k xs (At p) g = state-eq (sets-append t k xs (g xs p .shown)) (rw (length-append, add-assoc)) refl
 after-follow t k xs (Fault e) g = refl
 
@@ -71,55 +71,55 @@ unfolding run
 never-then o b f g p e h = rw h
 
 module _ (o : Order) (b : List ℕ) (t : List ℕ) (k : ℕ) where
-  pub after-then : (f : Format) (g : List ℕ → Format) (p : ℕ) → after t k (run o b (f ▹ g) p)
+  pub after-then : (f : Format) (g : List ℕ → Format) (p : ℕ) → shownOver t k (run o b (f ▹ g) p)
       ≡ resume (sets t k (run o b f p .shown)) (k + length (run o b f p .shown)) (run o b f p .ended) (λ q. run o b (g (run o b f p .shown)) q)
   unfolding run
   after-then f g p = after-follow t k (run o b f p .shown) (run o b f p .ended) (λ xs q. run o b (g xs) q)
 
   -- for code: f left u, j and q, and x is what g leaves from there
   pub then-done : {u : List ℕ} {j q : ℕ} {x : State} (f : Format) (g : List ℕ → Format) (p : ℕ)
-      → state u j (At q) ≡ after t k (run o b f p) → x ≡ after u j (run o b (g (run o b f p .shown)) q) → x ≡ after t k (run o b (f ▹ g) p)
-  unfolding after
+      → state u j (At q) ≡ shownOver t k (run o b f p) → x ≡ shownOver u j (run o b (g (run o b f p .shown)) q) → x ≡ shownOver t k (run o b (f ▹ g) p)
+  unfolding shownOver
   then-done f g p e d = d ∙ ap (λ (s : State). resume (s .table) (s .count) (s .ended) (λ q. run o b (g (run o b f p .shown)) q)) e ∙ sym (after-then f g p)
 
   pub then-stop : {u : List ℕ} {j e : ℕ} (f : Format) (g : List ℕ → Format) (p : ℕ)
-      → state u j (Fault e) ≡ after t k (run o b f p) → state u j (Fault e) ≡ after t k (run o b (f ▹ g) p)
-  unfolding after
+      → state u j (Fault e) ≡ shownOver t k (run o b f p) → state u j (Fault e) ≡ shownOver t k (run o b (f ▹ g) p)
+  unfolding shownOver
   then-stop f g p e = ap (λ (s : State). resume (s .table) (s .count) (s .ended) (λ q. run o b (g (run o b f p .shown)) q)) e ∙ sym (after-then f g p)
 
   -- the same where f is read whole: it showed one number, which is stored; it showed none; it stopped
   pub then-one : {u : List ℕ} {v q : ℕ} {x : State} (f : Format) (g : List ℕ → Format) (p : ℕ)
-      → run o b f p ≡ shows (v ∷ []) q → u ≡ set t k v → x ≡ after u (k + 1) (run o b (g (v ∷ [])) q) → x ≡ after t k (run o b (f ▹ g) p)
-  unfolding after
+      → run o b f p ≡ shows (v ∷ []) q → u ≡ set t k v → x ≡ shownOver u (k + 1) (run o b (g (v ∷ [])) q) → x ≡ shownOver t k (run o b (f ▹ g) p)
+  unfolding shownOver
   then-one {u} {v} {q} {x} f g p e d h = then-done {u = u} {j = k + 1} {q = q} f g p (rw (d, e)) (rw e h)
 
   pub then-none : {q : ℕ} {x : State} (f : Format) (g : List ℕ → Format) (p : ℕ)
-      → run o b f p ≡ shows [] q → x ≡ after t k (run o b (g []) q) → x ≡ after t k (run o b (f ▹ g) p)
-  then-none {q} {x} f g p e h = then-done f g p (sym (after-none t k q) ∙ ap (after t k) (sym e)) (rw e h)
+      → run o b f p ≡ shows [] q → x ≡ shownOver t k (run o b (g []) q) → x ≡ shownOver t k (run o b (f ▹ g) p)
+  then-none {q} {x} f g p e h = then-done f g p (sym (after-none t k q) ∙ ap (shownOver t k) (sym e)) (rw e h)
 
-  pub then-never : {e : ℕ} (f : Format) (g : List ℕ → Format) (p : ℕ) → run o b f p ≡ stop e → state t k (Fault e) ≡ after t k (run o b (f ▹ g) p)
-  then-never {e} f g p h = then-stop f g p (sym (after-stop t k e) ∙ ap (after t k) (sym h))
+  pub then-never : {e : ℕ} (f : Format) (g : List ℕ → Format) (p : ℕ) → run o b f p ≡ stop e → state t k (Fault e) ≡ shownOver t k (run o b (f ▹ g) p)
+  then-never {e} f g p h = then-stop f g p (sym (after-stop t k e) ∙ ap (shownOver t k) (sym h))
 
   -- ---- times: none; and one more, after a reading that left u, j and q
-  pub times-none : {n : ℕ} (f : Format) (p : ℕ) → n ≡ 0 → after t k (run o b (times n f) p) ≡ state t k (At p)
+  pub times-none : {n : ℕ} (f : Format) (p : ℕ) → n ≡ 0 → shownOver t k (run o b (times n f) p) ≡ state t k (At p)
   unfolding run times
   times-none f p e = rw e (after-none t k p)
 
   pub times-next : {u : List ℕ} {j q : ℕ} (n : ℕ) (f : Format) (p : ℕ) → 0 < n
-      → state u j (At q) ≡ after t k (run o b f p) → after t k (run o b (times n f) p) ≡ after u j (run o b (times (n - 1) f) q)
+      → state u j (At q) ≡ shownOver t k (run o b f p) → shownOver t k (run o b (times n f) p) ≡ shownOver u j (run o b (times (n - 1) f) q)
   unfolding times
   times-next zero f p h e = absurd (omega arith)
   times-next (suc n) f p h e = let m : suc n - 1 ≡ n = omega arith in rw m (sym (then-done f (λ xs. times n f) p e refl))
 
   pub times-stop : {u : List ℕ} {j e : ℕ} (n : ℕ) (f : Format) (p : ℕ) → 0 < n
-      → state u j (Fault e) ≡ after t k (run o b f p) → after t k (run o b (times n f) p) ≡ state u j (Fault e)
+      → state u j (Fault e) ≡ shownOver t k (run o b f p) → shownOver t k (run o b (times n f) p) ≡ state u j (Fault e)
   unfolding times
   times-stop zero f p h e = absurd (omega arith)
   times-stop (suc n) f p h e = sym (then-stop f (λ xs. times n f) p e)
 
 -- ---- a format that takes a bit at least for every number keeps the index in bounds
-pub fits-after : (b t : List ℕ) (f : Format) {u : List ℕ} {p k j q : ℕ} → Fair high 0 f → Fits b p k → state u j (At q) ≡ after t k (run high b f p) → Fits b q j
-unfolding after
+pub fits-after : (b t : List ℕ) (f : Format) {u : List ℕ} {p k j q : ℕ} → Fair high 0 f → Fits b p k → state u j (At q) ≡ shownOver t k (run high b f p) → Fits b q j
+unfolding shownOver
 fits-after b t f {u} {p} {k} {j} {q} fair h e =
     let z : run high b f p .ended ≡ At q = ap (λ (s : State). s .ended) (sym e) in
     let l : (p ≤ q) × (q ≤ 8 * length b) = run-le high b f p q (h .0 .0) z in

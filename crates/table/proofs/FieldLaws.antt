@@ -18,11 +18,11 @@ use Rattle.format.specs.Bodies.{beziers}
 use Rattle.format.proofs.SizeLaws.{Fair, FairReading, fair-item, fair-only}
 use Rattle.format.proofs.WalkLaws.{run-le}
 use Rattle.bits.proofs.FieldLaws.{IsField, map-got, ub-in, ub-past}
-use Rattle.bits.specs.Places.{seen}
+use Rattle.bits.specs.Places.{numOf}
 use Rattle.bits.specs.declared.BitPlace.{BitPlace}
 use Rattle.bits.specs.declared.Got.{Got}
 use Rattle.bits.specs.declared.Got.the-variants.{Value, Fault as GotFault}
-use Rattle.table.specs.State.{State, after}
+use Rattle.table.specs.State.{State, shownOver}
 use Rattle.table.specs.Fields.{Fits, allows, judgeNum, fieldOf, signed, announces, announced, weights}
 use Rattle.table.specs.declared.fields.Field.{Field}
 use Rattle.table.specs.declared.fields.Field.the-variants.{Verb, Interpolation, Bit, ByteValue, Coordinate}
@@ -87,19 +87,19 @@ module _ (kind : Field) (b : List ℕ) (p w : ℕ) where
     field-out h = ap (λ (c : Bool). showNum (pick c (num v (p + w)) (bad 16))) (sym h) ∙ field-judged
 
 -- a width, from the code's answer
-module _ (b : List ℕ) (p : ℕ) {r : Got} (read : seen r ≡ readWidth high b p) where
+module _ (b : List ℕ) (p : ℕ) {r : Got} (read : numOf r ≡ readWidth high b p) where
   pub width-one : {v : ℕ} {q : BitPlace} → r ≡ Value v q → run high b (item Item.width) p ≡ shows (v ∷ []) (q .0)
   unfolding run readItem
-  width-one e = sym (ap (λ (z : Got). showNum (seen z)) (sym e) ∙ ap showNum read)
+  width-one e = sym (ap (λ (z : Got). showNum (numOf z)) (sym e) ∙ ap showNum read)
 
   pub width-stop : {e : ℕ} → r ≡ GotFault e → run high b (item Item.width) p ≡ stop e
   unfolding run readItem
-  width-stop e = sym (ap (λ (z : Got). showNum (seen z)) (sym e) ∙ ap showNum read)
+  width-stop e = sym (ap (λ (z : Got). showNum (numOf z)) (sym e) ∙ ap showNum read)
 
   -- it is 1 to 32, and takes 5 bits
   pub width-fits : {v k : ℕ} {q : BitPlace} → r ≡ Value v q → Fits b p k → Fits b (q .0) (k + 1) × (1 ≤ v) × (v ≤ 32)
   width-fits e f =
-      let i : IsField suc b p 5 _ _ = map-got suc b p 5 (ap seen (sym e) ∙ read) in
+      let i : IsField suc b p 5 _ _ = map-got suc b p 5 (ap numOf (sym e) ∙ read) in
       (((i .inside, f .0 .1), omega (arith, i .next, f .1)), omega (arith, i .value), omega (arith, i .value, i .below))
 
 -- ---- what a field announces
@@ -191,7 +191,7 @@ module _ (kind : Field) (w : ℕ) (s t₀ : List ℕ) (k n p₀ : ℕ) where
   -- the whole from the start is what is left from here
   pub record Going (t : List ℕ) (p j left count : ℕ) : Type 0 where
     pub size : length t ≡ length t₀
-    pub rest : after t₀ k (fieldsFrom n p₀) ≡ after t j (fieldsFrom left p)
+    pub rest : shownOver t₀ k (fieldsFrom n p₀) ≡ shownOver t j (fieldsFrom left p)
     pub counts : announced kind (fieldsFrom n p₀ .shown) ≡ count + announced kind (fieldsFrom left p .shown)
     pub fits : Fits s p j
     pub few : count + 6 * left ≤ 6 * n
@@ -204,21 +204,21 @@ module _ (kind : Field) (w : ℕ) (s t₀ : List ℕ) (k n p₀ : ℕ) where
         let l : (p ≤ q) × (q ≤ 8 * length s) = run-le high s (fieldOf kind w) p q (g .fits .0 .0) (ap (λ (r : Reading). r .ended) (sym e)) in
         record {
           size = ap length d ∙ length-set t j v ∙ g .size;
-          rest = g .rest ∙ times-next high s t j left (fieldOf kind w) p some (rw d (sym (after-one t j v q) ∙ ap (after t j) e));
+          rest = g .rest ∙ times-next high s t j left (fieldOf kind w) p some (rw d (sym (after-one t j v q) ∙ ap (shownOver t j) e));
           counts = g .counts ∙ ap (λ (m : ℕ). count + m) (shown-next kind w s p left v q some e) ∙ rw (h .0) (omega arith);
           fits = ((l .1, g .fits .0 .1), omega (arith, f, g .fits .1));
           few = omega (arith, h .1, g .few);
         }
 
     pub fields-stop : {e : ℕ} → showNum (bad e) ≡ run high s (fieldOf kind w) p
-        → (state t j (Fault e) ≡ after t₀ k (fieldsFrom n p₀)) × ((count ≡ announced kind (fieldsFrom n p₀ .shown)) × (count ≤ 6 * n))
+        → (state t j (Fault e) ≡ shownOver t₀ k (fieldsFrom n p₀)) × ((count ≡ announced kind (fieldsFrom n p₀ .shown)) × (count ≤ 6 * n))
     fields-stop {e} h = (
-      sym (g .rest ∙ times-stop high s t j left (fieldOf kind w) p some (sym (after-stop t j e) ∙ ap (after t j) h)),
+      sym (g .rest ∙ times-stop high s t j left (fieldOf kind w) p some (sym (after-stop t j e) ∙ ap (shownOver t j) h)),
       (sym (g .counts ∙ ap (λ (m : ℕ). count + m) (shown-stop kind w s p left e some h) ∙ add-zero count), omega (arith, g .few)),
     )
 
   pub fields-done : {t : List ℕ} {p j left count : ℕ} → left ≡ 0 → Going t p j left count
-      → (state t j (At p) ≡ after t₀ k (fieldsFrom n p₀)) × ((count ≡ announced kind (fieldsFrom n p₀ .shown)) × (count ≤ 6 * n))
+      → (state t j (At p) ≡ shownOver t₀ k (fieldsFrom n p₀)) × ((count ≡ announced kind (fieldsFrom n p₀ .shown)) × (count ≤ 6 * n))
   unfolding run times
   fields-done {t} {p} {j} {left} {count} e g = (
     sym (g .rest ∙ times-none high s t j (fieldOf kind w) p e),
@@ -284,14 +284,14 @@ module _ (w : ℕ) (s t₀ : List ℕ) (k n p₀ : ℕ) where
         }
 
     -- all are stored, or there is no more room
-    pub laying-done : {m e : ℕ} → m ≡ min n (length t - k) → m ≤ i → e ≡ p₀ + n * w → e ≤ 8 * length s → state t (k + n) (At e) ≡ after t₀ k (run high s (times n (fieldOf Coordinate w)) p₀)
-    unfolding after
+    pub laying-done : {m e : ℕ} → m ≡ min n (length t - k) → m ≤ i → e ≡ p₀ + n * w → e ≤ 8 * length s → state t (k + n) (At e) ≡ shownOver t₀ k (run high s (times n (fieldOf Coordinate w)) p₀)
+    unfolding shownOver
     laying-done {m} {e} h l f inside =
         let full : t ≡ sets t₀ k (steps w s n p₀) = storing-done t₀ (steps w s n p₀) k (g .stored) (h ∙ ap (λ (y : ℕ). min y (length t - k)) (sym (steps-length w s n p₀))) l in
         rw (steps-run w s n p₀ (omega (arith, f, inside))) (state-eq full (ap (λ (c : ℕ). k + c) (sym (steps-length w s n p₀))) (ap At f))
 
 -- the one signed kind
-pub signed-run : (kind : Field) (w n : ℕ) (s t : List ℕ) (k p : ℕ) {x : State} → signed kind ≡ true → x ≡ after t k (run high s (times n (fieldOf Coordinate w)) p) → x ≡ after t k (run high s (times n (fieldOf kind w)) p)
+pub signed-run : (kind : Field) (w n : ℕ) (s t : List ℕ) (k p : ℕ) {x : State} → signed kind ≡ true → x ≡ shownOver t k (run high s (times n (fieldOf Coordinate w)) p) → x ≡ shownOver t k (run high s (times n (fieldOf kind w)) p)
 signed-run Verb w n s t k p h e = cc
 signed-run Interpolation w n s t k p h e = cc
 signed-run Bit w n s t k p h e = cc

@@ -10,6 +10,7 @@ use Rattle.format.specs.Reading.{Ending, At, shows, stop}
 use Rattle.format.specs.Formats.{Item, Format, nothing, item, _▹_, _▸_, times}
 use Rattle.format.specs.Items.{run, readItem, u32, byte}
 use Rattle.format.proofs.SizeLaws.{Fair, fair-byte, fair-only}
+use Rattle.format.proofs.Absurd.{clash}
 use Rattle.bits.specs.Places.{alignedAt}
 use Rattle.bits.specs.declared.Aligned.the-variants.{Clean, Unclean}
 use Rattle.bits.specs.declared.BitPlace.{BitPlace}
@@ -18,50 +19,50 @@ use Rattle.bits.proofs.FieldLaws.{align-clean, align-unclean}
 use Rattle.items.specs.Kinds.{formatOf}
 use Rattle.items.specs.declared.Item.{Item as Kind}
 use Rattle.items.specs.declared.Item.the-variants.{U32, I32, Time, Float, Byte, Enum, BlendMode, Count}
-use Rattle.table.specs.State.{State, after}
-use Rattle.table.specs.Run.{left}
+use Rattle.table.specs.State.{State, shownOver}
+use Rattle.table.specs.Run.{runLeaves}
 use Rattle.table.specs.Fields.{Fits}
 use Rattle.table.specs.declared.Run.{Run}
 use Rattle.table.specs.declared.Run.the-variants.{Done, Stop}
 use Rattle.table.proofs.EngineLaws.{state, after-none, one-stored, then-done, then-stop, fits-after}
 
 -- a call that read f, and g after it
-module _ (b t : List ℕ) (k : ℕ) (f : Format) (p : ℕ) {u : List ℕ} {R : Run} (ran : left u R ≡ after t k (run high b f p)) where
-  pub run-done : {q : BitPlace} {j : ℕ} {x : State} (g : List ℕ → Format) → R ≡ Done q j → x ≡ after u j (run high b (g (run high b f p .shown)) (q .0))
-      → x ≡ after t k (run high b (f ▹ g) p)
-  run-done g e d = then-done high b t k f g p (ap (left u) (sym e) ∙ ran) d
+module _ (b t : List ℕ) (k : ℕ) (f : Format) (p : ℕ) {u : List ℕ} {R : Run} (ran : runLeaves u R ≡ shownOver t k (run high b f p)) where
+  pub run-done : {q : BitPlace} {j : ℕ} {x : State} (g : List ℕ → Format) → R ≡ Done q j → x ≡ shownOver u j (run high b (g (run high b f p .shown)) (q .0))
+      → x ≡ shownOver t k (run high b (f ▹ g) p)
+  run-done g e d = then-done high b t k f g p (ap (runLeaves u) (sym e) ∙ ran) d
 
-  pub run-stop : {e j : ℕ} (g : List ℕ → Format) → R ≡ Stop e j → left u R ≡ after t k (run high b (f ▹ g) p)
-  run-stop g e = ap (left u) e ∙ then-stop high b t k f g p (ap (left u) (sym e) ∙ ran)
+  pub run-stop : {e j : ℕ} (g : List ℕ → Format) → R ≡ Stop e j → runLeaves u R ≡ shownOver t k (run high b (f ▹ g) p)
+  run-stop g e = ap (runLeaves u) e ∙ then-stop high b t k f g p (ap (runLeaves u) (sym e) ∙ ran)
 
   pub run-fits : {q : BitPlace} {j : ℕ} → R ≡ Done q j → Fair high 0 f → Fits b p k → Fits b (q .0) j
-  run-fits e h l = fits-after b t f h l (ap (left u) (sym e) ∙ ran)
+  run-fits e h l = fits-after b t f h l (ap (runLeaves u) (sym e) ∙ ran)
 
 -- ---- a loop that reads a format part by part: the whole from the start is what is left from here
 pub record Going (s t₀ : List ℕ) (k : ℕ) (whole : Format) (p₀ : ℕ) (t : List ℕ) (p j : ℕ) (rest : Format) : Type 0 where
   pub size : length t ≡ length t₀
-  pub same : after t₀ k (run high s whole p₀) ≡ after t j (run high s rest p)
+  pub same : shownOver t₀ k (run high s whole p₀) ≡ shownOver t j (run high s rest p)
   pub fits : Fits s p j
 
 module _ {s t₀ : List ℕ} {k p₀ : ℕ} {t : List ℕ} {p j : ℕ} {whole rest : Format} (g : Going s t₀ k whole p₀ t p j rest) where
   -- the part f comes next, and was read
   module _ {f more : Format} (split : rest ≡ f ▸ more) where
-    pub going-size : {u : List ℕ} {i : ℕ} {z : Ending} → state u i z ≡ after t j (run high s f p) → length u ≡ length t₀
-    unfolding after
+    pub going-size : {u : List ℕ} {i : ℕ} {z : Ending} → state u i z ≡ shownOver t j (run high s f p) → length u ≡ length t₀
+    unfolding shownOver
     going-size ran = ap (λ (z : State). length (z .table)) ran ∙ length-sets t j (run high s f p .shown) ∙ g .size
 
-    whole-is : after t₀ k (run high s whole p₀) ≡ after t j (run high s (f ▸ more) p)
-    whole-is = g .same ∙ ap (λ (z : Format). after t j (run high s z p)) split
+    whole-is : shownOver t₀ k (run high s whole p₀) ≡ shownOver t j (run high s (f ▸ more) p)
+    whole-is = g .same ∙ ap (λ (z : Format). shownOver t j (run high s z p)) split
 
-    pub going-next : {u : List ℕ} {R : Run} {q : BitPlace} {i : ℕ} → Fair high 0 f → R ≡ Done q i → left u R ≡ after t j (run high s f p) → Going s t₀ k whole p₀ u (q .0) i more
+    pub going-next : {u : List ℕ} {R : Run} {q : BitPlace} {i : ℕ} → Fair high 0 f → R ≡ Done q i → runLeaves u R ≡ shownOver t j (run high s f p) → Going s t₀ k whole p₀ u (q .0) i more
     going-next h e ran = record { size = going-size ran; same = whole-is ∙ sym (run-done s t j f p ran (λ xs. more) e refl); fits = run-fits s t j f p ran e h (g .fits) }
 
-    pub going-stop : {u : List ℕ} {R : Run} {e i : ℕ} → R ≡ Stop e i → left u R ≡ after t j (run high s f p) → left u R ≡ after t₀ k (run high s whole p₀)
+    pub going-stop : {u : List ℕ} {R : Run} {e i : ℕ} → R ≡ Stop e i → runLeaves u R ≡ shownOver t j (run high s f p) → runLeaves u R ≡ shownOver t₀ k (run high s whole p₀)
     going-stop e ran = run-stop s t j f p ran (λ xs. more) e ∙ sym whole-is
 
-  pub going-done : rest ≡ nothing → state t j (At p) ≡ after t₀ k (run high s whole p₀)
+  pub going-done : rest ≡ nothing → state t j (At p) ≡ shownOver t₀ k (run high s whole p₀)
   unfolding run
-  going-done e = sym (g .same ∙ ap (λ (z : Format). after t j (run high s z p)) e ∙ after-none t j p)
+  going-done e = sym (g .same ∙ ap (λ (z : Format). shownOver t j (run high s z p)) e ∙ after-none t j p)
 
 -- n times a format: one and the rest, or nothing
 pub times-more : (n : ℕ) (f : Format) → 0 < n → times n f ≡ f ▸ times (n - 1) f
@@ -102,11 +103,11 @@ module _ (b : List ℕ) (p : ℕ) where
   align-fits e h = let f = align-clean b p e in ((omega (arith, f .1, f .2, f .3, h .0 .0), h .0 .1), omega (arith, f .2, h .1))
 
 -- ---- no second answer fits an engine's promise: what a run left, seen as a state, tells the table and the answer
-pub one-run : (t u : List ℕ) (a b : Run) → left t a ≡ left u b → (t ≡ u) × (a ≡ b)
+pub one-run : (t u : List ℕ) (a b : Run) → runLeaves t a ≡ runLeaves u b → (t ≡ u) × (a ≡ b)
 one-run t u a b e = (ap (λ (s : State). s .table) e, go a b (ap (λ (s : State). s .count) e) (ap (λ (s : State). s .ended) e))
   where
-    go : (a b : Run) → left t a .count ≡ left u b .count → left t a .ended ≡ left u b .ended → a ≡ b
+    go : (a b : Run) → runLeaves t a .count ≡ runLeaves u b .count → runLeaves t a .ended ≡ runLeaves u b .ended → a ≡ b
     go (Done p k) (Done q j) c z = let d : p .0 ≡ q .0 = cc in λ i. Done (record { 0 = d i }) (c i)
-    go (Done p k) (Stop r j) c z = absurd (let w : _≡_ {A = ℕ} 0 1 = cc in omega arith)
-    go (Stop r k) (Done q j) c z = absurd (let w : _≡_ {A = ℕ} 0 1 = cc in omega arith)
+    go (Done p k) (Stop r j) c z = clash cc
+    go (Stop r k) (Done q j) c z = clash cc
     go (Stop r k) (Stop z′ j) c z = let d : r ≡ z′ = cc in λ i. Stop (d i) (c i)

@@ -12,7 +12,7 @@ use Rattle.format.specs.Bits.{high, ub}
 use Rattle.format.specs.Reading.{At, Fault}
 use Rattle.format.specs.Items.{Text, text, cut, addText, readText, showText}
 use Rattle.format.proofs.ByteLaws.{ub-byte}
-use Rattle.table.specs.State.{State, after}
+use Rattle.table.specs.State.{State, shownOver}
 use Rattle.table.proofs.EngineLaws.{state, state-eq}
 
 -- a store below a run of stores may come last
@@ -26,8 +26,8 @@ closes t k n (text xs q) = state (set (sets t (k + 1 + n) xs) k (n + length xs))
 closes t k n (cut xs) = state (set (sets t (k + 1 + n) xs) k (n + length xs)) (k + 1 + n + length xs) (Fault 13)
 
 -- none so far
-pub closes-none : (t : List ℕ) (k : ℕ) (r : Text) → after t k (showText r) ≡ closes t k 0 r
-unfolding after
+pub closes-none : (t : List ℕ) (k : ℕ) (r : Text) → shownOver t k (showText r) ≡ closes t k 0 r
+unfolding shownOver
 closes-none t k r = go r
   where
     stored : (xs : List ℕ) → sets (set t k (length xs)) (suc k) xs ≡ set (sets t (k + 1 + 0) xs) k (0 + length xs)
@@ -39,7 +39,7 @@ closes-none t k r = go r
     counted : (xs : List ℕ) → k + suc (length xs) ≡ k + 1 + 0 + length xs
     counted xs = omega arith
 
-    go : (r : Text) → after t k (showText r) ≡ closes t k 0 r
+    go : (r : Text) → shownOver t k (showText r) ≡ closes t k 0 r
     go (text xs q) = state-eq (stored xs) (counted xs) refl
     go (cut xs) = state-eq (stored xs) (counted xs) refl
 
@@ -90,7 +90,7 @@ text-cut s p (suc m) h = rw (lt-leb (p + 8) (8 * length s) h)
 -- ---- the loop: the whole from the start is what is left after n bytes
 pub record Going (s t₀ : List ℕ) (k i p : ℕ) (t : List ℕ) (n : ℕ) : Type 0 where
   pub size : length t ≡ length t₀
-  pub rest : after t₀ k (showText (readText high s p (length s))) ≡ closes t k n (readText high s (p + 8 * n) (length s - n))
+  pub rest : shownOver t₀ k (showText (readText high s p (length s))) ≡ closes t k n (readText high s (p + 8 * n) (length s - n))
   pub whole : p ≡ 8 * i
   pub inside : i + n ≤ length s
 
@@ -116,10 +116,10 @@ module _ {s t₀ : List ℕ} {k i p : ℕ} {t : List ℕ} {n : ℕ} (g : Going s
     pub going-dropped : {u : List ℕ} {m : ℕ} → (b ≡ 0 → ⊥) → u ≡ t → m ≡ min (length s - i) (length t₀ - (k + 1)) → m ≤ n → Going s t₀ k i p u (n + 1)
     going-dropped z d h l = going-stored z (d ∙ sym (set-out t (k + 1 + n) b (omega (arith, g .size, h, l))))
 
-    pub going-ends : {u : List ℕ} → b ≡ 0 → u ≡ set t k n → state u (k + 1 + n) (At (p + 8 * n + 8)) ≡ after t₀ k (showText (readText high s p (length s)))
+    pub going-ends : {u : List ℕ} → b ≡ 0 → u ≡ set t k n → state u (k + 1 + n) (At (p + 8 * n + 8)) ≡ shownOver t₀ k (showText (readText high s p (length s)))
     going-ends z d = rw d (sym (g .rest ∙ ap (closes t k n) (text-ends s (i + n) on-byte read there (length s - n) (omega arith) z) ∙ closes-text t k n (p + 8 * n + 8)))
 
-  pub going-cut : {u : List ℕ} → length s ≤ i + n → u ≡ set t k n → state u (k + 1 + n) (Fault 13) ≡ after t₀ k (showText (readText high s p (length s)))
+  pub going-cut : {u : List ℕ} → length s ≤ i + n → u ≡ set t k n → state u (k + 1 + n) (Fault 13) ≡ shownOver t₀ k (showText (readText high s p (length s)))
   going-cut l d = rw d (sym (g .rest ∙ ap (closes t k n) (text-cut s (p + 8 * n) (length s - n) (omega (arith, g .whole))) ∙ closes-cut t k n))
 
 pub going-start : (s t : List ℕ) (k i p : ℕ) → p ≡ 8 * i → i ≤ length s → Going s t k i p t 0

@@ -5,8 +5,8 @@ use mathlib.Core.Bool.{Bool, true, false}
 use lib.Dec.{ltb, leb, eqb}
 use Rattle.format.specs.Tests.{pick}
 use Rattle.format.specs.Formats.{Item, Format, item, only, the}
-use Rattle.format.specs.Items.{Num, num, bad, coordinatesOf}
-use Rattle.bits.specs.Places.{Inside}
+use Rattle.format.specs.Items.{Num, num, bad, byVerb, coordinatesOf}
+use Rattle.bits.specs.Places.{PlaceIn}
 use Rattle.table.specs.declared.fields.Field.{Field}
 use Rattle.table.specs.declared.fields.Field.the-variants.{Verb, Interpolation, Bit, ByteValue, Coordinate}
 
@@ -52,7 +52,7 @@ announced f (v ∷ vs) = announces f v + announced f vs
 
 -- the same for the numbers 0 to 7, as a list; a greater one announces nothing
 abbrev pub weights : Field → List ℕ
-weights Verb = 0 ∷ 2 ∷ 2 ∷ 1 ∷ 1 ∷ 4 ∷ 4 ∷ 6 ∷ []
+weights Verb = byVerb
 weights Interpolation = 0 ∷ 0 ∷ 4 ∷ 0 ∷ 0 ∷ 0 ∷ 0 ∷ 0 ∷ []
 weights Bit = 0 ∷ 0 ∷ 0 ∷ 0 ∷ 0 ∷ 0 ∷ 0 ∷ 0 ∷ []
 weights ByteValue = 0 ∷ 0 ∷ 0 ∷ 0 ∷ 0 ∷ 0 ∷ 0 ∷ 0 ∷ []
@@ -60,4 +60,4 @@ weights Coordinate = 0 ∷ 0 ∷ 0 ∷ 0 ∷ 0 ∷ 0 ∷ 0 ∷ 0 ∷ []
 
 -- an engine's place p and index k: so far a number was stored for each bit at most, so that no index can wrap
 abbrev pub Fits : List ℕ → ℕ → ℕ → Type 0
-Fits b p k = Inside b p × (k ≤ p + 2 ^ 62)
+Fits b p k = PlaceIn b p × (k ≤ p + 2 ^ 62)

@@ -14,5 +14,5 @@ abbrev pub indexOf : Run → ℕ
 indexOf (Done p k) = k
 indexOf (Stop e k) = k
 
-abbrev pub left : List ℕ → Run → State
-left t r = record { table = t; count = indexOf r; ended = endingOf r }
+abbrev pub runLeaves : List ℕ → Run → State
+runLeaves t r = record { table = t; count = indexOf r; ended = endingOf r }

@@ -11,5 +11,5 @@ pub record State : Type 0 where
   pub ended : Ending
 
 -- a reading laid over the table t from index k on; what does not fit is dropped
-unfoldable pub after : List ℕ → ℕ → Reading → State
-after t k r = record { table = sets t k (r .shown); count = k + length (r .shown); ended = r .ended }
+unfoldable pub shownOver : List ℕ → ℕ → Reading → State
+shownOver t k r = record { table = sets t k (r .shown); count = k + length (r .shown); ended = r .ended }

@@ -3,13 +3,13 @@ ghost use mathlib.Core.Path.{_≡_};
 ghost use Prim.Native.Nat.{_*_, _≤_, _<_, _^_};
 ghost use lib.ListN.{getD};
 ghost use Rattle.format.specs.Bits.{high};
-ghost use Rattle.format.specs.Formats.{item, Item as «ItemOf», times, the, _▹_};
+ghost use Rattle.format.specs.Formats.{item, Item as ItemOf, times, the, _▹_};
 ghost use Rattle.format.specs.Tests.{pick};
 ghost use Rattle.format.specs.Items.{coordinatesOf, run, signExtend};
-ghost use Rattle.table.specs.State.{after};
-ghost use Rattle.table.specs.Run.{left};
-ghost use Rattle.table.specs.Fields.{Fits, allows, signed, fieldOf, announces, announced, weights as «weights»};
-ghost use Rattle.table.specs.declared.fields.Field.the-variants.{Coordinate as «Coordinate»};
+ghost use Rattle.table.specs.State.{shownOver};
+ghost use Rattle.table.specs.Run.{runLeaves};
+ghost use Rattle.table.specs.Fields.{Fits, allows, signed, fieldOf, announces, announced, weights};
+ghost use Rattle.table.specs.declared.fields.Field.the-variants.{Coordinate};
 use crate::Run;
 use crate::put;
 use crate::room_for;
@@ -32,7 +32,7 @@ pub struct Announced {
 
 // What the numbers 0 to 7 announce in a field of this kind: a verb its coordinates, a Bezier frame four easing numbers.
 pub fn weights_of(kind: Field) -> [usize; 8]
-    ensures { λ r. ⌜ r ≡ «weights» kind ⌝ }
+    ensures { λ r. ⌜ r ≡ weights kind ⌝ }
 {
     match kind {
         Field::Verb => [0, 2, 2, 1, 1, 4, 4, 6],
@@ -44,23 +44,23 @@ pub fn weights_of(kind: Field) -> [usize; 8]
 }
 
 // What a number announces; a greater one than these announces nothing.
-pub fn weight(weights: &[usize], v: u64) -> usize
-    ensures { λ r. ⌜ r ≡ getD (now (weights .entry)) v 0 ⌝ }
+pub fn weight(weights: &[usize], value: u64) -> usize
+    ensures { λ r. ⌜ r ≡ getD (now (weights .entry)) value 0 ⌝ }
 {
-    if v < weights.len() as u64 {
-        weights[v as usize]
+    if value < weights.len() as u64 {
+        weights[value as usize]
     } else {
         0
     }
 }
 
 // An interpolation is not 0, and a byte value at most 255.
-pub fn allowed(kind: Field, v: u64) -> bool
-    ensures { λ r. ⌜ r ≡ allows kind v ⌝ }
+pub fn allowed(kind: Field, value: u64) -> bool
+    ensures { λ r. ⌜ r ≡ allows kind value ⌝ }
 {
     match kind {
-        Field::Interpolation => 0 < v,
-        Field::ByteValue => v <= 255,
+        Field::Interpolation => 0 < value,
+        Field::ByteValue => value <= 255,
         Field::Verb => true,
         Field::Bit => true,
         Field::Coordinate => true,
@@ -81,107 +81,129 @@ pub fn is_signed(kind: Field) -> bool
 }
 
 // What the bits of a field show.
-fn shown(kind: Field, w: u64, x: u64) -> u64
-    requires { ⌜ (1 ≤ w) × (w ≤ 32) × (x < 2 ^ w) ⌝ }
-    ensures { λ r. ⌜ r ≡ pick (signed kind) (signExtend w x) x ⌝ }
+fn shown(kind: Field, width: u64, raw: u64) -> u64
+    requires { ⌜ (1 ≤ width) × (width ≤ 32) × (raw < 2 ^ width) ⌝ }
+    ensures { λ r. ⌜ r ≡ pick (signed kind) (signExtend width raw) raw ⌝ }
 {
     if is_signed(kind) {
-        bits::fields::extend(x, w)
+        bits::fields::extend(raw, width)
     } else {
-        x
+        raw
     }
 }
 
 // n fields of w bits: the first that runs past the body is 13, the first that is not allowed 16.
 pub fn read_fields(
     kind: Field,
-    w: u64,
-    n: usize,
-    s: &[u8],
+    width: u64,
+    count: usize,
+    body: &[u8],
     at: BitPlace,
-    t: &mut [u64],
-    k: usize,
+    table: &mut [u64],
+    from: usize,
 ) -> Announced
-    requires { ⌜ Fits (now s) (at .0) k × (1 ≤ w) × (w ≤ 32) × (n < 2 ^ 32) ⌝ }
-    ensures states { λ r. ⌜ left (now (t .exit)) (r .run) ≡ after (now (t .entry)) k (run high (now (s .entry)) (times n (fieldOf kind w)) (at .0)) ⌝ }
-    ensures counts { λ r. ⌜ r .count ≡ announced kind (run high (now (s .entry)) (times n (fieldOf kind w)) (at .0) .shown) ⌝ }
-    ensures few { λ r. ⌜ r .count ≤ 6 * n ⌝ }
+    requires { ⌜ Fits (now body) (at .0) from × (1 ≤ width) × (width ≤ 32) × (count < 2 ^ 32) ⌝ }
+    ensures states { λ r. ⌜ runLeaves (now (table .exit)) (r .run) ≡ shownOver (now (table .entry)) from (run high (now (body .entry)) (times count (fieldOf kind width)) (at .0)) ⌝ }
+    ensures counts { λ r. ⌜ r .count ≡ announced kind (run high (now (body .entry)) (times count (fieldOf kind width)) (at .0) .shown) ⌝ }
+    ensures few { λ r. ⌜ r .count ≤ 6 * count ⌝ }
 {
     let weights = weights_of(kind);
     let mut place = at;
-    let mut j = k;
-    let mut left = n;
-    let mut count = 0;
+    let mut index = from;
+    let mut left = count;
+    let mut sum = 0;
     while 0 < left {
-        let next = place.0 + w as usize;
-        if s.len() * 8 < next {
-            let run = Run::Stop(13, j);
-            return Announced { run, count };
+        let next = place.0 + width as usize;
+        if body.len() * 8 < next {
+            let run = Run::Stop(13, index);
+            return Announced { run, count: sum };
         }
-        let x = bits::fields::field(s, place, w);
-        let v = shown(kind, w, x);
-        if allowed(kind, v) {
-            put(t, j, v);
-            count += weight(&weights, v);
+        let raw = bits::fields::field(body, place, width);
+        let value = shown(kind, width, raw);
+        if allowed(kind, value) {
+            put(table, index, value);
+            sum += weight(&weights, value);
             place = BitPlace(next);
-            j += 1;
+            index += 1;
             left -= 1;
         } else {
-            let run = Run::Stop(16, j);
-            return Announced { run, count };
+            let run = Run::Stop(16, index);
+            return Announced { run, count: sum };
         }
     }
-    let run = Run::Done(place, j);
-    Announced { run, count }
+    let run = Run::Done(place, index);
+    Announced { run, count: sum }
 }
 
 // n SB fields of w bits. They show whatever their bits are, so only those are read that there is room for.
-fn read_signed(w: u64, n: usize, s: &[u8], at: BitPlace, t: &mut [u64], k: usize) -> Run
-    requires { ⌜ Fits (now s) (at .0) k × (1 ≤ w) × (w ≤ 32) × (n < 2 ^ 32) ⌝ }
-    ensures { λ r. ⌜ left (now (t .exit)) r ≡ after (now (t .entry)) k (run high (now (s .entry)) (times n (fieldOf «Coordinate» w)) (at .0)) ⌝ }
+fn read_signed(
+    width: u64,
+    count: usize,
+    body: &[u8],
+    at: BitPlace,
+    table: &mut [u64],
+    from: usize,
+) -> Run
+    requires { ⌜ Fits (now body) (at .0) from × (1 ≤ width) × (width ≤ 32) × (count < 2 ^ 32) ⌝ }
+    ensures { λ r. ⌜ runLeaves (now (table .exit)) r ≡ shownOver (now (table .entry)) from (run high (now (body .entry)) (times count (fieldOf Coordinate width)) (at .0)) ⌝ }
 {
-    let step = w as usize;
-    let end = at.0 + n * step;
-    if s.len() * 8 < end {
-        let f = read_fields(Field::Coordinate, w, n, s, at, t, k);
-        return f.run;
+    let step = width as usize;
+    let end = at.0 + count * step;
+    if body.len() * 8 < end {
+        let fields = read_fields(Field::Coordinate, width, count, body, at, table, from);
+        return fields.run;
     }
-    let m = room_for(t.len(), k, n);
+    let room = room_for(table.len(), from, count);
     let mut place = at.0;
     let mut i = 0;
-    while i < m {
-        let j = k + i;
-        let x = bits::fields::field(s, BitPlace(place), w);
-        t[j] = bits::fields::extend(x, w);
+    while i < room {
+        let index = from + i;
+        let raw = bits::fields::field(body, BitPlace(place), width);
+        table[index] = bits::fields::extend(raw, width);
         place += step;
         i += 1;
     }
-    Run::Done(BitPlace(end), k + n)
+    Run::Done(BitPlace(end), from + count)
 }
 
 // n fields of w bits, by their kind.
-fn read_run(kind: Field, w: u64, n: usize, s: &[u8], at: BitPlace, t: &mut [u64], k: usize) -> Run
-    requires { ⌜ Fits (now s) (at .0) k × (1 ≤ w) × (w ≤ 32) × (n < 2 ^ 32) ⌝ }
-    ensures { λ r. ⌜ left (now (t .exit)) r ≡ after (now (t .entry)) k (run high (now (s .entry)) (times n (fieldOf kind w)) (at .0)) ⌝ }
+fn read_run(
+    kind: Field,
+    width: u64,
+    count: usize,
+    body: &[u8],
+    at: BitPlace,
+    table: &mut [u64],
+    from: usize,
+) -> Run
+    requires { ⌜ Fits (now body) (at .0) from × (1 ≤ width) × (width ≤ 32) × (count < 2 ^ 32) ⌝ }
+    ensures { λ r. ⌜ runLeaves (now (table .exit)) r ≡ shownOver (now (table .entry)) from (run high (now (body .entry)) (times count (fieldOf kind width)) (at .0)) ⌝ }
 {
     if is_signed(kind) {
-        return read_signed(w, n, s, at, t, k);
+        return read_signed(width, count, body, at, table, from);
     }
-    let f = read_fields(kind, w, n, s, at, t, k);
-    f.run
+    let fields = read_fields(kind, width, count, body, at, table, from);
+    fields.run
 }
 
 // A width, and n fields of it.
-pub fn read_scaled(kind: Field, n: usize, s: &[u8], at: BitPlace, t: &mut [u64], k: usize) -> Run
-    requires { ⌜ Fits (now s) (at .0) k × (n < 2 ^ 32) ⌝ }
-    ensures { λ r. ⌜ left (now (t .exit)) r ≡ after (now (t .entry)) k (run high (now (s .entry)) (item «ItemOf».width ▹ λ w. times n (fieldOf kind (the w))) (at .0)) ⌝ }
+pub fn read_scaled(
+    kind: Field,
+    count: usize,
+    body: &[u8],
+    at: BitPlace,
+    table: &mut [u64],
+    from: usize,
+) -> Run
+    requires { ⌜ Fits (now body) (at .0) from × (count < 2 ^ 32) ⌝ }
+    ensures { λ r. ⌜ runLeaves (now (table .exit)) r ≡ shownOver (now (table .entry)) from (run high (now (body .entry)) (item ItemOf.width ▹ λ width. times count (fieldOf kind (the width))) (at .0)) ⌝ }
 {
-    let r = bits::fields::read_width(s, at);
+    let r = bits::fields::read_width(body, at);
     match r {
-        Got::Value(w, next) => {
-            put(t, k, w);
-            read_run(kind, w, n, s, next, t, k + 1)
+        Got::Value(width, next) => {
+            put(table, from, width);
+            read_run(kind, width, count, body, next, table, from + 1)
         }
-        Got::Fault(why) => Run::Stop(why, k),
+        Got::Fault(why) => Run::Stop(why, from),
     }
 }

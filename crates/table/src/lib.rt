@@ -5,8 +5,8 @@ ghost use lib.ListN.{set};
 ghost use Rattle.format.specs.Bits.{high};
 ghost use Rattle.format.specs.Items.{run};
 ghost use Rattle.items.specs.Kinds.{formatOf};
-ghost use Rattle.table.specs.State.{after};
-ghost use Rattle.table.specs.Run.{left};
+ghost use Rattle.table.specs.State.{shownOver};
+ghost use Rattle.table.specs.Run.{runLeaves};
 ghost use Rattle.table.specs.Fields.{Fits};
 
 pub mod fields;
@@ -23,38 +23,38 @@ pub enum Run {
 }
 
 // Stores a number where there is room for it.
-pub fn put(t: &mut [u64], k: usize, v: u64)
-    ensures { λ r. ⌜ now (t .exit) ≡ set (now (t .entry)) k v ⌝ }
+pub fn put(table: &mut [u64], index: usize, value: u64)
+    ensures { λ r. ⌜ now (table .exit) ≡ set (now (table .entry)) index value ⌝ }
 {
-    if k < t.len() {
-        t[k] = v;
+    if index < table.len() {
+        table[index] = value;
     }
 }
 
 // How many of n numbers from an index on a table of len numbers has room for.
-pub fn room_for(len: usize, k: usize, n: usize) -> usize
-    ensures { λ r. ⌜ r ≡ min n (len - k) ⌝ }
+pub fn room_for(len: usize, index: usize, count: usize) -> usize
+    ensures { λ r. ⌜ r ≡ min count (len - index) ⌝ }
 {
-    if len < k {
+    if len < index {
         return 0;
     }
-    if len - k < n {
-        return len - k;
+    if len - index < count {
+        return len - index;
     }
-    n
+    count
 }
 
 // One item.
-pub fn read_one(kind: Item, s: &[u8], at: BitPlace, t: &mut [u64], k: usize) -> Run
-    requires { ⌜ Fits (now s) (at .0) k ⌝ }
-    ensures { λ r. ⌜ left (now (t .exit)) r ≡ after (now (t .entry)) k (run high (now (s .entry)) (formatOf kind) (at .0)) ⌝ }
+pub fn read_one(kind: Item, body: &[u8], at: BitPlace, table: &mut [u64], from: usize) -> Run
+    requires { ⌜ Fits (now body) (at .0) from ⌝ }
+    ensures { λ r. ⌜ runLeaves (now (table .exit)) r ≡ shownOver (now (table .entry)) from (run high (now (body .entry)) (formatOf kind) (at .0)) ⌝ }
 {
-    let r = items::read_item(kind, s, at);
+    let r = items::read_item(kind, body, at);
     match r {
-        Got::Value(v, next) => {
-            put(t, k, v);
-            Run::Done(next, k + 1)
+        Got::Value(value, next) => {
+            put(table, from, value);
+            Run::Done(next, from + 1)
         }
-        Got::Fault(why) => Run::Stop(why, k),
+        Got::Fault(why) => Run::Stop(why, from),
     }
 }

@@ -4,8 +4,8 @@ ghost use Prim.Native.Nat.{_*_};
 ghost use lib.ListN.{length};
 ghost use Rattle.format.specs.Bits.{high};
 ghost use Rattle.format.specs.Items.{run, string, readText, showText};
-ghost use Rattle.table.specs.State.{after};
-ghost use Rattle.table.specs.Run.{left};
+ghost use Rattle.table.specs.State.{shownOver};
+ghost use Rattle.table.specs.Run.{runLeaves};
 ghost use Rattle.table.specs.Fields.{Fits};
 use crate::Run;
 use crate::put;
@@ -15,39 +15,39 @@ use bits::BitPlace;
 use bits::BytePlace;
 
 // The bytes up to a zero byte, each read once: they are stored behind their count, which is known last.
-fn text(s: &[u8], byte: BytePlace, bit: BitPlace, t: &mut [u64], k: usize) -> Run
-    requires { ⌜ Fits (now s) (bit .0) k × (bit .0 ≡ 8 * byte .0) ⌝ }
-    ensures { λ r. ⌜ left (now (t .exit)) r ≡ after (now (t .entry)) k (showText (readText high (now (s .entry)) (bit .0) (length (now (s .entry))))) ⌝ }
+fn text(body: &[u8], byte: BytePlace, bit: BitPlace, table: &mut [u64], from: usize) -> Run
+    requires { ⌜ Fits (now body) (bit .0) from × (bit .0 ≡ 8 * byte .0) ⌝ }
+    ensures { λ r. ⌜ runLeaves (now (table .exit)) r ≡ shownOver (now (table .entry)) from (showText (readText high (now (body .entry)) (bit .0) (length (now (body .entry))))) ⌝ }
 {
-    let from = byte.0;
-    let len = s.len();
-    let first = k + 1;
-    let m = room_for(t.len(), first, len - from);
-    let mut n = 0;
-    while from + n < len {
-        let b = bits::byte_at(s, from + n);
+    let start = byte.0;
+    let len = body.len();
+    let first = from + 1;
+    let room = room_for(table.len(), first, len - start);
+    let mut count = 0;
+    while start + count < len {
+        let b = bits::byte_at(body, start + count);
         if b == 0 {
-            put(t, k, n as u64);
-            return Run::Done(BitPlace(bit.0 + 8 * n + 8), first + n);
+            put(table, from, count as u64);
+            return Run::Done(BitPlace(bit.0 + 8 * count + 8), first + count);
         }
-        if n < m {
-            let j = first + n;
-            t[j] = b;
+        if count < room {
+            let index = first + count;
+            table[index] = b;
         }
-        n += 1;
+        count += 1;
     }
-    put(t, k, n as u64);
-    Run::Stop(13, first + n)
+    put(table, from, count as u64);
+    Run::Stop(13, first + count)
 }
 
 // A String: its length and then its bytes.
-pub fn read_string(s: &[u8], at: BitPlace, t: &mut [u64], k: usize) -> Run
-    requires { ⌜ Fits (now s) (at .0) k ⌝ }
-    ensures { λ r. ⌜ left (now (t .exit)) r ≡ after (now (t .entry)) k (run high (now (s .entry)) string (at .0)) ⌝ }
+pub fn read_string(body: &[u8], at: BitPlace, table: &mut [u64], from: usize) -> Run
+    requires { ⌜ Fits (now body) (at .0) from ⌝ }
+    ensures { λ r. ⌜ runLeaves (now (table .exit)) r ≡ shownOver (now (table .entry)) from (run high (now (body .entry)) string (at .0)) ⌝ }
 {
-    let a = bits::align(s, at);
-    let Aligned::Clean(byte, bit) = a else {
-        return Run::Stop(15, k);
+    let aligned = bits::align(body, at);
+    let Aligned::Clean(byte, bit) = aligned else {
+        return Run::Stop(15, from);
     };
-    text(s, byte, bit, t, k)
+    text(body, byte, bit, table, from)
 }

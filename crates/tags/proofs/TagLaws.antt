@@ -1,51 +1,94 @@
 -- One tag: its bytes copied one by one, its values by its class, and its code, state and count stored before them last.
-use Prim.Native.Nat.{ℕ, suc, _+_, _-_, _≤_, min}
+use Prim.Native.Nat.{ℕ, suc, _+_, _-_, _*_, _≤_, min}
 use mathlib.Core.List.{List, [], _∷_}
 use mathlib.Core.Path.{_≡_, refl, ap, sym, _∙_}
+use mathlib.Core.Bool.{Bool, true, false}
 use native.Mathlib.Omega.{arith}
 use lib.ListN.{length, set, length-set}
 use lib.Seq.{sets, length-sets}
-use Rattle.format.specs.Reading.{At, Reading, shows}
-use Rattle.table.specs.State.{State, after}
-use Rattle.table.specs.Run.{left, indexOf}
-use Rattle.table.specs.declared.Run.{Run}
+use lib.Dec.{eqb}
+use borrow.Author.Tests.{eqb-true}
+use Rattle.format.specs.Bits.{high}
+use Rattle.format.specs.Tests.{pick}
+use Rattle.format.specs.Reading.{Ending, At, Fault, Reading, shows}
+use Rattle.format.specs.Items.{run}
+use Rattle.format.specs.Bodies.{aligned, Body, toEnd, usedUp, readBody}
+use Rattle.format.specs.FileAndTags.{front}
+use Rattle.format.proofs.WalkLaws.{run-le}
+use Rattle.format.proofs.Absurd.{clash}
+use Rattle.fixed.specs.Fixed.{fixedOf}
+use Rattle.bodies.specs.Leaf.{leafBody}
+use Rattle.table.specs.State.{State, shownOver}
+use Rattle.bits.specs.Places.{alignedAt}
+use Rattle.bits.specs.declared.BitPlace.{BitPlace}
+use Rattle.bits.specs.declared.BytePlace.{BytePlace}
+use Rattle.bits.specs.declared.Aligned.the-variants.{Clean}
 use Rattle.bits.proofs.StoreLaws.{sets-out}
+use Rattle.bits.proofs.FieldLaws.{align-clean}
 use Rattle.table.proofs.EngineLaws.{state, state-eq, after-none}
 use Rattle.table.proofs.StoringLaws.{Storing, storing-done}
 use Rattle.table.proofs.TextLaws.{set-sets}
+use Rattle.table.proofs.RunLaws.{align-none}
+use Rattle.bodies.specs.Shown.{shownIndex, shownLeaves}
+use Rattle.bodies.specs.declared.Shown.{Shown}
 use Rattle.classes.specs.declared.Class.{Class}
+use Rattle.classes.specs.declared.Class.the-variants.{Opaque, End, Container, Fixed, Attributes}
 use Rattle.tags.specs.Shown.{valuesOf, headed}
 
 -- ---- bytes, one by one: all are stored, or there is no more room
-pub copied : (t₀ b : List ℕ) (k : ℕ) {t : List ℕ} {i m : ℕ} → Storing t₀ b k t i → m ≡ min (length b) (length t - k) → m ≤ i → state t (k + length b) (At 0) ≡ after t₀ k (shows b 0)
-unfolding after
+pub copied : (t₀ b : List ℕ) (k : ℕ) {t : List ℕ} {i m : ℕ} → Storing t₀ b k t i → m ≡ min (length b) (length t - k) → m ≤ i → state t (k + length b) (At 0) ≡ shownOver t₀ k (shows b 0)
+unfolding shownOver
 copied t₀ b k {t} {i} {m} g h l = state-eq (storing-done t₀ b k g h l) refl refl
 
 -- ---- a reading that showed nothing more
-pub none-left : (t : List ℕ) (k : ℕ) {q : ℕ} {r : Reading} → r ≡ shows [] q → state t k (At q) ≡ after t k r
+pub none-left : (t : List ℕ) (k : ℕ) {q : ℕ} {r : Reading} → r ≡ shows [] q → state t k (At q) ≡ shownOver t k r
 none-left t k {q} e = rw e (sym (after-none t k q))
 
+-- ---- the whole byte after a container's own items, where its list starts
+pub list-starts : (body t : List ℕ) (k p : ℕ) {i : BytePlace} {q : BitPlace} → alignedAt body p ≡ Clean i q → state t k (At (8 * i .0)) ≡ shownOver t k (run high body aligned p)
+list-starts body t k p e = none-left t k (align-none body p e ∙ ap (shows []) (align-clean body p e .1))
+
 -- ---- the class that a `match` tells
-pub values-of : (body t : List ℕ) (k code : ℕ) {class : Class} {x : State} (told : Class) → class ≡ told → x ≡ after t k (valuesOf told code body) → x ≡ after t k (valuesOf class code body)
-values-of body t k code told e f = f ∙ ap (λ (z : Class). after t k (valuesOf z code body)) (sym e)
+pub values-of : (body t : List ℕ) (k code : ℕ) {class : Class} {x : State} (told : Class) → class ≡ told → x ≡ shownOver t k (valuesOf told code body) → x ≡ shownOver t k (valuesOf class code body)
+values-of body t k code told e f = f ∙ ap (λ (z : Class). shownOver t k (valuesOf z code body)) (sym e)
+
+-- ---- values end in the body
+body-le : (y : Body) (b : List ℕ) (p : ℕ) → readBody high y b .ended ≡ At p → p ≤ 8 * length b
+unfolding readBody
+body-le y b p = go (toEnd high b y .shown) (toEnd high b y .ended)
+  where
+    test : (q : ℕ) (c : Bool) → eqb q (8 * length b) ≡ c → pick c (At q) (Fault 18) ≡ At p → p ≤ 8 * length b
+    test q true e h = let z : q ≡ p = cc in omega (arith, eqb-true q (8 * length b) e)
+    test q false e h = clash cc
+
+    go : (xs : List ℕ) (z : Ending) → usedUp (8 * length b) xs z .ended ≡ At p → p ≤ 8 * length b
+    go xs (At q) h = test q (eqb q (8 * length b)) refl h
+    go xs (Fault e) h = clash cc
+
+pub values-le : (class : Class) (code : ℕ) (body : List ℕ) (p : ℕ) → valuesOf class code body .ended ≡ At p → p ≤ 8 * length body
+values-le Opaque code body p e = let z : 0 ≡ p = cc in omega arith
+values-le End code body p e = let z : 0 ≡ p = cc in omega arith
+values-le Container code body p e = run-le high body (front (fixedOf code)) 0 p (omega arith) e .1
+values-le Fixed code body p e = body-le (leafBody code) body p e
+values-le Attributes code body p e = body-le (leafBody code) body p e
 
 -- ---- an index never falls
-pub index-le : (t : List ℕ) (k : ℕ) (r : Reading) {u : List ℕ} (R : Run) → left u R ≡ after t k r → k ≤ indexOf R
-unfolding after
+pub index-le : (t : List ℕ) (k : ℕ) (r : Reading) {u : List ℕ} (R : Shown) → shownLeaves u R ≡ shownOver t k r → k ≤ shownIndex R
+unfolding shownOver
 index-le t k r R e = omega (arith, ap (λ (z : State). z .count) e)
 
 -- ---- three numbers before the values
-pub headed-stored : (t : List ℕ) (k code : ℕ) (s : ℕ) (r : Reading) {u u₁ u₂ u₃ : List ℕ} {n : ℕ} (R : Run) → left u R ≡ after t (k + 3) r
-    → u₁ ≡ set u k code → u₂ ≡ set u₁ (k + 1) s → n ≡ indexOf R - (k + 3) → u₃ ≡ set u₂ (k + 2) n → left u₃ R ≡ after t k (headed code s r)
-unfolding after
+pub headed-stored : (t : List ℕ) (k code : ℕ) (s : ℕ) (r : Reading) {u u₁ u₂ u₃ : List ℕ} {n : ℕ} (R : Shown) → shownLeaves u R ≡ shownOver t (k + 3) r
+    → u₁ ≡ set u k code → u₂ ≡ set u₁ (k + 1) s → n ≡ shownIndex R - (k + 3) → u₃ ≡ set u₂ (k + 2) n → shownLeaves u₃ R ≡ shownOver t k (headed code s r)
+unfolding shownOver
 headed-stored t k code s r R e a b c d =
     let v : List ℕ = r .shown in
-    let m : indexOf R ≡ k + 3 + length v = ap (λ (z : State). z .count) e in
-    let n : indexOf R - (k + 3) ≡ length v = omega arith in
+    let m : shownIndex R ≡ k + 3 + length v = ap (λ (z : State). z .count) e in
+    let n : shownIndex R - (k + 3) ≡ length v = omega arith in
     let i1 : k + 1 ≡ suc k = omega arith in
     let i2 : k + 2 ≡ suc (suc k) = omega arith in
     let i3 : k + 3 ≡ suc (suc (suc k)) = omega arith in
-    let t3 : left _ R .table ≡ sets t (suc (suc (suc k))) v = ap (λ (z : State). z .table) e ∙ ap (λ (j : ℕ). sets t j v) i3 in
+    let t3 : shownLeaves _ R .table ≡ sets t (suc (suc (suc k))) v = ap (λ (z : State). z .table) e ∙ ap (λ (j : ℕ). sets t j v) i3 in
     state-eq
     (d ∙ rw (
       c,
@@ -63,8 +106,8 @@ headed-stored t k code s r R e a b c d =
     (ap (λ (z : State). z .ended) e)
 
 -- there is no room for any of them
-pub headed-out : (t : List ℕ) (k code : ℕ) (s : ℕ) (r : Reading) {u : List ℕ} (R : Run) → left u R ≡ after t (k + 3) r → length u ≤ k → left u R ≡ after t k (headed code s r)
-unfolding after
+pub headed-out : (t : List ℕ) (k code : ℕ) (s : ℕ) (r : Reading) {u : List ℕ} (R : Shown) → shownLeaves u R ≡ shownOver t (k + 3) r → length u ≤ k → shownLeaves u R ≡ shownOver t k (headed code s r)
+unfolding shownOver
 headed-out t k code s r {u} R e h =
     let v : List ℕ = r .shown in
     let d : u ≡ sets t (k + 3) v = ap (λ (z : State). z .table) e in

@@ -8,68 +8,68 @@ ghost use Rattle.format.specs.Bits.{high};
 ghost use Rattle.format.specs.Reading.{shows};
 ghost use Rattle.format.specs.Items.{run};
 ghost use Rattle.format.specs.FileAndTags.{front};
-ghost use Rattle.table.specs.State.{after};
-ghost use Rattle.table.specs.Run.{left, indexOf};
+ghost use Rattle.table.specs.State.{shownOver};
 ghost use Rattle.fixed.specs.Fixed.{fixedOf};
+ghost use Rattle.bodies.specs.Shown.{shownIndex, shownLeaves};
 ghost use Rattle.tags.specs.Shown.{stateOf, valuesOf, headed};
 use bits::Aligned;
 use bits::BitPlace;
+use bits::BytePlace;
+use bodies::Shown;
 use classes::Class;
 use table::Run;
 
-// The bytes of an opaque body: those that there is room for, in one plain loop.
-fn copy_bytes(body: &[u8], t: &mut [u64], k: usize) -> Run
-    requires { ⌜ (length (now body) < 2 ^ 60) × (k < 2 ^ 61) ⌝ }
-    ensures { λ r. ⌜ left (now (t .exit)) r ≡ after (now (t .entry)) k (shows (now (body .entry)) 0) ⌝ }
+// The bytes of an opaque body: those that there is room for, in one plain loop. Nothing in them is read.
+fn copy_bytes(body: &[u8], table: &mut [u64], from: usize) -> Shown
+    requires { ⌜ (length (now body) < 2 ^ 60) × (from < 2 ^ 61) ⌝ }
+    ensures { λ r. ⌜ shownLeaves (now (table .exit)) r ≡ shownOver (now (table .entry)) from (shows (now (body .entry)) 0) ⌝ }
 {
-    let n = body.len();
-    let m = table::room_for(t.len(), k, n);
+    let count = body.len();
+    let stored = table::room_for(table.len(), from, count);
     let mut i = 0;
-    while i < m {
-        let j = k + i;
-        t[j] = bits::wide(body[i]);
+    while i < stored {
+        let index = from + i;
+        table[index] = bits::wide(body[i]);
         i += 1;
     }
-    Run::Done(BitPlace(0), k + n)
+    Shown::Done(BytePlace(0), from + count)
 }
 
-// What stands in a container before its list, up to a whole byte.
-fn read_front(code: u32, body: &[u8], t: &mut [u64], k: usize) -> Run
-    requires { ⌜ (length (now body) < 2 ^ 60) × (k < 2 ^ 61) ⌝ }
-    ensures { λ r. ⌜ left (now (t .exit)) r ≡ after (now (t .entry)) k (run high (now (body .entry)) (front (fixedOf code)) 0) ⌝ }
+// What stands in a container before its list, up to the whole byte where that starts.
+fn read_front(code: u32, body: &[u8], table: &mut [u64], from: usize) -> Shown
+    requires { ⌜ (length (now body) < 2 ^ 60) × (from < 2 ^ 61) ⌝ }
+    ensures { λ r. ⌜ shownLeaves (now (table .exit)) r ≡ shownOver (now (table .entry)) from (run high (now (body .entry)) (front (fixedOf code)) 0) ⌝ }
 {
-    let r = fixed::read_fixed(code, body, BitPlace(0), t, k);
-    let Run::Done(next, j) = r else {
-        return r;
-    };
-    let a = bits::align(body, next);
-    let Aligned::Clean(_, start) = a else {
-        return Run::Stop(15, j);
-    };
-    Run::Done(start, j)
+    match fixed::read_fixed(code, body, BitPlace(0), table, from) {
+        Run::Stop(why, behind) => Shown::Stop(why, behind),
+        Run::Done(next, behind) => match bits::align(body, next) {
+            Aligned::Unclean => Shown::Stop(15, behind),
+            Aligned::Clean(list, _) => Shown::Done(list, behind),
+        },
+    }
 }
 
 // The values of a tag, by its class.
-fn read_values(class: Class, code: u32, body: &[u8], t: &mut [u64], k: usize) -> Run
-    requires { ⌜ (length (now body) < 2 ^ 60) × (k < 2 ^ 61) ⌝ }
-    ensures { λ r. ⌜ left (now (t .exit)) r ≡ after (now (t .entry)) k (valuesOf class code (now (body .entry))) ⌝ }
+fn read_tag_values(class: Class, code: u32, body: &[u8], table: &mut [u64], from: usize) -> Shown
+    requires { ⌜ (length (now body) < 2 ^ 60) × (from < 2 ^ 61) ⌝ }
+    ensures { λ r. ⌜ shownLeaves (now (table .exit)) r ≡ shownOver (now (table .entry)) from (valuesOf class code (now (body .entry))) ⌝ }
 {
     match class {
-        Class::Opaque => copy_bytes(body, t, k),
-        Class::End => Run::Done(BitPlace(0), k),
-        Class::Container => read_front(code, body, t, k),
-        Class::Fixed => bodies::read_body(code, body, t, k),
-        Class::Attributes => bodies::read_body(code, body, t, k),
+        Class::Opaque => copy_bytes(body, table, from),
+        Class::End => Shown::Done(BytePlace(0), from),
+        Class::Container => read_front(code, body, table, from),
+        Class::Fixed => bodies::read_body(code, body, table, from),
+        Class::Attributes => bodies::read_body(code, body, table, from),
     }
 }
 
-// The index after what a run stored.
-fn index(r: Run) -> usize
-    ensures { λ x. ⌜ x ≡ indexOf r ⌝ }
+// The index behind what was stored.
+fn index_behind(shown: Shown) -> usize
+    ensures { λ r. ⌜ r ≡ shownIndex shown ⌝ }
 {
-    match r {
-        Run::Done(_, j) => j,
-        Run::Stop(_, j) => j,
+    match shown {
+        Shown::Done(_, behind) => behind,
+        Shown::Stop(_, behind) => behind,
     }
 }
 
@@ -87,40 +87,48 @@ pub fn state(class: Class) -> u64
 }
 
 // A tag's numbers: its values are stored first, behind its code, its state and their count. The walk that counts has no room for any of them.
-pub fn show_tag(class: Class, code: u32, body: &[u8], t: &mut [u64], k: usize) -> Run
-    requires { ⌜ (length (now body) < 2 ^ 60) × (k < 2 ^ 60) ⌝ }
-    ensures { λ r. ⌜ left (now (t .exit)) r ≡ after (now (t .entry)) k (headed code (stateOf class) (valuesOf class code (now (body .entry)))) ⌝ }
+pub fn show_tag(class: Class, code: u32, body: &[u8], table: &mut [u64], from: usize) -> Shown
+    requires { ⌜ (length (now body) < 2 ^ 60) × (from < 2 ^ 60) ⌝ }
+    ensures { λ r. ⌜ shownLeaves (now (table .exit)) r ≡ shownOver (now (table .entry)) from (headed code (stateOf class) (valuesOf class code (now (body .entry)))) ⌝ }
 {
-    let r = read_values(class, code, body, t, k + 3);
-    if t.len() <= k {
-        return r;
+    let shown = read_tag_values(class, code, body, table, from + 3);
+    if table.len() <= from {
+        return shown;
     }
-    table::put(t, k, code as u64);
-    table::put(t, k + 1, state(class));
-    table::put(t, k + 2, (index(r) - (k + 3)) as u64);
-    r
+    table::put(table, from, code as u64);
+    table::put(table, from + 1, state(class));
+    table::put(table, from + 2, (index_behind(shown) - (from + 3)) as u64);
+    shown
 }
 
 // Stores a number of the tag table where there is room for it.
-fn put_row(g: &mut [u32], m: usize, v: u32)
-    ensures { λ r. ⌜ now (g .exit) ≡ set (now (g .entry)) m v ⌝ }
+fn put_row(rows: &mut [u32], index: usize, value: u32)
+    ensures { λ r. ⌜ now (rows .exit) ≡ set (now (rows .entry)) index value ⌝ }
 {
-    if m < g.len() {
-        g[m] = v;
+    if index < rows.len() {
+        rows[index] = value;
     }
 }
 
-// A tag's row: depth, code, place, header size, body length.
-pub fn show_row(depth: u32, code: u32, place: u32, size: u32, len: u32, g: &mut [u32], m: usize)
-    requires { ⌜ m < 2 ^ 60 ⌝ }
-    ensures { λ r. ⌜ now (g .exit) ≡ sets (now (g .entry)) m (depth ∷ code ∷ place ∷ size ∷ len ∷ []) ⌝ }
+// A tag's row: depth, code, place in the file, header size, body length.
+pub fn show_row(
+    depth: u32,
+    code: u32,
+    place: BytePlace,
+    size: u32,
+    len: u32,
+    rows: &mut [u32],
+    row: usize,
+)
+    requires { ⌜ (place .0 < 2 ^ 32) × (row < 2 ^ 60) ⌝ }
+    ensures { λ r. ⌜ now (rows .exit) ≡ sets (now (rows .entry)) row (depth ∷ code ∷ place .0 ∷ size ∷ len ∷ []) ⌝ }
 {
-    if g.len() <= m {
+    if rows.len() <= row {
         return;
     }
-    put_row(g, m, depth);
-    put_row(g, m + 1, code);
-    put_row(g, m + 2, place);
-    put_row(g, m + 3, size);
-    put_row(g, m + 4, len);
+    put_row(rows, row, depth);
+    put_row(rows, row + 1, code);
+    put_row(rows, row + 2, place.0 as u32);
+    put_row(rows, row + 3, size);
+    put_row(rows, row + 4, len);
 }

@@ -11,7 +11,7 @@ use Rattle.format.specs.Items.{run, time, coordinates}
 use Rattle.format.specs.Bodies as bodies
 use Rattle.format.specs.Bodies.{value, values, interpolations, beziers, aligned}
 use Rattle.format.proofs.SizeLaws.{Fair, fair-item, fair-seq, fair-times, fair-value, fair-values, fair-interpolations}
-use Rattle.table.specs.State.{State, after}
+use Rattle.table.specs.State.{State, shownOver}
 use Rattle.table.specs.Fields.{fieldOf, announced}
 use Rattle.table.specs.declared.fields.Field.the-variants.{Verb, Interpolation}
 use Rattle.table.proofs.EngineLaws.{state, after-none, none-then, never-then, then-never, alike-assoc, alike-after}
@@ -22,29 +22,29 @@ use Rattle.attributes.specs.declared.Kind.{Kind}
 use Rattle.values.specs.Parts.{scaled, framesOf}
 
 -- ---- what a `match` tells
-pub value-of : (b t : List ℕ) (k p : ℕ) {what : DataType} {x : State} (told : DataType) → what ≡ told → x ≡ after t k (run high b (value (typeOf told)) p)
-    → x ≡ after t k (run high b (value (typeOf what)) p)
-value-of b t k p told e f = f ∙ ap (λ (z : DataType). after t k (run high b (value (typeOf z)) p)) (sym e)
+pub value-of : (b t : List ℕ) (k p : ℕ) {what : DataType} {x : State} (told : DataType) → what ≡ told → x ≡ shownOver t k (run high b (value (typeOf told)) p)
+    → x ≡ shownOver t k (run high b (value (typeOf what)) p)
+value-of b t k p told e f = f ∙ ap (λ (z : DataType). shownOver t k (run high b (value (typeOf z)) p)) (sym e)
 
-pub values-of : (b t : List ℕ) (k n p : ℕ) {what : DataType} {x : State} (told : DataType) → what ≡ told → x ≡ after t k (run high b (values (typeOf told) n) p)
-    → x ≡ after t k (run high b (values (typeOf what) n) p)
-values-of b t k n p told e f = f ∙ ap (λ (z : DataType). after t k (run high b (values (typeOf z) n) p)) (sym e)
+pub values-of : (b t : List ℕ) (k n p : ℕ) {what : DataType} {x : State} (told : DataType) → what ≡ told → x ≡ shownOver t k (run high b (values (typeOf told) n) p)
+    → x ≡ shownOver t k (run high b (values (typeOf what) n) p)
+values-of b t k n p told e f = f ∙ ap (λ (z : DataType). shownOver t k (run high b (values (typeOf z) n) p)) (sym e)
 
 -- ---- a path: its coordinates are those that its verbs announce
 pub coordinates-of : (b t : List ℕ) (k n p q : ℕ) {m : ℕ} {x : State} → m ≡ announced Verb (run high b (times n (item (Item.UB 3))) p .shown)
-    → x ≡ after t k (run high b (scaled m) q) → x ≡ after t k (run high b (scaled (coordinates (run high b (times n (item (Item.UB 3))) p .shown))) q)
-coordinates-of b t k n p q e f = f ∙ ap (λ (m : ℕ). after t k (run high b (scaled m) q)) (e ∙ announced-verbs (run high b (times n (item (Item.UB 3))) p .shown))
+    → x ≡ shownOver t k (run high b (scaled m) q) → x ≡ shownOver t k (run high b (scaled (coordinates (run high b (times n (item (Item.UB 3))) p .shown))) q)
+coordinates-of b t k n p q e f = f ∙ ap (λ (m : ℕ). shownOver t k (run high b (scaled m) q)) (e ∙ announced-verbs (run high b (times n (item (Item.UB 3))) p .shown))
 
 -- ---- values in turn
 pub in-turn-of : (b t : List ℕ) (k n p : ℕ) {what : DataType} {x : State} (told : DataType) → values (typeOf told) n ≡ times n (value (typeOf told)) → what ≡ told
-    → x ≡ after t k (run high b (times n (value (typeOf what))) p) → x ≡ after t k (run high b (values (typeOf what) n) p)
+    → x ≡ shownOver t k (run high b (times n (value (typeOf what))) p) → x ≡ shownOver t k (run high b (values (typeOf what) n) p)
 in-turn-of b t k n p told same e f =
-    values-of b t k n p told e (f ∙ ap (λ (z : DataType). after t k (run high b (times n (value (typeOf z))) p)) e ∙ ap (λ (g : Format). after t k (run high b g p)) (sym same))
+    values-of b t k n p told e (f ∙ ap (λ (z : DataType). shownOver t k (run high b (times n (value (typeOf z))) p)) e ∙ ap (λ (g : Format). shownOver t k (run high b g p)) (sym same))
 
 -- ---- the interpolations of n frames: what they leave, and the easing that they announce
 module _ (b t : List ℕ) (k n p : ℕ) where
   abbrev pub Announces : bodies.Kind → State → ℕ → Type 0
-  Announces kind x m = (x ≡ after t k (run high b (aligned ▸ interpolations kind n) p)) × ((m ≡ beziers (run high b (aligned ▸ interpolations kind n) p .shown) * 4) × (m ≤ 6 * n))
+  Announces kind x m = (x ≡ shownOver t k (run high b (aligned ▸ interpolations kind n) p)) × ((m ≡ beziers (run high b (aligned ▸ interpolations kind n) p .shown) * 4) × (m ≤ 6 * n))
 
   pub frames-of : {kind : Kind} {x : State} {m : ℕ} (told : Kind) → kind ≡ told → Announces (kindOf told) x m → Announces (kindOf kind) x m
   frames-of {kind} {x} {m} told e h = subst (λ (z : Kind). Announces (kindOf z) x m) (sym e) h
@@ -62,7 +62,7 @@ module _ (b t : List ℕ) (k n p : ℕ) where
       frames-of told is (rw f (sym (after-none t k q)), (rw f, omega arith))
 
   -- they are fields of two bits
-  pub frames-some : {q m : ℕ} {x : State} → run high b aligned p ≡ shows [] q → x ≡ after t k (run high b (times n (fieldOf Interpolation 2)) q)
+  pub frames-some : {q m : ℕ} {x : State} → run high b aligned p ≡ shows [] q → x ≡ shownOver t k (run high b (times n (fieldOf Interpolation 2)) q)
       → (m ≡ announced Interpolation (run high b (times n (fieldOf Interpolation 2)) q .shown)) × (m ≤ 6 * n) → Announces bodies.Simple x m
   frames-some {q} e f g =
       let h : run high b (aligned ▸ interpolations bodies.Simple n) p ≡ run high b (times n (fieldOf Interpolation 2)) q = none-then high b aligned (λ xs. interpolations bodies.Simple n) p q e in
@@ -84,13 +84,13 @@ fair-frames kind n = fair-seq high aligned (interpolations kind n) fair-aligned 
 
 -- the code counts n + 1, and reads the values with the skip before them
 pub frames-is : (d : bodies.DataType) (b t : List ℕ) (k n m p : ℕ) {x : State}
-    → x ≡ after t k (run high b (times (n + 1) time ▸ (aligned ▸ values d (n + 1)) ▸ (aligned ▸ scaled m)) p) → x ≡ after t k (run high b (framesOf d n m) p)
+    → x ≡ shownOver t k (run high b (times (n + 1) time ▸ (aligned ▸ values d (n + 1)) ▸ (aligned ▸ scaled m)) p) → x ≡ shownOver t k (run high b (framesOf d n m) p)
 frames-is d b t k n m p e =
     let f : times (n + 1) time ▸ (aligned ▸ values d (n + 1)) ▸ (aligned ▸ scaled m) ≡ times (suc n) time ▸ (aligned ▸ values d (suc n)) ▸ (aligned ▸ scaled m) =
     ap (λ (i : ℕ). times i time ▸ (aligned ▸ values d i) ▸ (aligned ▸ scaled m)) (add-one n) in
-    e ∙ ap (λ (g : Format). after t k (run high b g p)) f
-    ∙ ap (after t k) (alike-after (times (suc n) time) _ _ (alike-assoc aligned (values d (suc n)) (aligned ▸ scaled m)) high b p)
+    e ∙ ap (λ (g : Format). shownOver t k (run high b g p)) f
+    ∙ ap (shownOver t k) (alike-after (times (suc n) time) _ _ (alike-assoc aligned (values d (suc n)) (aligned ▸ scaled m)) high b p)
 
 pub easing-of : (d : bodies.DataType) (kind : bodies.Kind) (b t : List ℕ) (k n p q : ℕ) {m : ℕ} {x : State} → m ≡ beziers (run high b (aligned ▸ interpolations kind n) p .shown) * 4
-    → x ≡ after t k (run high b (framesOf d n m) q) → x ≡ after t k (run high b (framesOf d n (beziers (run high b (aligned ▸ interpolations kind n) p .shown) * 4)) q)
-easing-of d kind b t k n p q e f = f ∙ ap (λ (m : ℕ). after t k (run high b (framesOf d n m) q)) e
+    → x ≡ shownOver t k (run high b (framesOf d n m) q) → x ≡ shownOver t k (run high b (framesOf d n (beziers (run high b (aligned ▸ interpolations kind n) p .shown) * 4)) q)
+easing-of d kind b t k n p q e f = f ∙ ap (λ (m : ℕ). shownOver t k (run high b (framesOf d n m) q)) e

@@ -4,14 +4,14 @@ ghost use Prim.Native.Nat.{_*_, _<_, _≤_, _^_};
 ghost use Rattle.format.specs.Bits.{high};
 ghost use Rattle.format.specs.Formats.{_▸_};
 ghost use Rattle.format.specs.Items.{run};
-ghost use Rattle.format.specs.Bodies.{values as «valuesOf», interpolations as «interpolationsOf», beziers, aligned, keyframed as «keyframed»};
-ghost use Rattle.table.specs.State.{after};
-ghost use Rattle.table.specs.Run.{left};
+ghost use Rattle.format.specs.Bodies.{values as valuesOf, interpolations as interpolationsOf, beziers, aligned, keyframed};
+ghost use Rattle.table.specs.State.{shownOver};
+ghost use Rattle.table.specs.Run.{runLeaves};
 ghost use Rattle.table.specs.Fields.{Fits};
 ghost use Rattle.attributes.specs.Rows.{kindOf, typeOf};
 ghost use Rattle.values.specs.Parts.{scaled, framesOf, keyframesOf};
+use crate::read_frame_values;
 use crate::read_in_turn;
-use crate::read_values;
 use attributes::DataType;
 use attributes::Kind;
 use bits::Aligned;
@@ -25,40 +25,48 @@ use table::fields::Field;
 // The interpolations of n frames, UB[2] each; only Simple attributes have them. A Bezier frame announces four easing numbers.
 fn read_interpolations(
     kind: Kind,
-    n: usize,
-    s: &[u8],
+    frames: usize,
+    body: &[u8],
     at: BitPlace,
-    t: &mut [u64],
-    k: usize,
+    table: &mut [u64],
+    from: usize,
 ) -> Announced
-    requires { ⌜ Fits (now s) (at .0) k × (n ≤ 4096) ⌝ }
-    ensures states { λ r. ⌜ left (now (t .exit)) (r .run) ≡ after (now (t .entry)) k (run high (now (s .entry)) (aligned ▸ «interpolationsOf» (kindOf kind) n) (at .0)) ⌝ }
-    ensures counts { λ r. ⌜ r .count ≡ beziers (run high (now (s .entry)) (aligned ▸ «interpolationsOf» (kindOf kind) n) (at .0) .shown) * 4 ⌝ }
-    ensures few { λ r. ⌜ r .count ≤ 6 * n ⌝ }
+    requires { ⌜ Fits (now body) (at .0) from × (frames ≤ 4096) ⌝ }
+    ensures states { λ r. ⌜ runLeaves (now (table .exit)) (r .run) ≡ shownOver (now (table .entry)) from (run high (now (body .entry)) (aligned ▸ interpolationsOf (kindOf kind) frames) (at .0)) ⌝ }
+    ensures counts { λ r. ⌜ r .count ≡ beziers (run high (now (body .entry)) (aligned ▸ interpolationsOf (kindOf kind) frames) (at .0) .shown) * 4 ⌝ }
+    ensures few { λ r. ⌜ r .count ≤ 6 * frames ⌝ }
 {
-    let a = bits::align(s, at);
-    let Aligned::Clean(_, start) = a else {
+    let aligned = bits::align(body, at);
+    let Aligned::Clean(_, start) = aligned else {
         return Announced {
-            run: Run::Stop(15, k),
+            run: Run::Stop(15, from),
             count: 0,
         };
     };
     match kind {
-        Kind::Simple => table::fields::read_fields(Field::Interpolation, 2, n, s, start, t, k),
+        Kind::Simple => table::fields::read_fields(
+            Field::Interpolation,
+            2,
+            frames,
+            body,
+            start,
+            table,
+            from,
+        ),
         Kind::Value => Announced {
-            run: Run::Done(start, k),
+            run: Run::Done(start, from),
             count: 0,
         },
         Kind::Fixed => Announced {
-            run: Run::Done(start, k),
+            run: Run::Done(start, from),
             count: 0,
         },
         Kind::BitFlag => Announced {
-            run: Run::Done(start, k),
+            run: Run::Done(start, from),
             count: 0,
         },
         Kind::Discrete => Announced {
-            run: Run::Done(start, k),
+            run: Run::Done(start, from),
             count: 0,
         },
     }
@@ -67,98 +75,98 @@ fn read_interpolations(
 // The values part.
 fn read_values_part(
     what: DataType,
-    n: usize,
-    s: &[u8],
+    count: usize,
+    body: &[u8],
     at: BitPlace,
-    t: &mut [u64],
-    k: usize,
+    table: &mut [u64],
+    from: usize,
 ) -> Run
-    requires { ⌜ Fits (now s) (at .0) k × (n < 2 ^ 32) ⌝ }
-    ensures { λ r. ⌜ left (now (t .exit)) r ≡ after (now (t .entry)) k (run high (now (s .entry)) (aligned ▸ «valuesOf» (typeOf what) n) (at .0)) ⌝ }
+    requires { ⌜ Fits (now body) (at .0) from × (count < 2 ^ 32) ⌝ }
+    ensures { λ r. ⌜ runLeaves (now (table .exit)) r ≡ shownOver (now (table .entry)) from (run high (now (body .entry)) (aligned ▸ valuesOf (typeOf what) count) (at .0)) ⌝ }
 {
-    let a = bits::align(s, at);
-    let Aligned::Clean(_, start) = a else {
-        return Run::Stop(15, k);
+    let aligned = bits::align(body, at);
+    let Aligned::Clean(_, start) = aligned else {
+        return Run::Stop(15, from);
     };
-    read_values(what, n, s, start, t, k)
+    read_frame_values(what, count, body, start, table, from)
 }
 
 // The easing part: a width, which stands always, and n signed fields of it.
-fn read_easing(n: usize, s: &[u8], at: BitPlace, t: &mut [u64], k: usize) -> Run
-    requires { ⌜ Fits (now s) (at .0) k × (n < 2 ^ 32) ⌝ }
-    ensures { λ r. ⌜ left (now (t .exit)) r ≡ after (now (t .entry)) k (run high (now (s .entry)) (aligned ▸ scaled n) (at .0)) ⌝ }
+fn read_easing(count: usize, body: &[u8], at: BitPlace, table: &mut [u64], from: usize) -> Run
+    requires { ⌜ Fits (now body) (at .0) from × (count < 2 ^ 32) ⌝ }
+    ensures { λ r. ⌜ runLeaves (now (table .exit)) r ≡ shownOver (now (table .entry)) from (run high (now (body .entry)) (aligned ▸ scaled count) (at .0)) ⌝ }
 {
-    let a = bits::align(s, at);
-    let Aligned::Clean(_, start) = a else {
-        return Run::Stop(15, k);
+    let aligned = bits::align(body, at);
+    let Aligned::Clean(_, start) = aligned else {
+        return Run::Stop(15, from);
     };
-    table::fields::read_scaled(Field::Coordinate, n, s, start, t, k)
+    table::fields::read_scaled(Field::Coordinate, count, body, start, table, from)
 }
 
 // n + 1 times, n + 1 values, and the easing of the Bezier frames.
 fn read_frames(
     what: DataType,
-    n: usize,
+    frames: usize,
     easing: usize,
-    s: &[u8],
+    body: &[u8],
     at: BitPlace,
-    t: &mut [u64],
-    k: usize,
+    table: &mut [u64],
+    from: usize,
 ) -> Run
-    requires { ⌜ Fits (now s) (at .0) k × (n ≤ 4096) × (easing < 2 ^ 32) ⌝ }
-    ensures { λ r. ⌜ left (now (t .exit)) r ≡ after (now (t .entry)) k (run high (now (s .entry)) (framesOf (typeOf what) n easing) (at .0)) ⌝ }
+    requires { ⌜ Fits (now body) (at .0) from × (frames ≤ 4096) × (easing < 2 ^ 32) ⌝ }
+    ensures { λ r. ⌜ runLeaves (now (table .exit)) r ≡ shownOver (now (table .entry)) from (run high (now (body .entry)) (framesOf (typeOf what) frames easing) (at .0)) ⌝ }
 {
-    let r = read_in_turn(DataType::Time, n + 1, s, at, t, k);
-    let Run::Done(timed, i) = r else {
+    let r = read_in_turn(DataType::Time, frames + 1, body, at, table, from);
+    let Run::Done(timed, after_times) = r else {
         return r;
     };
-    let r = read_values_part(what, n + 1, s, timed, t, i);
-    let Run::Done(valued, j) = r else {
+    let r = read_values_part(what, frames + 1, body, timed, table, after_times);
+    let Run::Done(valued, after_values) = r else {
         return r;
     };
-    read_easing(easing, s, valued, t, j)
+    read_easing(easing, body, valued, table, after_values)
 }
 
 // What follows the count of n frames.
 fn read_keyframes(
     kind: Kind,
     what: DataType,
-    n: usize,
-    s: &[u8],
+    frames: usize,
+    body: &[u8],
     at: BitPlace,
-    t: &mut [u64],
-    k: usize,
+    table: &mut [u64],
+    from: usize,
 ) -> Run
-    requires { ⌜ Fits (now s) (at .0) k × (n ≤ 4096) ⌝ }
-    ensures { λ r. ⌜ left (now (t .exit)) r ≡ after (now (t .entry)) k (run high (now (s .entry)) (keyframesOf (kindOf kind) (typeOf what) n) (at .0)) ⌝ }
+    requires { ⌜ Fits (now body) (at .0) from × (frames ≤ 4096) ⌝ }
+    ensures { λ r. ⌜ runLeaves (now (table .exit)) r ≡ shownOver (now (table .entry)) from (run high (now (body .entry)) (keyframesOf (kindOf kind) (typeOf what) frames) (at .0)) ⌝ }
 {
-    let kinds = read_interpolations(kind, n, s, at, t, k);
+    let kinds = read_interpolations(kind, frames, body, at, table, from);
     let easing = kinds.count;
     let r = kinds.run;
-    let Run::Done(next, j) = r else {
+    let Run::Done(next, behind) = r else {
         return r;
     };
-    read_frames(what, n, easing, s, next, t, j)
+    read_frames(what, frames, easing, body, next, table, behind)
 }
 
 // Keyframed content, with 1 to 4,096 frames.
 pub fn read_keyframed(
     kind: Kind,
     what: DataType,
-    s: &[u8],
+    body: &[u8],
     at: BitPlace,
-    t: &mut [u64],
-    k: usize,
+    table: &mut [u64],
+    from: usize,
 ) -> Run
-    requires { ⌜ Fits (now s) (at .0) k ⌝ }
-    ensures { λ r. ⌜ left (now (t .exit)) r ≡ after (now (t .entry)) k (run high (now (s .entry)) («keyframed» (kindOf kind) (typeOf what)) (at .0)) ⌝ }
+    requires { ⌜ Fits (now body) (at .0) from ⌝ }
+    ensures { λ r. ⌜ runLeaves (now (table .exit)) r ≡ shownOver (now (table .entry)) from (run high (now (body .entry)) (keyframed (kindOf kind) (typeOf what)) (at .0)) ⌝ }
 {
-    let c = items::read_item(Item::Count(1), s, at);
-    match c {
-        Got::Value(n, next) => {
-            table::put(t, k, n);
-            read_keyframes(kind, what, n as usize, s, next, t, k + 1)
+    let counted = items::read_item(Item::Count(1), body, at);
+    match counted {
+        Got::Value(frames, next) => {
+            table::put(table, from, frames);
+            read_keyframes(kind, what, frames as usize, body, next, table, from + 1)
         }
-        Got::Fault(why) => Run::Stop(why, k),
+        Got::Fault(why) => Run::Stop(why, from),
     }
 }

@@ -2,11 +2,11 @@
 ghost use mathlib.Core.Path.{_≡_};
 ghost use Prim.Native.Nat.{_<_, _≤_, _^_};
 ghost use Rattle.format.specs.Bits.{high};
-ghost use Rattle.format.specs.Formats.{times as «times»};
-ghost use Rattle.format.specs.Items.{run, ratio as «ratioOf», path as «path»};
-ghost use Rattle.format.specs.Bodies.{value as «valueOf», values as «valuesOf»};
-ghost use Rattle.table.specs.State.{after};
-ghost use Rattle.table.specs.Run.{left};
+ghost use Rattle.format.specs.Formats.{times};
+ghost use Rattle.format.specs.Items.{run, ratio as ratioOf, path};
+ghost use Rattle.format.specs.Bodies.{value as valueOf, values as valuesOf};
+ghost use Rattle.table.specs.State.{shownOver};
+ghost use Rattle.table.specs.Run.{runLeaves};
 ghost use Rattle.table.specs.Fields.{Fits};
 ghost use Rattle.attributes.specs.Rows.{typeOf};
 ghost use Rattle.values.specs.Parts.{pathOf};
@@ -21,103 +21,124 @@ use table::Run;
 use table::fields::Field;
 
 // A Ratio: I32, U32.
-fn read_ratio(s: &[u8], at: BitPlace, t: &mut [u64], k: usize) -> Run
-    requires { ⌜ Fits (now s) (at .0) k ⌝ }
-    ensures { λ r. ⌜ left (now (t .exit)) r ≡ after (now (t .entry)) k (run high (now (s .entry)) «ratioOf» (at .0)) ⌝ }
+fn read_ratio(body: &[u8], at: BitPlace, table: &mut [u64], from: usize) -> Run
+    requires { ⌜ Fits (now body) (at .0) from ⌝ }
+    ensures { λ r. ⌜ runLeaves (now (table .exit)) r ≡ shownOver (now (table .entry)) from (run high (now (body .entry)) ratioOf (at .0)) ⌝ }
 {
-    let r = table::read_one(Item::I32, s, at, t, k);
-    let Run::Done(next, j) = r else {
+    let r = table::read_one(Item::I32, body, at, table, from);
+    let Run::Done(next, behind) = r else {
         return r;
     };
-    table::read_one(Item::U32, s, next, t, j)
+    table::read_one(Item::U32, body, next, table, behind)
 }
 
 // The verbs of a path, UB[3] each; then a width and an SB field of it for each coordinate.
-fn read_verbs(n: usize, s: &[u8], at: BitPlace, t: &mut [u64], k: usize) -> Run
-    requires { ⌜ Fits (now s) (at .0) k × (n ≤ 4096) ⌝ }
-    ensures { λ r. ⌜ left (now (t .exit)) r ≡ after (now (t .entry)) k (run high (now (s .entry)) (pathOf n) (at .0)) ⌝ }
+fn read_verbs(count: usize, body: &[u8], at: BitPlace, table: &mut [u64], from: usize) -> Run
+    requires { ⌜ Fits (now body) (at .0) from × (count ≤ 4096) ⌝ }
+    ensures { λ r. ⌜ runLeaves (now (table .exit)) r ≡ shownOver (now (table .entry)) from (run high (now (body .entry)) (pathOf count) (at .0)) ⌝ }
 {
-    let verbs = table::fields::read_fields(Field::Verb, 3, n, s, at, t, k);
+    let verbs = table::fields::read_fields(Field::Verb, 3, count, body, at, table, from);
     let coordinates = verbs.count;
     let r = verbs.run;
-    let Run::Done(next, j) = r else {
+    let Run::Done(next, behind) = r else {
         return r;
     };
-    table::fields::read_scaled(Field::Coordinate, coordinates, s, next, t, j)
+    table::fields::read_scaled(Field::Coordinate, coordinates, body, next, table, behind)
 }
 
 // A Path: its verb count, its verbs and its coordinates.
-fn read_path(s: &[u8], at: BitPlace, t: &mut [u64], k: usize) -> Run
-    requires { ⌜ Fits (now s) (at .0) k ⌝ }
-    ensures { λ r. ⌜ left (now (t .exit)) r ≡ after (now (t .entry)) k (run high (now (s .entry)) «path» (at .0)) ⌝ }
+fn read_path(body: &[u8], at: BitPlace, table: &mut [u64], from: usize) -> Run
+    requires { ⌜ Fits (now body) (at .0) from ⌝ }
+    ensures { λ r. ⌜ runLeaves (now (table .exit)) r ≡ shownOver (now (table .entry)) from (run high (now (body .entry)) path (at .0)) ⌝ }
 {
-    let c = items::read_item(Item::Count(0), s, at);
-    match c {
-        Got::Value(n, next) => {
-            table::put(t, k, n);
-            read_verbs(n as usize, s, next, t, k + 1)
+    let counted = items::read_item(Item::Count(0), body, at);
+    match counted {
+        Got::Value(count, next) => {
+            table::put(table, from, count);
+            read_verbs(count as usize, body, next, table, from + 1)
         }
-        Got::Fault(why) => Run::Stop(why, k),
+        Got::Fault(why) => Run::Stop(why, from),
     }
 }
 
 // One value that is not keyframed.
-pub fn read_value(what: DataType, s: &[u8], at: BitPlace, t: &mut [u64], k: usize) -> Run
-    requires { ⌜ Fits (now s) (at .0) k ⌝ }
-    ensures { λ r. ⌜ left (now (t .exit)) r ≡ after (now (t .entry)) k (run high (now (s .entry)) («valueOf» (typeOf what)) (at .0)) ⌝ }
+pub fn read_value(what: DataType, body: &[u8], at: BitPlace, table: &mut [u64], from: usize) -> Run
+    requires { ⌜ Fits (now body) (at .0) from ⌝ }
+    ensures { λ r. ⌜ runLeaves (now (table .exit)) r ≡ shownOver (now (table .entry)) from (run high (now (body .entry)) (valueOf (typeOf what)) (at .0)) ⌝ }
 {
     match what {
-        DataType::U32 => table::read_one(Item::U32, s, at, t, k),
-        DataType::Time => table::read_one(Item::Time, s, at, t, k),
-        DataType::Float => table::read_one(Item::Float, s, at, t, k),
-        DataType::Ratio => read_ratio(s, at, t, k),
-        DataType::Bool => table::read_one(Item::Enum(1), s, at, t, k),
-        DataType::Byte => table::read_one(Item::Byte, s, at, t, k),
-        DataType::BlendMode => table::read_one(Item::BlendMode, s, at, t, k),
-        DataType::TrackMatteType => table::read_one(Item::Enum(4), s, at, t, k),
-        DataType::MaskMode => table::read_one(Item::Enum(7), s, at, t, k),
-        DataType::Path => read_path(s, at, t, k),
+        DataType::U32 => table::read_one(Item::U32, body, at, table, from),
+        DataType::Time => table::read_one(Item::Time, body, at, table, from),
+        DataType::Float => table::read_one(Item::Float, body, at, table, from),
+        DataType::Ratio => read_ratio(body, at, table, from),
+        DataType::Bool => table::read_one(Item::Enum(1), body, at, table, from),
+        DataType::Byte => table::read_one(Item::Byte, body, at, table, from),
+        DataType::BlendMode => table::read_one(Item::BlendMode, body, at, table, from),
+        DataType::TrackMatteType => table::read_one(Item::Enum(4), body, at, table, from),
+        DataType::MaskMode => table::read_one(Item::Enum(7), body, at, table, from),
+        DataType::Path => read_path(body, at, table, from),
     }
 }
 
 // n values in turn.
-fn read_in_turn(what: DataType, n: usize, s: &[u8], at: BitPlace, t: &mut [u64], k: usize) -> Run
-    requires { ⌜ Fits (now s) (at .0) k ⌝ }
-    ensures { λ r. ⌜ left (now (t .exit)) r ≡ after (now (t .entry)) k (run high (now (s .entry)) («times» n («valueOf» (typeOf what))) (at .0)) ⌝ }
+fn read_in_turn(
+    what: DataType,
+    count: usize,
+    body: &[u8],
+    at: BitPlace,
+    table: &mut [u64],
+    from: usize,
+) -> Run
+    requires { ⌜ Fits (now body) (at .0) from ⌝ }
+    ensures { λ r. ⌜ runLeaves (now (table .exit)) r ≡ shownOver (now (table .entry)) from (run high (now (body .entry)) (times count (valueOf (typeOf what))) (at .0)) ⌝ }
 {
     let mut place = at;
-    let mut j = k;
-    let mut left = n;
+    let mut index = from;
+    let mut left = count;
     while 0 < left {
-        let r = read_value(what, s, place, t, j);
-        let Run::Done(next, i) = r else {
+        let r = read_value(what, body, place, table, index);
+        let Run::Done(next, behind) = r else {
             return r;
         };
         place = next;
-        j = i;
+        index = behind;
         left -= 1;
     }
-    Run::Done(place, j)
+    Run::Done(place, index)
 }
 
 // n keyframed values: Bools one bit each; bytes as a width and fields of it; the others in turn.
-fn read_values(what: DataType, n: usize, s: &[u8], at: BitPlace, t: &mut [u64], k: usize) -> Run
-    requires { ⌜ Fits (now s) (at .0) k × (n < 2 ^ 32) ⌝ }
-    ensures { λ r. ⌜ left (now (t .exit)) r ≡ after (now (t .entry)) k (run high (now (s .entry)) («valuesOf» (typeOf what) n) (at .0)) ⌝ }
+fn read_frame_values(
+    what: DataType,
+    count: usize,
+    body: &[u8],
+    at: BitPlace,
+    table: &mut [u64],
+    from: usize,
+) -> Run
+    requires { ⌜ Fits (now body) (at .0) from × (count < 2 ^ 32) ⌝ }
+    ensures { λ r. ⌜ runLeaves (now (table .exit)) r ≡ shownOver (now (table .entry)) from (run high (now (body .entry)) (valuesOf (typeOf what) count) (at .0)) ⌝ }
 {
     match what {
         DataType::Bool => {
-            let f = table::fields::read_fields(Field::Bit, 1, n, s, at, t, k);
-            f.run
+            let fields = table::fields::read_fields(Field::Bit, 1, count, body, at, table, from);
+            fields.run
         }
-        DataType::Byte => table::fields::read_scaled(Field::ByteValue, n, s, at, t, k),
-        DataType::U32 => read_in_turn(what, n, s, at, t, k),
-        DataType::Time => read_in_turn(what, n, s, at, t, k),
-        DataType::Float => read_in_turn(what, n, s, at, t, k),
-        DataType::Ratio => read_in_turn(what, n, s, at, t, k),
-        DataType::BlendMode => read_in_turn(what, n, s, at, t, k),
-        DataType::TrackMatteType => read_in_turn(what, n, s, at, t, k),
-        DataType::MaskMode => read_in_turn(what, n, s, at, t, k),
-        DataType::Path => read_in_turn(what, n, s, at, t, k),
+        DataType::Byte => table::fields::read_scaled(
+            Field::ByteValue,
+            count,
+            body,
+            at,
+            table,
+            from,
+        ),
+        DataType::U32 => read_in_turn(what, count, body, at, table, from),
+        DataType::Time => read_in_turn(what, count, body, at, table, from),
+        DataType::Float => read_in_turn(what, count, body, at, table, from),
+        DataType::Ratio => read_in_turn(what, count, body, at, table, from),
+        DataType::BlendMode => read_in_turn(what, count, body, at, table, from),
+        DataType::TrackMatteType => read_in_turn(what, count, body, at, table, from),
+        DataType::MaskMode => read_in_turn(what, count, body, at, table, from),
+        DataType::Path => read_in_turn(what, count, body, at, table, from),
     }
 }

@@ -16,34 +16,37 @@ use Rattle.format.specs.Formats.{Item, item}
 use Rattle.format.specs.Items.{skipped}
 use Rattle.format.specs.Bodies.{Kind, Value, Fixed, BitFlag, Simple, Discrete, Attribute, flagsOf, allFlags, rows, attributes}
 use Rattle.format.specs.FileAndTags.{front}
-use Rattle.format.specs.WritingItems.{dig, Bits, spelt, none, before, Written, wrote, cannot, put, single, writeItem, spellFlag}
+use Rattle.format.specs.Possible.{Possible, this, cannot}
+use Rattle.format.specs.WritingItems.{dig, before, Written, wrote, put, single, writeItem, spellFlag}
 use Rattle.format.specs.WritingFormats.{adjoin, onward, unrun}
-use Rattle.format.specs.WritingBodies.{flagsIn, usedUp, writeBlock, writePart, pack, val, Bytes, bytes, impossible, packed, writeBody}
+use Rattle.format.specs.WritingBodies.{flagsIn, usedUp, writeBlock, writePart, pack, val, packed, writeBody}
 use Rattle.format.proofs.BitLaws.{length-dig}
 use Rattle.format.proofs.ByteLaws.{length-pack}
-use Rattle.sink.specs.Lain.{Lain, lain, unlain, lies, lainAs, longest}
+use Rattle.format.proofs.Absurd.{clash}
+use Rattle.sink.specs.Lain.{Lain, lain, lies, lainAs, longest}
 use Rattle.sink.specs.Laying.{State, mk, at, lay, Holds, Skipped}
+use Rattle.bits.specs.declared.BytePlace.{BytePlace}
 use Rattle.sink.specs.declared.Body.{Body}
 use Rattle.sink.specs.declared.Body.the-variants.{To, No as BodyNo}
 use Rattle.sink.specs.declared.Sink.{Sink}
 use Rattle.sink.proofs.LayingLaws.{lay-append, lay-pack, lay-place, lay-ok}
 use Rattle.table.proofs.EngineLaws.{sets-append}
 use Rattle.spelling.specs.Ends.{concluded}
-use Rattle.spelling.specs.Writing.{Seen, here, gone, ran, Fine}
+use Rattle.spelling.specs.Writing.{Seen, here, ran, Fine}
 use Rattle.spelling.proofs.EndLaws.{front-law}
 use Rattle.spelling.proofs.ShiftLaws.{shift, whole-bytes}
 use Rattle.write_heads.proofs.StoreLaws.{sets-comm, sets-cover, sets-taken}
 use Rattle.write_blocks.specs.Flags.{flagSpelling, joined, flagBits, flagBytes, hasFlag, anyFlag, bitsOf, Held}
-use Rattle.write_blocks.specs.Filling.{Both, both, neither, bothOf, fills, filled, Ready, underFlags}
+use Rattle.write_blocks.specs.Filling.{Both, both, bothOf, fills, filled, Ready, underFlags}
 use Rattle.write_blocks.specs.declared.Filled.{Filled}
 use Rattle.write_blocks.specs.declared.Filled.the-variants.{With, No}
 use Rattle.write_blocks.specs.declared.Flags.{Flags}
 use Rattle.write_blocks.proofs.WholeLaws.{adjoin-twice, onward-adjoin, whole-rows}
 
 -- ---- all flags, one for each attribute
-abbrev spelled : Bits → (List Bool → Written) → Written
-spelled (spelt bs) k = k bs
-spelled none k = cannot
+abbrev spelled : Possible (List Bool) → (List Bool → Possible Written) → Possible Written
+spelled (this bs) k = k bs
+spelled cannot k = cannot
 
 flag-is : (k : Kind) (ns : List ℕ) (p : ℕ) → unrun high (item (flagsOf k)) ns p ≡ single (flagSpelling k) ns
 unfolding unrun writeItem
@@ -53,68 +56,68 @@ flag-is BitFlag ns p = refl
 flag-is Simple ns p = refl
 flag-is Discrete ns p = refl
 
-used-adjoin : (x : ℕ) (bs : List Bool) (w : Written) (k : List ℕ → List Bool → Written) → usedUp (adjoin (x ∷ []) bs w) k ≡ usedUp w (λ xs cs. k (x ∷ xs) (bs ++ cs))
+used-adjoin : (x : ℕ) (bs : List Bool) (w : Possible Written) (k : List ℕ → List Bool → Possible Written) → usedUp (adjoin (x ∷ []) bs w) k ≡ usedUp w (λ xs cs. k (x ∷ xs) (bs ++ cs))
 used-adjoin x bs cannot k = refl
-used-adjoin x bs (wrote xs cs []) k = refl
-used-adjoin x bs (wrote xs cs (y ∷ ys)) k = refl
+used-adjoin x bs (this (wrote xs cs [])) k = refl
+used-adjoin x bs (this (wrote xs cs (y ∷ ys))) k = refl
 
-flags-spelt : (ks : List Attribute) (φs : List ℕ) (p : ℕ) (k : List ℕ → List Bool → Written) → usedUp (unrun high (allFlags ks) φs p) k ≡ spelled (flagBits ks φs) (k φs)
+flags-spelt : (ks : List Attribute) (φs : List ℕ) (p : ℕ) (k : List ℕ → List Bool → Possible Written) → usedUp (unrun high (allFlags ks) φs p) k ≡ spelled (flagBits ks φs) (k φs)
 unfolding unrun allFlags flagBits
 flags-spelt [] [] p k = refl
 flags-spelt [] (φ ∷ φs) p k = refl
-flags-spelt (a ∷ ks) [] p k = ap (λ (w : Written). usedUp (onward w p (λ xs ys q. unrun high (allFlags ks) ys q)) k) (flag-is (a .kind) [] p)
+flags-spelt (a ∷ ks) [] p k = ap (λ (w : Possible Written). usedUp (onward w p (λ xs ys q. unrun high (allFlags ks) ys q)) k) (flag-is (a .kind) [] p)
 flags-spelt (a ∷ ks) (φ ∷ φs) p k =
-    ap (λ (w : Written). usedUp (onward w p (λ xs ys q. unrun high (allFlags ks) ys q)) k) (flag-is (a .kind) (φ ∷ φs) p)
+    ap (λ (w : Possible Written). usedUp (onward w p (λ xs ys q. unrun high (allFlags ks) ys q)) k) (flag-is (a .kind) (φ ∷ φs) p)
     ∙ go (flagSpelling (a .kind) φ) (λ q k. flags-spelt ks φs q k)
   where
-    more : (bs : List Bool) (b : Bits) → spelled b (λ cs. k (φ ∷ φs) (bs ++ cs)) ≡ spelled (before bs b) (k (φ ∷ φs))
-    more bs (spelt cs) = refl
-    more bs none = refl
+    more : (bs : List Bool) (b : Possible (List Bool)) → spelled b (λ cs. k (φ ∷ φs) (bs ++ cs)) ≡ spelled (before bs b) (k (φ ∷ φs))
+    more bs (this cs) = refl
+    more bs cannot = refl
 
-    go : (b : Bits) → ((q : ℕ) (k : List ℕ → List Bool → Written) → usedUp (unrun high (allFlags ks) φs q) k ≡ spelled (flagBits ks φs) (k φs))
+    go : (b : Possible (List Bool)) → ((q : ℕ) (k : List ℕ → List Bool → Possible Written) → usedUp (unrun high (allFlags ks) φs q) k ≡ spelled (flagBits ks φs) (k φs))
         → usedUp (onward (put (φ ∷ []) b φs) p (λ xs ys q. unrun high (allFlags ks) ys q)) k ≡ spelled (joined b (flagBits ks φs)) (k (φ ∷ φs))
-    go none rest = refl
-    go (spelt bs) rest =
+    go cannot rest = refl
+    go (this bs) rest =
         used-adjoin φ bs (unrun high (allFlags ks) φs (p + length bs)) k ∙ rest (p + length bs) (λ xs cs. k (φ ∷ xs) (bs ++ cs)) ∙ more bs (flagBits ks φs)
 
 -- ---- some attribute has a bit
-abbrev Some : Bits → Type 0
-Some (spelt bs) = 0 < length bs
-Some none = Unit {0}
+abbrev Some : Possible (List Bool) → Type 0
+Some (this bs) = 0 < length bs
+Some cannot = Unit {0}
 
 some-flag : (v n : ℕ) → Some (spellFlag high v (suc n))
 unfolding spellFlag dig
 some-flag v n = go (eqb v 0) (eqb (v % 2) 1)
   where
-    more : (b : Bits) → Some (before (dig high 1 1) b)
-    more (spelt bs) = omega arith
-    more none = tt
+    more : (b : Possible (List Bool)) → Some (before (dig high 1 1) b)
+    more (this bs) = omega arith
+    more cannot = tt
 
-    go : (c d : Bool) → Some (pick c (spelt (dig high 1 0)) (pick d (before (dig high 1 1) (spellFlag high (v / 2) n)) none))
+    go : (c d : Bool) → Some (pick c (this (dig high 1 0)) (pick d (before (dig high 1 1) (spellFlag high (v / 2) n)) cannot))
     go true d = omega arith
     go false true = more (spellFlag high (v / 2) n)
     go false false = tt
 
 some-kind : (k : Kind) (v : ℕ) → hasFlag k ≡ true → Some (flagSpelling k v)
 some-kind Value v e = some-flag v 0
-some-kind Fixed v e = absurd (let z : _≡_ {A = ℕ} 0 1 = cc in omega arith)
+some-kind Fixed v e = clash cc
 some-kind BitFlag v e = some-flag v 0
 some-kind Simple v e = some-flag v 1
 some-kind Discrete v e = some-flag v 1
 
-some-first : (b c : Bits) → Some b → Some (joined b c)
-some-first (spelt bs) (spelt cs) h = omega (arith, length-append bs cs)
-some-first (spelt bs) none h = tt
-some-first none c h = tt
+some-first : (b c : Possible (List Bool)) → Some b → Some (joined b c)
+some-first (this bs) (this cs) h = omega (arith, length-append bs cs)
+some-first (this bs) cannot h = tt
+some-first cannot c h = tt
 
-some-rest : (b c : Bits) → Some c → Some (joined b c)
-some-rest (spelt bs) (spelt cs) h = omega (arith, length-append bs cs)
-some-rest (spelt bs) none h = tt
-some-rest none c h = tt
+some-rest : (b c : Possible (List Bool)) → Some c → Some (joined b c)
+some-rest (this bs) (this cs) h = omega (arith, length-append bs cs)
+some-rest (this bs) cannot h = tt
+some-rest cannot c h = tt
 
 some-flags : (ks : List Attribute) (φs : List ℕ) → anyFlag ks ≡ true → Some (flagBits ks φs)
 unfolding flagBits anyFlag
-some-flags [] φs e = absurd (let z : _≡_ {A = ℕ} 0 1 = cc in omega arith)
+some-flags [] φs e = clash cc
 some-flags (a ∷ ks) [] e = tt
 some-flags (a ∷ ks) (φ ∷ φs) e = go (hasFlag (a .kind)) refl e (some-flags ks φs)
   where
@@ -142,9 +145,9 @@ pack-append (suc m) n (b₀ ∷ b₁ ∷ b₂ ∷ b₃ ∷ b₄ ∷ b₅ ∷ b�
 
 -- ---- the block's bytes
 -- bytes before others
-abbrev ahead : List ℕ → Bytes → Bytes
-ahead xs (bytes ys) = bytes (xs ++ ys)
-ahead xs impossible = impossible
+abbrev ahead : List ℕ → Possible (List ℕ) → Possible (List ℕ)
+ahead xs (this ys) = this (xs ++ ys)
+ahead xs cannot = cannot
 
 -- as many bytes as the flags take
 flag-size : (bs : List Bool) → length (flagBytes bs) ≡ (length bs + 7) / 8
@@ -153,22 +156,22 @@ flag-size bs = length-pack high ((length bs + 7) / 8) (bs ++ dig high (skipped (
 flag-whole : (bs : List Bool) → length (bs ++ dig high (skipped (length bs)) 0) ≡ 8 * ((length bs + 7) / 8)
 flag-whole bs = omega (arith, length-append bs (dig high (skipped (length bs)) 0), length-dig high (skipped (length bs)) 0)
 
-packed-ahead : (bs : List Bool) (w : Written) → ((xs : List ℕ) (cs : List Bool) (ys : List ℕ) → w ≡ wrote xs cs ys → length cs % 8 ≡ 0)
+packed-ahead : (bs : List Bool) (w : Possible Written) → ((xs : List ℕ) (cs : List Bool) (ys : List ℕ) → w ≡ this (wrote xs cs ys) → length cs % 8 ≡ 0)
     → packed high (adjoin [] (bs ++ dig high (skipped (length bs)) 0) w) ≡ ahead (flagBytes bs) (packed high w)
 packed-ahead bs cannot h = refl
-packed-ahead bs (wrote xs cs (y ∷ ys)) h = refl
-packed-ahead bs (wrote xs cs []) h =
+packed-ahead bs (this (wrote xs cs (y ∷ ys))) h = refl
+packed-ahead bs (this (wrote xs cs [])) h =
     let m : length cs % 8 ≡ 0 = h xs cs [] refl in
     let e : length ((bs ++ dig high (skipped (length bs)) 0) ++ cs) / 8 ≡ (length bs + 7) / 8 + length cs / 8 =
     omega (arith, length-append (bs ++ dig high (skipped (length bs)) 0) cs, flag-whole bs) in
-    ap bytes (ap (λ (n : ℕ). pack high n ((bs ++ dig high (skipped (length bs)) 0) ++ cs)) e ∙ pack-append ((length bs + 7) / 8) (length cs / 8) (bs ++ dig high (skipped (length bs)) 0) cs (flag-whole bs))
+    ap this (ap (λ (n : ℕ). pack high n ((bs ++ dig high (skipped (length bs)) 0) ++ cs)) e ∙ pack-append ((length bs + 7) / 8) (length cs / 8) (bs ++ dig high (skipped (length bs)) 0) cs (flag-whole bs))
 
 module _ (ks : List Attribute) (t : List ℕ) where
   -- the contents, with the skip to a whole byte at their end
-  unfoldable contents : ℕ → Written
+  unfoldable contents : ℕ → Possible Written
   contents p = unrun high (front (rows ks (flagsIn high ks t))) t p
 
-  contents-whole : (xs : List ℕ) (cs : List Bool) (ys : List ℕ) → contents 0 ≡ wrote xs cs ys → length cs % 8 ≡ 0
+  contents-whole : (xs : List ℕ) (cs : List Bool) (ys : List ℕ) → contents 0 ≡ this (wrote xs cs ys) → length cs % 8 ≡ 0
   unfolding contents unrun
   contents-whole xs cs ys e = whole-bytes (unrun high (rows ks (flagsIn high ks t)) t 0) xs cs ys e
 
@@ -180,11 +183,11 @@ module _ (ks : List Attribute) (t : List ℕ) where
       whole-rows ks (flagsIn high ks t) t n
       ∙ ap (adjoin [] (dig high (skipped n) 0)) (ap (unrun high (front (rows ks (flagsIn high ks t))) t) e ∙ shift (front (rows ks (flagsIn high ks t))) t 0 ((n + 7) / 8))
 
-  block-none : flagBits ks (flagsIn high ks t) ≡ none → writeBody high (attributes ks) t ≡ impossible
+  block-none : flagBits ks (flagsIn high ks t) ≡ cannot → writeBody high (attributes ks) t ≡ cannot
   unfolding writeBody writePart writeBlock
   block-none e =
-      ap (λ (w : Written). packed high (onward w 0 (λ xs ys p. writeItem high Item.align ys p)))
-      (flags-spelt ks (flagsIn high ks t) 0 _ ∙ ap (λ (b : Bits). spelled b (λ bs. adjoin [] bs (unrun high (rows ks (flagsIn high ks t)) t (0 + length bs)))) e)
+      ap (λ (w : Possible Written). packed high (onward w 0 (λ xs ys p. writeItem high Item.align ys p)))
+      (flags-spelt ks (flagsIn high ks t) 0 _ ∙ ap (λ (b : Possible (List Bool)). spelled b (λ bs. adjoin [] bs (unrun high (rows ks (flagsIn high ks t)) t (0 + length bs)))) e)
 
   contents-flags : (bs : List Bool) → adjoin [] bs (onward (unrun high (rows ks (flagsIn high ks t)) t (0 + length bs)) (0 + length bs) (λ xs ys p. writeItem high Item.align ys p))
       ≡ adjoin [] (bs ++ dig high (skipped (length bs)) 0) (contents 0)
@@ -193,24 +196,24 @@ module _ (ks : List Attribute) (t : List ℕ) where
       ap (λ (n : ℕ). adjoin [] bs (unrun high (front (rows ks (flagsIn high ks t))) t n)) (zero-add (length bs))
       ∙ ap (adjoin [] bs) (contents-after (length bs)) ∙ adjoin-twice bs [] (dig high (skipped (length bs)) 0) (contents 0)
 
-  block-some : (bs : List Bool) → flagBits ks (flagsIn high ks t) ≡ spelt bs → writeBody high (attributes ks) t ≡ ahead (flagBytes bs) (packed high (contents 0))
+  block-some : (bs : List Bool) → flagBits ks (flagsIn high ks t) ≡ this bs → writeBody high (attributes ks) t ≡ ahead (flagBytes bs) (packed high (contents 0))
   unfolding writeBody writePart writeBlock
   block-some bs e =
-      ap (λ (w : Written). packed high (onward w 0 (λ xs ys p. writeItem high Item.align ys p)))
-      (flags-spelt ks (flagsIn high ks t) 0 _ ∙ ap (λ (b : Bits). spelled b (λ bs. adjoin [] bs (unrun high (rows ks (flagsIn high ks t)) t (0 + length bs)))) e)
+      ap (λ (w : Possible Written). packed high (onward w 0 (λ xs ys p. writeItem high Item.align ys p)))
+      (flags-spelt ks (flagsIn high ks t) 0 _ ∙ ap (λ (b : Possible (List Bool)). spelled b (λ bs. adjoin [] bs (unrun high (rows ks (flagsIn high ks t)) t (0 + length bs)))) e)
       ∙ ap (packed high) (onward-adjoin bs (unrun high (rows ks (flagsIn high ks t)) t (0 + length bs)) 0 (λ xs ys p. writeItem high Item.align ys p) ∙ contents-flags bs)
       ∙ packed-ahead bs (contents 0) contents-whole
 
 -- ---- flags put before bytes that stand one after a
 -- contents up to stop, with their flags
-abbrev closed : ℕ → List ℕ → Lain → Lain
-closed a xs (lain u stop) = underFlags u a xs (stop - (a + 1))
-closed a xs unlain = unlain
+abbrev closed : ℕ → List ℕ → Possible Lain → Possible Lain
+closed a xs (this (lain u stop)) = underFlags u a xs (stop - (a + 1))
+closed a xs cannot = cannot
 
-lies-closed : (o : List ℕ) (a : ℕ) (xs : List ℕ) (b : Bytes) → 1 ≤ length xs → lies o a (ahead xs b) ≡ closed a xs (lies o (a + 1) b)
+lies-closed : (o : List ℕ) (a : ℕ) (xs : List ℕ) (b : Possible (List ℕ)) → 1 ≤ length xs → lies o a (ahead xs b) ≡ closed a xs (lies o (a + 1) b)
 unfolding lies
-lies-closed o a xs impossible h = refl
-lies-closed o a xs (bytes ys) h = go (leb (a + 1 + length ys) longest) refl
+lies-closed o a xs cannot h = refl
+lies-closed o a xs (this ys) h = go (leb (a + 1 + length ys) longest) refl
   where
     n : a + 1 + length ys - (a + 1) ≡ length ys
     n = omega arith
@@ -227,48 +230,48 @@ lies-closed o a xs (bytes ys) h = go (leb (a + 1 + length ys) longest) refl
         )
 
     go : (c : Bool) → leb (a + 1 + length ys) longest ≡ c
-        → pick (leb (a + length (xs ++ ys)) longest) (lain (sets o a (xs ++ ys)) (a + length (xs ++ ys))) unlain ≡ closed a xs (pick c (lain (sets o (a + 1) ys) (a + 1 + length ys)) unlain)
+        → pick (leb (a + length (xs ++ ys)) longest) (this (lain (sets o a (xs ++ ys)) (a + length (xs ++ ys)))) cannot ≡ closed a xs (pick c (this (lain (sets o (a + 1) ys) (a + 1 + length ys))) cannot)
     go true e = rw (n, l, over)
     go false e = rw (lt-leb (a + length (xs ++ ys)) longest (omega (arith, l, leb-false (a + 1 + length ys) longest e)))
 
 -- THE law: the contents put one byte after a, concluded, and their flags before them
-abbrev pub finished : ℕ → ℕ → Both → Lain
-finished n a (both bs st k) = closed a (flagBytes bs) (concluded n (here st k))
-finished n a neither = unlain
+abbrev pub finished : ℕ → ℕ → Possible Both → Possible Lain
+finished n a (this (both bs st k)) = closed a (flagBytes bs) (concluded n (this (here st k)))
+finished n a cannot = cannot
 
 module _ (ks : List Attribute) (t : List ℕ) (any : anyFlag ks ≡ true) (o : List ℕ) (a : ℕ) where
-  some-bytes : (bs : List Bool) → flagBits ks (flagsIn high ks t) ≡ spelt bs → 1 ≤ length (flagBytes bs)
+  some-bytes : (bs : List Bool) → flagBits ks (flagsIn high ks t) ≡ this bs → 1 ≤ length (flagBytes bs)
   some-bytes bs e = let h : 0 < length bs = rw e at (some-flags ks (flagsIn high ks t) any) in omega (arith, flag-size bs)
 
   pub block-law : lies o a (writeBody high (attributes ks) t) ≡ finished (length t) a (fills ks t (mk o (8 * (a + 1)) 0))
   unfolding contents lies
   block-law = go (flagBits ks (flagsIn high ks t)) refl
     where
-      more : (bs : List Bool) (x : Seen) → closed a (flagBytes bs) (concluded (length t) x) ≡ finished (length t) a (bothOf (spelt bs) x)
-      more bs (here st k) = refl
-      more bs gone = refl
+      more : (bs : List Bool) (x : Possible Seen) → closed a (flagBytes bs) (concluded (length t) x) ≡ finished (length t) a (bothOf (this bs) x)
+      more bs (this (here st k)) = refl
+      more bs cannot = refl
 
-      go : (b : Bits) → flagBits ks (flagsIn high ks t) ≡ b
+      go : (b : Possible (List Bool)) → flagBits ks (flagsIn high ks t) ≡ b
           → lies o a (writeBody high (attributes ks) t) ≡ finished (length t) a (bothOf b (ran t (mk o (8 * (a + 1)) 0) 0 (rows ks (flagsIn high ks t))))
-      go none e = ap (lies o a) (block-none ks t e)
-      go (spelt bs) e =
+      go cannot e = ap (lies o a) (block-none ks t e)
+      go (this bs) e =
           ap (lies o a) (block-some ks t bs e)
           ∙ lies-closed o a (flagBytes bs) (packed high (contents ks t 0)) (some-bytes bs e)
           ∙ ap (closed a (flagBytes bs)) (front-law (rows ks (flagsIn high ks t)) t o (a + 1))
           ∙ more bs (ran t (mk o (8 * (a + 1)) 0) 0 (rows ks (flagsIn high ks t)))
 
   -- no room for a byte
-  pub block-over : longest ≤ a → unlain ≡ lies o a (writeBody high (attributes ks) t)
+  pub block-over : longest ≤ a → cannot ≡ lies o a (writeBody high (attributes ks) t)
   unfolding lies
   block-over h = sym (go (flagBits ks (flagsIn high ks t)) refl)
     where
-      more : (xs : List ℕ) (b : Bytes) → 1 ≤ length xs → lies o a (ahead xs b) ≡ unlain
-      more xs impossible k = refl
-      more xs (bytes ys) k = rw (lt-leb (a + length (xs ++ ys)) longest (omega (arith, length-append xs ys)))
+      more : (xs : List ℕ) (b : Possible (List ℕ)) → 1 ≤ length xs → lies o a (ahead xs b) ≡ cannot
+      more xs cannot k = refl
+      more xs (this ys) k = rw (lt-leb (a + length (xs ++ ys)) longest (omega (arith, length-append xs ys)))
 
-      go : (b : Bits) → flagBits ks (flagsIn high ks t) ≡ b → lies o a (writeBody high (attributes ks) t) ≡ unlain
-      go none e = ap (lies o a) (block-none ks t e)
-      go (spelt bs) e = ap (lies o a) (block-some ks t bs e) ∙ more (flagBytes bs) (packed high (contents ks t 0)) (some-bytes bs e)
+      go : (b : Possible (List Bool)) → flagBits ks (flagsIn high ks t) ≡ b → lies o a (writeBody high (attributes ks) t) ≡ cannot
+      go cannot e = ap (lies o a) (block-none ks t e)
+      go (this bs) e = ap (lies o a) (block-some ks t bs e) ∙ more (flagBytes bs) (packed high (contents ks t 0)) (some-bytes bs e)
 
 -- ---- as the code has it: the bytes moved up, the flags' bits, and the skip after them
 module _ (l : List ℕ) (a : ℕ) (f : Flags) (some : 0 < f .width) where
@@ -276,14 +279,14 @@ module _ (l : List ℕ) (a : ℕ) (f : Flags) (some : 0 < f .width) where
   size-is = flag-size (bitsOf f) ∙ ap (λ (n : ℕ). (n + 7) / 8) (length-dig high (f .width) (f .bits))
 
   -- past the longest file
-  pub put-over : (n more end : ℕ) → more ≡ (f .width + 7) / 8 - 1 → end ≡ a + 1 + n + more → longest < end → unlain ≡ underFlags l a (flagBytes (bitsOf f)) n
+  pub put-over : (n more end : ℕ) → more ≡ (f .width + 7) / 8 - 1 → end ≡ a + 1 + n + more → longest < end → cannot ≡ underFlags l a (flagBytes (bitsOf f)) n
   put-over n more end em ee h = rw (lt-leb (a + length (flagBytes (bitsOf f)) + n) longest (omega (arith, size-is)))
 
   -- what waits after the bits
-  pub put-fine : (u w : List ℕ) (s : Sink) → a ≤ longest → f .width ≤ 18 → at w s ≡ lay (mk u (8 * a) 0) (bitsOf f) → Holds (s .place .0) (s .part) × (s .place .0 ≤ 2 ^ 60)
-  put-fine u w s low few e =
-      let p : s .place .0 ≡ 8 * a + length (bitsOf f) = ap (λ (x : State). x .place) e ∙ lay-place (mk u (8 * a) 0) (bitsOf f) in
-      (subst (λ (x : State). Holds (x .place) (x .part)) (sym e) (lay-ok (mk u (8 * a) 0) (bitsOf f) (pow-pos (8 * a % 8))), omega (arith, p, length-dig high (f .width) (f .bits)))
+  pub put-fine : (u w : List ℕ) (s : Sink) {q : ℕ} → q ≡ 8 * a → a ≤ longest → f .width ≤ 18 → at w s ≡ lay (mk u q 0) (bitsOf f) → Holds (s .place .0) (s .part) × (s .place .0 ≤ 2 ^ 60)
+  put-fine u w s {q = q} first low few e =
+      let p : s .place .0 ≡ q + length (bitsOf f) = ap (λ (x : State). x .place) e ∙ lay-place (mk u q 0) (bitsOf f) in
+      (subst (λ (x : State). Holds (x .place) (x .part)) (sym e) (lay-ok (mk u q 0) (bitsOf f) (pow-pos (q % 8))), omega (arith, p, length-dig high (f .width) (f .bits)))
 
   flags-laid : (u w v : List ℕ) (s : Sink) (byte bit : ℕ) → at w s ≡ lay (mk u (8 * a) 0) (bitsOf f) → Skipped (at w s) v byte bit → v ≡ sets u a (flagBytes (bitsOf f))
   flags-laid u w v s byte bit e skip = ap (λ (x : State). x .bytes) (skip .laid ∙ whole)
@@ -300,40 +303,43 @@ module _ (l : List ℕ) (a : ℕ) (f : Flags) (some : 0 < f .width) where
           ∙ sym (lay-append (mk u (8 * a) 0) (bitsOf f) (dig high (skipped (length (bitsOf f))) 0))
           ∙ lay-pack u a ((length (bitsOf f) + 7) / 8) (bitsOf f ++ dig high (skipped (length (bitsOf f))) 0) (flag-whole (bitsOf f))
 
-  pub put-done : (n more end : ℕ) (u w v : List ℕ) (s : Sink) (byte bit : ℕ) → more ≡ (f .width + 7) / 8 - 1 → end ≡ a + 1 + n + more → end ≤ longest
-      → u ≡ sets l (a + 1 + more) (take n (drop (a + 1) l)) → at w s ≡ lay (mk u (8 * a) 0) (bitsOf f) → Skipped (at w s) v byte bit → lain v end ≡ underFlags l a (flagBytes (bitsOf f)) n
-  put-done n more end u w v s byte bit em ee h moved put skip =
+  pub put-done : (n more end : ℕ) (u w v : List ℕ) (s : Sink) (byte bit : ℕ) {q : ℕ} → q ≡ 8 * a → more ≡ (f .width + 7) / 8 - 1 → end ≡ a + 1 + n + more → end ≤ longest
+      → u ≡ sets l (a + 1 + more) (take n (drop (a + 1) l)) → at w s ≡ lay (mk u q 0) (bitsOf f) → Skipped (at w s) v byte bit → this (lain v end) ≡ underFlags l a (flagBytes (bitsOf f)) n
+  put-done n more end u w v s byte bit first em ee h moved put skip =
       let z : a + length (flagBytes (bitsOf f)) + n ≡ end = omega (arith, size-is) in
       let m : a + 1 + more ≡ a + length (flagBytes (bitsOf f)) = omega (arith, size-is) in
       let p : v ≡ sets l a (flagBytes (bitsOf f) ++ take n (drop (a + 1) l)) =
-      flags-laid u w v s byte bit put skip
+      flags-laid u w v s byte bit (put ∙ ap (λ (q : ℕ). lay (mk u q 0) (bitsOf f)) first) skip
       ∙ ap (λ (x : List ℕ). sets x a (flagBytes (bitsOf f))) (moved ∙ ap (λ (i : ℕ). sets l i (take n (drop (a + 1) l))) m)
       ∙ sets-comm l (a + length (flagBytes (bitsOf f))) (take n (drop (a + 1) l)) a (flagBytes (bitsOf f)) (omega arith)
       ∙ sym (sets-append l a (flagBytes (bitsOf f)) (take n (drop (a + 1) l))) in
-      rw (z, le-leb end longest h) (ap (λ (x : List ℕ). lain x end) p)
+      rw (z, le-leb end longest h) (ap (λ (x : List ℕ). this (lain x end)) p)
 
 -- ---- the block, as the code has it: R is what its contents and flags left
-both-is : (b : Bits) (x : Seen) (bs : List Bool) (st : State) (k : ℕ) → both bs st k ≡ bothOf b x → (b ≡ spelt bs) × (x ≡ here st k)
-both-is (spelt cs) (here st′ j) bs st k e =
+both-is : (b : Possible (List Bool)) (x : Possible Seen) (bs : List Bool) (st : State) (k : ℕ) → this (both bs st k) ≡ bothOf b x → (b ≡ this bs) × (x ≡ this (here st k))
+both-is (this cs) (this (here st′ j)) bs st k e =
     let p : cs ≡ bs = cc in
     let q : st′ ≡ st = cc in
     let i : j ≡ k = cc in
-    (ap spelt p, ap₂ here q i)
-both-is (spelt cs) gone bs st k e = absurd (let z : _≡_ {A = ℕ} 0 1 = cc in omega arith)
-both-is none x bs st k e = absurd (let z : _≡_ {A = ℕ} 0 1 = cc in omega arith)
+    (ap this p, ap₂ (λ (x : State) (n : ℕ). this (here x n)) q i)
+both-is (this cs) cannot bs st k e = clash cc
+both-is cannot x bs st k e = clash cc
 
-lies-between : (o : List ℕ) (a : ℕ) (b : Bytes) (u : List ℕ) (stop : ℕ) → lain u stop ≡ lies o a b → (a ≤ stop) × (stop ≤ longest)
+lies-between : (o : List ℕ) (a : ℕ) (b : Possible (List ℕ)) (u : List ℕ) (stop : ℕ) → this (lain u stop) ≡ lies o a b → (a ≤ stop) × (stop ≤ longest)
 unfolding lies
-lies-between o a impossible u stop e = absurd (let z : _≡_ {A = ℕ} 0 1 = cc in omega arith)
-lies-between o a (bytes xs) u stop e = go (leb (a + length xs) longest) refl e
+lies-between o a cannot u stop e = clash cc
+lies-between o a (this xs) u stop e = go (leb (a + length xs) longest) refl e
   where
-    go : (c : Bool) → leb (a + length xs) longest ≡ c → lain u stop ≡ pick c (lain (sets o a xs) (a + length xs)) unlain → (a ≤ stop) × (stop ≤ longest)
+    go : (c : Bool) → leb (a + length xs) longest ≡ c → this (lain u stop) ≡ pick c (this (lain (sets o a xs) (a + length xs))) cannot → (a ≤ stop) × (stop ≤ longest)
     go true q d = let z : stop ≡ a + length xs = cc in (omega arith, omega (arith, leb-true (a + length xs) longest q))
-    go false q d = absurd (let z : _≡_ {A = ℕ} 0 1 = cc in omega arith)
+    go false q d = clash cc
 
 module _ (ks : List Attribute) (t : List ℕ) (any : anyFlag ks ≡ true) (o : List ℕ) (a : ℕ) (u : List ℕ) (R : Filled)
-    (e : (filled u R ≡ fills ks t (mk o (8 * (a + 1)) 0)) × Ready R) where
-  pub block-gone : R ≡ No → unlain ≡ lies o a (writeBody high (attributes ks) t)
+    {q : ℕ} (first : q ≡ 8 * (a + 1)) (from : (filled u R ≡ fills ks t (mk o q 0)) × Ready R) where
+  e : (filled u R ≡ fills ks t (mk o (8 * (a + 1)) 0)) × Ready R
+  e = (from .0 ∙ ap (λ (k : ℕ). fills ks t (mk o k 0)) first, from .1)
+
+  pub block-gone : R ≡ No → cannot ≡ lies o a (writeBody high (attributes ks) t)
   block-gone d = sym (block-law ks t any o a ∙ ap (finished (length t) a) (sym (e .0) ∙ ap (filled u) d))
 
   module _ (f : Flags) (s : Sink) (k : ℕ) (d : R ≡ With f s k) where
@@ -343,28 +349,31 @@ module _ (ks : List Attribute) (t : List ℕ) (any : anyFlag ks ≡ true) (o : L
     pub block-fine : Fine s
     block-fine = ready .2
 
-    is : both (bitsOf f) (at u s) k ≡ fills ks t (mk o (8 * (a + 1)) 0)
+    is : this (both (bitsOf f) (at u s) k) ≡ fills ks t (mk o (8 * (a + 1)) 0)
     is = ap (filled u) (sym d) ∙ e .0
 
-    parts : (flagBits ks (flagsIn high ks t) ≡ spelt (bitsOf f)) × (ran t (mk o (8 * (a + 1)) 0) 0 (rows ks (flagsIn high ks t)) ≡ here (at u s) k)
+    parts : (flagBits ks (flagsIn high ks t) ≡ this (bitsOf f)) × (ran t (mk o (8 * (a + 1)) 0) 0 (rows ks (flagsIn high ks t)) ≡ this (here (at u s) k))
     parts = both-is (flagBits ks (flagsIn high ks t)) (ran t (mk o (8 * (a + 1)) 0) 0 (rows ks (flagsIn high ks t))) (bitsOf f) (at u s) k is
 
     -- C is how the contents end
-    module _ (v : List ℕ) (C : Body) (h : lainAs v C ≡ concluded (length t) (here (at u s) k)) where
+    module _ (v : List ℕ) (C : Body) (h : lainAs v C ≡ concluded (length t) (this (here (at u s) k))) where
       ends : lies o a (writeBody high (attributes ks) t) ≡ closed a (flagBytes (bitsOf f)) (lainAs v C)
       ends = block-law ks t any o a ∙ ap (finished (length t) a) (sym is) ∙ ap (closed a (flagBytes (bitsOf f))) (sym h)
 
-      pub block-stop : C ≡ BodyNo → unlain ≡ lies o a (writeBody high (attributes ks) t)
+      pub block-stop : C ≡ BodyNo → cannot ≡ lies o a (writeBody high (attributes ks) t)
       block-stop z = sym (ends ∙ rw z)
 
-      module _ (stop : ℕ) (z : C ≡ To stop) where
+      module _ (end : BytePlace) (z : C ≡ To end) where
+        abbrev stop : ℕ
+        stop = end .0
+
         pub block-room : Held f × (0 < f .width) × (f .width ≤ 18) × (a + 1 ≤ stop) × (stop ≤ longest)
         block-room =
             let some : 0 < length (bitsOf f) = rw (parts .0) at (some-flags ks (flagsIn high ks t) any) in
-            let at-end : lain v stop ≡ lies o (a + 1) (packed high (unrun high (front (rows ks (flagsIn high ks t))) t 0)) =
+            let at-end : this (lain v stop) ≡ lies o (a + 1) (packed high (unrun high (front (rows ks (flagsIn high ks t))) t 0)) =
             ap (lainAs v) (sym z) ∙ h ∙ ap (concluded (length t)) (sym (parts .1)) ∙ sym (front-law (rows ks (flagsIn high ks t)) t o (a + 1)) in
             let between = lies-between o (a + 1) (packed high (unrun high (front (rows ks (flagsIn high ks t))) t 0)) v stop at-end in
             (ready .0, omega (arith, some, length-dig high (f .width) (f .bits)), ready .1, between .0, between .1)
 
-        pub block-done : {x : Lain} → x ≡ underFlags v a (flagBytes (bitsOf f)) (stop - (a + 1)) → x ≡ lies o a (writeBody high (attributes ks) t)
+        pub block-done : {x : Possible Lain} → x ≡ underFlags v a (flagBytes (bitsOf f)) (stop - (a + 1)) → x ≡ lies o a (writeBody high (attributes ks) t)
         block-done q = q ∙ sym (ends ∙ rw z)

@@ -11,19 +11,20 @@ use borrow.Author.Tests.{eq-eqb}
 use Rattle.format.specs.Bits.{high}
 use Rattle.format.specs.Formats.{Item, item, _▸_}
 use Rattle.format.specs.Bodies.{Attribute, content, rows}
-use Rattle.format.specs.WritingItems.{dig, Bits, spelt, none, before, writeItem}
+use Rattle.format.specs.Possible.{Possible, this, cannot}
+use Rattle.format.specs.WritingItems.{dig, before, writeItem}
 use Rattle.format.specs.WritingFormats.{unrun}
 use Rattle.format.specs.WritingBodies.{leftOf, flagsIn}
 use Rattle.attributes.specs.Rows.{allAttributes, rowsFrom}
 use Rattle.sink.specs.Laying.{State, at}
 use Rattle.sink.specs.declared.Sink.{Sink}
 use Rattle.sink.proofs.LayingLaws.{lay-none}
-use Rattle.spelling.specs.Writing.{Seen, here, gone, seen, after, ran, limit, Fine}
+use Rattle.spelling.specs.Writing.{Seen, here, seen, writtenOver, ran, limit, Fine}
 use Rattle.spelling.specs.declared.Put.{Put}
 use Rattle.spelling.specs.declared.Put.the-variants.{Done, Impossible}
 use Rattle.spelling.proofs.RunLaws.{ends-in, ran-then, resume, ran-nothing, ran-fine}
 use Rattle.write_blocks.specs.Flags.{flagSpelling, joined, flagBits, bitsOf, Held, noted, Grown}
-use Rattle.write_blocks.specs.Filling.{Both, both, neither, bothOf, fills}
+use Rattle.write_blocks.specs.Filling.{Both, both, bothOf, fills}
 use Rattle.write_blocks.specs.declared.Flags.{Flags}
 use Rattle.write_blocks.specs.declared.Flagged.{Flagged}
 use Rattle.write_blocks.specs.declared.Flagged.the-variants.{With, No}
@@ -35,18 +36,18 @@ pub no-rows : (row end : ℕ) → row ≡ end → rowsFrom row end ≡ []
 no-rows row end e = rw (e, slice-empty end allAttributes)
 
 -- ---- bits in front
-before-none : (b : Bits) → before [] b ≡ b
-before-none (spelt bs) = refl
-before-none none = refl
+before-none : (b : Possible (List Bool)) → before [] b ≡ b
+before-none (this bs) = refl
+before-none cannot = refl
 
-before-joined : (xs : List Bool) (b c : Bits) → before xs (joined b c) ≡ joined (before xs b) c
-before-joined xs (spelt bs) (spelt cs) = ap spelt (sym (append-assoc xs bs cs))
-before-joined xs (spelt bs) none = refl
-before-joined xs none c = refl
+before-joined : (xs : List Bool) (b c : Possible (List Bool)) → before xs (joined b c) ≡ joined (before xs b) c
+before-joined xs (this bs) (this cs) = ap this (sym (append-assoc xs bs cs))
+before-joined xs (this bs) cannot = refl
+before-joined xs cannot c = refl
 
-both-gone : (b : Bits) → bothOf b gone ≡ neither
-both-gone (spelt bs) = refl
-both-gone none = refl
+both-gone : (b : Possible (List Bool)) → bothOf b cannot ≡ cannot
+both-gone (this bs) = refl
+both-gone cannot = refl
 
 module _ (t : List ℕ) where
   -- the flag numbers of the attributes rs, the first of which stands at index k
@@ -54,12 +55,12 @@ module _ (t : List ℕ) where
   φs rs k = flagsIn high rs (drop k t)
 
   -- of a block the attributes rs are to come, with the flag number of the first at index k
-  abbrev toCome : Flags → State → ℕ → List Attribute → Both
+  abbrev toCome : Flags → State → ℕ → List Attribute → Possible Both
   toCome f st k rs = bothOf (before (bitsOf f) (flagBits rs (φs rs k))) (ran t st k (rows rs (φs rs k)))
 
   module _ (a : Attribute) (rs : List Attribute) (f : Flags) (st : State) (k : ℕ) where
     -- no number is left
-    none-left : length t ≤ k → toCome f st k (a ∷ rs) ≡ neither
+    none-left : length t ≤ k → toCome f st k (a ∷ rs) ≡ cannot
     unfolding flagsIn flagBits
     none-left h = rw (drop-of-length-le t h)
 
@@ -72,8 +73,8 @@ module _ (t : List ℕ) where
       unfolding flagsIn later
       flags-cons = rw (drop-cons t k 0 lk)
 
-      echoed : st .place ≤ limit → ran t st k (item (Item.echo (getD t k 0))) ≡ here st (k + 1)
-      unfolding ran unrun writeItem after
+      echoed : st .place ≤ limit → ran t st k (item (Item.echo (getD t k 0))) ≡ this (here st (k + 1))
+      unfolding ran unrun writeItem writtenOver
       echoed l = rw (drop-cons t k 0 lk, eq-eqb (getD t k 0) (getD t k 0) refl, lay-none) (ends-in st (k + 1) l)
 
       -- its flag number, its content, and the contents of the others
@@ -86,21 +87,21 @@ module _ (t : List ℕ) where
 
       -- G is what its flags gave, x what its content did
       module _ (G : Flagged) (flags : Adds f (flagSpelling (a .kind) (getD t k 0)) G) (l : st .place ≤ limit) where
-        turn : {x : Seen} → ran t st (k + 1) (content a (getD t k 0)) ≡ x → toCome f st k (a ∷ rs) ≡ bothOf (joined (noted G) (flagBits rs later)) (resume t (k + 1) (λ xs. rows rs later) x)
+        turn : {x : Possible Seen} → ran t st (k + 1) (content a (getD t k 0)) ≡ x → toCome f st k (a ∷ rs) ≡ bothOf (joined (noted G) (flagBits rs later)) (resume t (k + 1) (λ xs. rows rs later) x)
         unfolding flagBits
         turn e =
             ap (λ (ψs : List ℕ). bothOf (before (bitsOf f) (flagBits (a ∷ rs) ψs)) (ran t st k (rows (a ∷ rs) ψs))) flags-cons
             ∙ ap₂ bothOf
-            (before-joined (bitsOf f) (flagSpelling (a .kind) (getD t k 0)) (flagBits rs later) ∙ ap (λ (b : Bits). joined b (flagBits rs later)) (sym (flags .0)))
+            (before-joined (bitsOf f) (flagSpelling (a .kind) (getD t k 0)) (flagBits rs later) ∙ ap (λ (b : Possible (List Bool)). joined b (flagBits rs later)) (sym (flags .0)))
             (rows-next l ∙ ap (resume t (k + 1) (λ xs. rows rs later)) e)
 
-        turn-flag : G ≡ No → toCome f st k (a ∷ rs) ≡ neither
+        turn-flag : G ≡ No → toCome f st k (a ∷ rs) ≡ cannot
         turn-flag e = turn refl ∙ rw e
 
-        turn-gone : ran t st (k + 1) (content a (getD t k 0)) ≡ gone → toCome f st k (a ∷ rs) ≡ neither
+        turn-gone : ran t st (k + 1) (content a (getD t k 0)) ≡ cannot → toCome f st k (a ∷ rs) ≡ cannot
         turn-gone e = turn e ∙ both-gone (joined (noted G) (flagBits rs later))
 
-        turn-on : (g : Flags) (st′ : State) (j : ℕ) → G ≡ With g → ran t st (k + 1) (content a (getD t k 0)) ≡ here st′ j → toCome f st k (a ∷ rs) ≡ toCome g st′ j rs
+        turn-on : (g : Flags) (st′ : State) (j : ℕ) → G ≡ With g → ran t st (k + 1) (content a (getD t k 0)) ≡ this (here st′ j) → toCome f st k (a ∷ rs) ≡ toCome g st′ j rs
         unfolding later
         turn-on g st′ j d e =
             let i : leftOf (unrun high (content a (getD t k 0)) (drop (suc k) t) 0) ≡ drop j t =
@@ -122,29 +123,29 @@ fill-start ks t o s i fine = record {
   fine = fine;
   held = omega arith;
   few = omega arith;
-  rest = ap (λ (b : Bits). bothOf b (ran t (at o s) 0 (rows ks (flagsIn high ks t)))) (sym (before-none (flagBits ks (flagsIn high ks t))));
+  rest = ap (λ (b : Possible (List Bool)). bothOf b (ran t (at o s) 0 (rows ks (flagsIn high ks t)))) (sym (before-none (flagBits ks (flagsIn high ks t))));
 }
 
 module _ {ks : List Attribute} {t o : List ℕ} {s : Sink} {u : List ℕ} {f : Flags} {cur : Sink} {i k : ℕ} {now : List Attribute} (g : Filling ks t o s u f cur i k now) where
-  pub fill-done : now ≡ [] → both (bitsOf f) (at u cur) k ≡ fills ks t (at o s)
+  pub fill-done : now ≡ [] → this (both (bitsOf f) (at u cur) k) ≡ fills ks t (at o s)
   unfolding flagsIn flagBits rows
   fill-done e =
       sym (g .rest ∙ ap (toCome t f (at u cur) k) e
-      ∙ ap₂ bothOf (ap spelt (append-nil (bitsOf f))) (ran-nothing t (at u cur) k (g .fine .1)))
+      ∙ ap₂ bothOf (ap this (append-nil (bitsOf f))) (ran-nothing t (at u cur) k (g .fine .1)))
 
   module _ (a : Attribute) (rs : List Attribute) (is : now ≡ a ∷ rs) where
     from-now : fills ks t (at o s) ≡ toCome t f (at u cur) k (a ∷ rs)
     from-now = g .rest ∙ ap (toCome t f (at u cur) k) is
 
-    pub fill-short : length t ≤ k → neither ≡ fills ks t (at o s)
+    pub fill-short : length t ≤ k → cannot ≡ fills ks t (at o s)
     fill-short h = sym (from-now ∙ none-left t a rs f (at u cur) k h)
 
     module _ (lk : k < length t) (G : Flagged) (flags : Adds f (flagSpelling (a .kind) (getD t k 0)) G) where
-      pub fill-flag : G ≡ No → neither ≡ fills ks t (at o s)
+      pub fill-flag : G ≡ No → cannot ≡ fills ks t (at o s)
       fill-flag e = sym (from-now ∙ turn-flag t a rs f (at u cur) k lk G flags (g .fine .1) e)
 
       module _ (u′ : List ℕ) (R : Put) (e : seen u′ R ≡ ran t (at u cur) (k + 1) (content a (getD t k 0))) where
-        pub fill-gone : R ≡ Impossible → neither ≡ fills ks t (at o s)
+        pub fill-gone : R ≡ Impossible → cannot ≡ fills ks t (at o s)
         fill-gone d = sym (from-now ∙ turn-gone t a rs f (at u cur) k lk G flags (g .fine .1) (sym e ∙ ap (seen u′) d))
 
         pub fill-next : (f′ : Flags) (r : Sink) (j i′ : ℕ) → G ≡ With f′ → R ≡ Done r j → length u′ ≡ length u → i′ ≡ i + 1 → Filling ks t o s u′ f′ r i′ j rs

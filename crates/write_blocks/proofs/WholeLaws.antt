@@ -13,35 +13,36 @@ use Rattle.format.specs.Formats.{Item, Format, nothing, item, only, _▹_, _▸
 use Rattle.format.specs.Items.{skipped, byteItem}
 use Rattle.format.specs.Bodies.{Kind, Value, Fixed, BitFlag, Simple, Discrete, DataType, U32s, Times, Floats, Ratios, Bools, Bytes, BlendModes, TrackMatteTypes, MaskModes, Paths, Attribute, value, keyframed, contentOf, content, rows}
 use Rattle.format.specs.FileAndTags.{front}
-use Rattle.format.specs.WritingItems.{dig, Written, wrote, cannot, spelt, none, put, writeItem}
+use Rattle.format.specs.Possible.{Possible, this, cannot}
+use Rattle.format.specs.WritingItems.{dig, Written, wrote, put, writeItem}
 use Rattle.format.specs.WritingFormats.{passing, adjoin, onward, unrun}
 use Rattle.format.proofs.BitLaws.{length-dig}
 
 -- ---- bits before what was written
-pub adjoin-twice : (bs : List Bool) (xs : List ℕ) (cs : List Bool) (w : Written) → adjoin [] bs (adjoin xs cs w) ≡ adjoin xs (bs ++ cs) w
+pub adjoin-twice : (bs : List Bool) (xs : List ℕ) (cs : List Bool) (w : Possible Written) → adjoin [] bs (adjoin xs cs w) ≡ adjoin xs (bs ++ cs) w
 adjoin-twice bs xs cs cannot = refl
-adjoin-twice bs xs cs (wrote xs′ bs′ ys′) = ap (λ (l : List Bool). wrote (xs ++ xs′) l ys′) (sym (append-assoc bs cs bs′))
+adjoin-twice bs xs cs (this (wrote xs′ bs′ ys′)) = ap (λ (l : List Bool). this (wrote (xs ++ xs′) l ys′)) (sym (append-assoc bs cs bs′))
 
-pub onward-adjoin : (bs : List Bool) (w : Written) (p : ℕ) (k : List ℕ → List ℕ → ℕ → Written) → onward (adjoin [] bs w) p k ≡ adjoin [] bs (onward w (p + length bs) k)
+pub onward-adjoin : (bs : List Bool) (w : Possible Written) (p : ℕ) (k : List ℕ → List ℕ → ℕ → Possible Written) → onward (adjoin [] bs w) p k ≡ adjoin [] bs (onward w (p + length bs) k)
 onward-adjoin bs cannot p k = refl
-onward-adjoin bs (wrote xs cs ys) p k =
+onward-adjoin bs (this (wrote xs cs ys)) p k =
     let e : p + length (bs ++ cs) ≡ p + length bs + length cs = omega (arith, length-append bs cs) in
     ap (λ (q : ℕ). adjoin xs (bs ++ cs) (k xs ys q)) e ∙ sym (adjoin-twice bs xs cs (k xs ys (p + length bs + length cs)))
 
-passing-adjoin : (t : List ℕ → Bool) (bs : List Bool) (w : Written) → passing t (adjoin [] bs w) ≡ adjoin [] bs (passing t w)
+passing-adjoin : (t : List ℕ → Bool) (bs : List Bool) (w : Possible Written) → passing t (adjoin [] bs w) ≡ adjoin [] bs (passing t w)
 passing-adjoin t bs cannot = refl
-passing-adjoin t bs (wrote xs cs ys) = go (t xs)
+passing-adjoin t bs (this (wrote xs cs ys)) = go (t xs)
   where
-    go : (c : Bool) → pick c (wrote xs (bs ++ cs) ys) cannot ≡ adjoin [] bs (pick c (wrote xs cs ys) cannot)
+    go : (c : Bool) → pick c (this (wrote xs (bs ++ cs) ys)) cannot ≡ adjoin [] bs (pick c (this (wrote xs cs ys)) cannot)
     go true = refl
     go false = refl
 
-adjoin-none : (w : Written) → adjoin [] [] w ≡ w
+adjoin-none : (w : Possible Written) → adjoin [] [] w ≡ w
 adjoin-none cannot = refl
-adjoin-none (wrote xs bs ys) = refl
+adjoin-none (this (wrote xs bs ys)) = refl
 
 -- ---- from a whole byte on
-abbrev Whole : (List ℕ → ℕ → Written) → Type 0
+abbrev Whole : (List ℕ → ℕ → Possible Written) → Type 0
 Whole w = (ns : List ℕ) (p : ℕ) → w ns p ≡ adjoin [] (dig high (skipped p) 0) (w ns (p + skipped p))
 
 whole-align : Whole (unrun high (item Item.align))
@@ -49,11 +50,11 @@ unfolding unrun writeItem dig
 whole-align ns p =
     let z : skipped (p + skipped p) ≡ 0 = omega arith in
     let e : dig high (skipped p) 0 ++ dig high (skipped (p + skipped p)) 0 ≡ dig high (skipped p) 0 = rw z (append-nil (dig high (skipped p) 0)) in
-    ap (λ (bs : List Bool). wrote [] bs ns) (sym e)
+    ap (λ (bs : List Bool). this (wrote [] bs ns)) (sym e)
 
-whole-on : (w : List ℕ → ℕ → Written) (k : List ℕ → List ℕ → ℕ → Written) → Whole w → Whole (λ ns p. onward (w ns p) p k)
+whole-on : (w : List ℕ → ℕ → Possible Written) (k : List ℕ → List ℕ → ℕ → Possible Written) → Whole w → Whole (λ ns p. onward (w ns p) p k)
 whole-on w k h ns p =
-    ap (λ (x : Written). onward x p k) (h ns p) ∙ onward-adjoin (dig high (skipped p) 0) (w ns (p + skipped p)) p k
+    ap (λ (x : Possible Written). onward x p k) (h ns p) ∙ onward-adjoin (dig high (skipped p) 0) (w ns (p + skipped p)) p k
     ∙ ap (λ (n : ℕ). adjoin [] (dig high (skipped p) 0) (onward (w ns (p + skipped p)) (p + n) k)) (length-dig high (skipped p) 0)
 
 whole-then : (f : Format) (g : List ℕ → Format) → Whole (unrun high f) → Whole (unrun high (f ▹ g))
@@ -84,7 +85,7 @@ whole-frames k d = whole-then _ _ (whole-only _ _ _ (whole-item Item.U32))
 
 -- ---- what follows such contents starts there too
 abbrev Passes : Format → Type 0
-Passes f = (k : List ℕ → ℕ → Written) → Whole k → Whole (λ ns p. onward (unrun high f ns p) p (λ xs ys q. k ys q))
+Passes f = (k : List ℕ → ℕ → Possible Written) → Whole k → Whole (λ ns p. onward (unrun high f ns p) p (λ xs ys q. k ys q))
 
 passes-nothing : Passes nothing
 unfolding unrun
@@ -118,18 +119,18 @@ passes-content a φ = go (a .kind)
     go Discrete = some Discrete
 
 -- one after the other
-onward-twice : (w : Written) (p : ℕ) (k k′ : List ℕ → ℕ → Written)
+onward-twice : (w : Possible Written) (p : ℕ) (k k′ : List ℕ → ℕ → Possible Written)
     → onward (onward w p (λ xs ys q. k ys q)) p (λ xs ys q. k′ ys q) ≡ onward w p (λ xs ys q. onward (k ys q) q (λ xs ys q. k′ ys q))
 onward-twice cannot p k k′ = refl
-onward-twice (wrote xs bs ys) p k k′ = go (k ys (p + length bs))
+onward-twice (this (wrote xs bs ys)) p k k′ = go (k ys (p + length bs))
   where
-    both : (xs′ : List ℕ) (bs′ : List Bool) (w : Written) → adjoin (xs ++ xs′) (bs ++ bs′) w ≡ adjoin xs bs (adjoin xs′ bs′ w)
+    both : (xs′ : List ℕ) (bs′ : List Bool) (w : Possible Written) → adjoin (xs ++ xs′) (bs ++ bs′) w ≡ adjoin xs bs (adjoin xs′ bs′ w)
     both xs′ bs′ cannot = refl
-    both xs′ bs′ (wrote xs″ bs″ ys″) = rw (append-assoc xs xs′ xs″, append-assoc bs bs′ bs″)
+    both xs′ bs′ (this (wrote xs″ bs″ ys″)) = rw (append-assoc xs xs′ xs″, append-assoc bs bs′ bs″)
 
-    go : (w : Written) → onward (adjoin xs bs w) p (λ xs ys q. k′ ys q) ≡ adjoin xs bs (onward w (p + length bs) (λ xs ys q. k′ ys q))
+    go : (w : Possible Written) → onward (adjoin xs bs w) p (λ xs ys q. k′ ys q) ≡ adjoin xs bs (onward w (p + length bs) (λ xs ys q. k′ ys q))
     go cannot = refl
-    go (wrote xs′ bs′ ys′) =
+    go (this (wrote xs′ bs′ ys′)) =
         let e : p + length (bs ++ bs′) ≡ p + length bs + length bs′ = omega (arith, length-append bs bs′) in
         ap (λ (q : ℕ). adjoin (xs ++ xs′) (bs ++ bs′) (k′ ys′ q)) e ∙ both xs′ bs′ (k′ ys′ (p + length bs + length bs′))
 
@@ -146,12 +147,12 @@ unfolding unrun writeItem
 passes-echo n k h [] p = refl
 passes-echo n k h (v ∷ ns) p = go (eqb v n)
   where
-    moved : (w : Written) → adjoin (v ∷ []) [] (adjoin [] (dig high (skipped p) 0) w) ≡ adjoin [] (dig high (skipped p) 0) (adjoin (v ∷ []) [] w)
+    moved : (w : Possible Written) → adjoin (v ∷ []) [] (adjoin [] (dig high (skipped p) 0) w) ≡ adjoin [] (dig high (skipped p) 0) (adjoin (v ∷ []) [] w)
     moved cannot = refl
-    moved (wrote xs bs ys) = refl
+    moved (this (wrote xs bs ys)) = refl
 
-    go : (c : Bool) → onward (put (v ∷ []) (pick c (spelt []) none) ns) p (λ xs ys q. k ys q)
-        ≡ adjoin [] (dig high (skipped p) 0) (onward (put (v ∷ []) (pick c (spelt []) none) ns) (p + skipped p) (λ xs ys q. k ys q))
+    go : (c : Bool) → onward (put (v ∷ []) (pick c (this []) cannot) ns) p (λ xs ys q. k ys q)
+        ≡ adjoin [] (dig high (skipped p) 0) (onward (put (v ∷ []) (pick c (this []) cannot) ns) (p + skipped p) (λ xs ys q. k ys q))
     go false = refl
     go true =
         ap (λ (q : ℕ). adjoin (v ∷ []) [] (k ns q)) (add-zero p)

@@ -8,11 +8,11 @@ use lib.Seq.{sets}
 use Rattle.format.specs.Tests.{pick}
 use Rattle.format.specs.Bits.{high}
 use Rattle.format.specs.Bodies.{Attribute, rows}
-use Rattle.format.specs.WritingItems.{Bits, spelt, none}
+use Rattle.format.specs.Possible.{Possible, this, cannot}
 use Rattle.format.specs.WritingBodies.{flagsIn}
-use Rattle.sink.specs.Lain.{Lain, lain, unlain, longest}
+use Rattle.sink.specs.Lain.{Lain, lain, longest}
 use Rattle.sink.specs.Laying.{State, at}
-use Rattle.spelling.specs.Writing.{Seen, here, gone, ran, Fine}
+use Rattle.spelling.specs.Writing.{Seen, here, ran, Fine}
 use Rattle.write_blocks.specs.Flags.{flagBits, bitsOf, Held}
 use Rattle.write_blocks.specs.declared.Filled.{Filled}
 use Rattle.write_blocks.specs.declared.Filled.the-variants.{With, No}
@@ -20,20 +20,19 @@ use Rattle.write_blocks.specs.declared.Filled.the-variants.{With, No}
 -- the flags' bits, the state after the contents, and the index of the next value
 pub data Both : Type 0 where
   both : List Bool → State → ℕ → Both
-  neither : Both
 
-abbrev pub bothOf : Bits → Seen → Both
-bothOf (spelt bs) (here st k) = both bs st k
-bothOf (spelt bs) gone = neither
-bothOf none x = neither
+abbrev pub bothOf : Possible (List Bool) → Possible Seen → Possible Both
+bothOf (this bs) (this (here st k)) = this (both bs st k)
+bothOf (this bs) cannot = cannot
+bothOf cannot x = cannot
 
 -- the attributes' flags, and their contents, of the values t from the first on
-abbrev pub fills : List Attribute → List ℕ → State → Both
+abbrev pub fills : List Attribute → List ℕ → State → Possible Both
 fills ks t st = bothOf (flagBits ks (flagsIn high ks t)) (ran t st 0 (rows ks (flagsIn high ks t)))
 
-abbrev pub filled : List ℕ → Filled → Both
-filled u (With f s k) = both (bitsOf f) (at u s) k
-filled u No = neither
+abbrev pub filled : List ℕ → Filled → Possible Both
+filled u (With f s k) = this (both (bitsOf f) (at u s) k)
+filled u No = cannot
 
 -- flags and a sink that code may go on with
 abbrev pub Ready : Filled → Type 0
@@ -41,5 +40,5 @@ Ready (With f s k) = Held f × (f .width ≤ 18) × Fine s
 Ready No = Unit {0}
 
 -- the n bytes that stand one after a, with the bytes xs of their flags before them
-abbrev pub underFlags : List ℕ → ℕ → List ℕ → ℕ → Lain
-underFlags l a xs n = pick (leb (a + length xs + n) longest) (lain (sets l a (xs ++ take n (drop (a + 1) l))) (a + length xs + n)) unlain
+abbrev pub underFlags : List ℕ → ℕ → List ℕ → ℕ → Possible Lain
+underFlags l a xs n = pick (leb (a + length xs + n) longest) (this (lain (sets l a (xs ++ take n (drop (a + 1) l))) (a + length xs + n))) cannot

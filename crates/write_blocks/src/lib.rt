@@ -5,11 +5,11 @@ ghost use mathlib.Core.Bool.{true};
 ghost use Prim.Native.Nat.{_+_, _-_, _≤_, _<_};
 ghost use Rattle.format.specs.Bits.{high};
 ghost use Rattle.format.specs.WritingItems.{before, spellFlag};
-ghost use Rattle.format.specs.Bodies.{content as «contentOf», attributes as «attributesBody»};
+ghost use Rattle.format.specs.Bodies.{content as contentOf, attributes as attributesBody};
 ghost use Rattle.format.specs.WritingBodies.{writeBody};
 ghost use Rattle.attributes.specs.Rows.{kindOf, attributeOf, rowsFrom, AreRows};
 ghost use Rattle.sink.specs.Lain.{lies, lainAs, longest};
-ghost use Rattle.sink.specs.Laying.{at as «under»};
+ghost use Rattle.sink.specs.Laying.{at as under};
 ghost use Rattle.spelling.specs.Writing.{seen, ran, Fine};
 ghost use Rattle.write_blocks.specs.Flags.{bitsOf, noted, Held, Grown, flagSpelling, flagBytes, anyFlag};
 ghost use Rattle.write_blocks.specs.Filling.{filled, fills, Ready, underFlags};
@@ -18,6 +18,7 @@ use attributes::Content;
 use attributes::Kind;
 use attributes::Rows;
 use bits::BitPlace;
+use bits::BytePlace;
 use sink::Body;
 use sink::Sink;
 use spelling::Put;
@@ -41,29 +42,29 @@ pub enum Filled {
 }
 
 // One flag bit.
-fn add_flag(f: Flags, v: u64) -> Flagged
-    requires { ⌜ Held f × (f .width ≤ 16) ⌝ }
-    ensures { λ r. ⌜ (noted r ≡ before (bitsOf f) (spellFlag high v 1)) × Grown (f .width) r ⌝ }
+fn add_flag(flags: Flags, number: u64) -> Flagged
+    requires { ⌜ Held flags × (flags .width ≤ 16) ⌝ }
+    ensures { λ r. ⌜ (noted r ≡ before (bitsOf flags) (spellFlag high number 1)) × Grown (flags .width) r ⌝ }
 {
-    if 1 < v {
+    if 1 < number {
         return Flagged::No;
     }
-    let bits = f.bits;
-    let width = f.width;
+    let bits = flags.bits;
+    let width = flags.width;
     Flagged::With(Flags {
-        bits: bits * 2 + v,
+        bits: bits * 2 + number,
         width: width + 1,
     })
 }
 
 // An exist bit; if set, an animatable bit.
-fn add_two_flags(f: Flags, v: u64) -> Flagged
-    requires { ⌜ Held f × (f .width ≤ 16) ⌝ }
-    ensures { λ r. ⌜ (noted r ≡ before (bitsOf f) (spellFlag high v 2)) × Grown (f .width) r ⌝ }
+fn add_two_flags(flags: Flags, number: u64) -> Flagged
+    requires { ⌜ Held flags × (flags .width ≤ 16) ⌝ }
+    ensures { λ r. ⌜ (noted r ≡ before (bitsOf flags) (spellFlag high number 2)) × Grown (flags .width) r ⌝ }
 {
-    let bits = f.bits;
-    let width = f.width;
-    match v {
+    let bits = flags.bits;
+    let width = flags.width;
+    match number {
         0 => Flagged::With(Flags {
             bits: bits * 2,
             width: width + 1,
@@ -81,20 +82,20 @@ fn add_two_flags(f: Flags, v: u64) -> Flagged
 }
 
 // The flags of one attribute; a Fixed one has no bit, and its flag number is 1.
-fn add_flags(kind: Kind, f: Flags, v: u64) -> Flagged
-    requires { ⌜ Held f × (f .width ≤ 16) ⌝ }
-    ensures { λ r. ⌜ (noted r ≡ before (bitsOf f) (flagSpelling (kindOf kind) v)) × Grown (f .width) r ⌝ }
+fn add_flags(kind: Kind, flags: Flags, number: u64) -> Flagged
+    requires { ⌜ Held flags × (flags .width ≤ 16) ⌝ }
+    ensures { λ r. ⌜ (noted r ≡ before (bitsOf flags) (flagSpelling (kindOf kind) number)) × Grown (flags .width) r ⌝ }
 {
     match kind {
-        Kind::Value => add_flag(f, v),
-        Kind::Fixed => if v == 1 {
-            Flagged::With(f)
+        Kind::Value => add_flag(flags, number),
+        Kind::Fixed => if number == 1 {
+            Flagged::With(flags)
         } else {
             Flagged::No
         },
-        Kind::BitFlag => add_flag(f, v),
-        Kind::Simple => add_two_flags(f, v),
-        Kind::Discrete => add_two_flags(f, v),
+        Kind::BitFlag => add_flag(flags, number),
+        Kind::Simple => add_two_flags(flags, number),
+        Kind::Discrete => add_two_flags(flags, number),
     }
 }
 
@@ -103,46 +104,53 @@ fn write_content(
     attribute: Attribute,
     flag: u64,
     out: &mut [u8],
-    s: Sink,
-    t: &[u64],
-    k: usize,
+    sink: Sink,
+    values: &[u64],
+    from: usize,
 ) -> Put
-    requires { ⌜ Fine s ⌝ }
-    ensures { λ r. ⌜ seen (now (out .exit)) r ≡ ran (now (t .entry)) («under» (now (out .entry)) s) k («contentOf» (attributeOf attribute) flag) ⌝ }
+    requires { ⌜ Fine sink ⌝ }
+    ensures { λ r. ⌜ seen (now (out .exit)) r ≡ ran (now (values .entry)) (under (now (out .entry)) sink) from (contentOf (attributeOf attribute) flag) ⌝ }
 {
     let kind = attribute.kind;
     let what = attribute.data_type;
     match attributes::content_of(kind, flag) {
-        Content::Nothing => Put::Done(s, k),
-        Content::One => write_values::write_value(what, out, s, t, k),
-        Content::Frames => write_values::keyframes::write_keyframed(kind, what, out, s, t, k),
+        Content::Nothing => Put::Done(sink, from),
+        Content::One => write_values::write_value(what, out, sink, values, from),
+        Content::Frames => write_values::keyframes::write_keyframed(
+            kind,
+            what,
+            out,
+            sink,
+            values,
+            from,
+        ),
     }
 }
 
 // The contents of all rows; their flags are gathered on the way.
-fn write_contents(rows: Rows, t: &[u64], out: &mut [u8], s: Sink) -> Filled
-    requires { ⌜ AreRows (rows .start) (rows .end) × Fine s ⌝ }
-    ensures { λ r. ⌜ (filled (now (out .exit)) r ≡ fills (rowsFrom (rows .start) (rows .end)) (now (t .entry)) («under» (now (out .entry)) s)) × Ready r ⌝ }
+fn write_contents(rows: Rows, values: &[u64], out: &mut [u8], sink: Sink) -> Filled
+    requires { ⌜ AreRows (rows .start) (rows .end) × Fine sink ⌝ }
+    ensures { λ r. ⌜ (filled (now (out .exit)) r ≡ fills (rowsFrom (rows .start) (rows .end)) (now (values .entry)) (under (now (out .entry)) sink)) × Ready r ⌝ }
 {
     let attributes = attributes::ATTRIBUTES;
     let end = rows.end;
     let mut flags = Flags { bits: 0, width: 0 };
-    let mut cur = s;
-    let mut k = 0;
+    let mut cur = sink;
+    let mut index = 0;
     let mut row = rows.start;
     while row < end {
-        if t.len() <= k {
+        if values.len() <= index {
             return Filled::No;
         }
-        let v = t[k];
+        let number = values[index];
         let attribute = attributes[row];
         let kind = attribute.kind;
-        let f = add_flags(kind, flags, v);
-        let Flagged::With(more) = f else {
+        let flagged = add_flags(kind, flags, number);
+        let Flagged::With(more) = flagged else {
             return Filled::No;
         };
-        let r = write_content(attribute, v, out, cur, t, k + 1);
-        let Put::Done(next, j) = r else {
+        let r = write_content(attribute, number, out, cur, values, index + 1);
+        let Put::Done(next, behind) = r else {
             return Filled::No;
         };
         flags = more;
@@ -151,52 +159,49 @@ fn write_contents(rows: Rows, t: &[u64], out: &mut [u8], s: Sink) -> Filled
             place: BitPlace(next.place.0),
             part: next.part,
         };
-        k = j;
+        index = behind;
         row += 1;
     }
-    Filled::With(flags, cur, k)
+    Filled::With(flags, cur, index)
 }
 
 // Puts flags before contents that stand one byte after a place, up to stop; where the flags take more than that byte, the contents move up.
-fn put_flags(flags: Flags, out: &mut [u8], at: usize, stop: usize) -> Body
-    requires { ⌜ Held flags × (0 < flags .width) × (flags .width ≤ 18) × (at + 1 ≤ stop) × (stop ≤ longest) ⌝ }
-    ensures { λ r. ⌜ lainAs (now (out .exit)) r ≡ underFlags (now (out .entry)) at (flagBytes (bitsOf flags)) (stop - (at + 1)) ⌝ }
+fn put_flags(flags: Flags, out: &mut [u8], at: BytePlace, stop: BytePlace) -> Body
+    requires { ⌜ Held flags × (0 < flags .width) × (flags .width ≤ 18) × (at .0 + 1 ≤ stop .0) × (stop .0 ≤ longest) ⌝ }
+    ensures { λ r. ⌜ lainAs (now (out .exit)) r ≡ underFlags (now (out .entry)) (at .0) (flagBytes (bitsOf flags)) (stop .0 - (at .0 + 1)) ⌝ }
 {
     let width = flags.width;
-    let from = at + 1;
+    let from = at.0 + 1;
     let more = (width + 7) / 8 - 1;
-    let end = stop + more;
+    let end = stop.0 + more;
     if 16777216 < end {
         return Body::No;
     }
-    write_heads::move_up(out, from, stop - from, more);
-    let s = Sink {
-        place: BitPlace(8 * at),
-        part: 0,
-    };
-    let next = sink::put_bits(out, s, flags.bits, width);
+    write_heads::move_up(out, BytePlace(from), stop.0 - from, more);
+    let place = bits::first_bit(at);
+    let sink = Sink { place, part: 0 };
+    let next = sink::put_bits(out, sink, flags.bits, width);
     sink::align(out, next);
-    Body::To(end)
+    Body::To(BytePlace(end))
 }
 
 // An attribute block, from a byte place on; one that has flags. No file is longer than 16,777,216 bytes.
-pub fn write_block(rows: Rows, values: &[u64], out: &mut [u8], at: usize) -> Body
+pub fn write_block(rows: Rows, values: &[u64], out: &mut [u8], at: BytePlace) -> Body
     requires { ⌜ AreRows (rows .start) (rows .end) × (anyFlag (rowsFrom (rows .start) (rows .end)) ≡ true) ⌝ }
-    ensures { λ r. ⌜ lainAs (now (out .exit)) r ≡ lies (now (out .entry)) at (writeBody high («attributesBody» (rowsFrom (rows .start) (rows .end))) (now (values .entry))) ⌝ }
+    ensures { λ r. ⌜ lainAs (now (out .exit)) r ≡ lies (now (out .entry)) (at .0) (writeBody high (attributesBody (rowsFrom (rows .start) (rows .end))) (now (values .entry))) ⌝ }
 {
-    if 16777216 <= at {
+    if 16777216 <= at.0 {
         return Body::No;
     }
-    let s = Sink {
-        place: BitPlace(8 * (at + 1)),
-        part: 0,
-    };
-    let r = write_contents(rows, values, out, s);
-    let Filled::With(flags, next, k) = r else {
+    let from = at.0 + 1;
+    let place = bits::first_bit(BytePlace(from));
+    let sink = Sink { place, part: 0 };
+    let r = write_contents(rows, values, out, sink);
+    let Filled::With(flags, next, behind) = r else {
         return Body::No;
     };
-    let c = spelling::conclude(Put::Done(next, k), values.len(), out);
-    match c {
+    let concluded = spelling::conclude(Put::Done(next, behind), values.len(), out);
+    match concluded {
         Body::To(stop) => put_flags(flags, out, at, stop),
         Body::No => Body::No,
     }

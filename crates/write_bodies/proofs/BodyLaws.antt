@@ -9,6 +9,7 @@ use Rattle.format.specs.Bits.{high}
 use Rattle.format.specs.Bodies.{Attribute, layerAttributes, textPathOption, maskBlock, attributes}
 use Rattle.format.specs.FileAndTags.{front}
 use Rattle.format.specs.WritingFormats.{unrun}
+use Rattle.format.specs.Possible.{Possible}
 use Rattle.format.specs.WritingBodies.{writePart, packed, writeBody}
 use Rattle.attributes.specs.Rows.{attributesOf}
 use Rattle.fixed.specs.Fixed.{fixedOf}
@@ -27,7 +28,7 @@ block-flags code c e = rw e (go (eqb code 6) (eqb code 9) (eqb code 14) c)
     go false false true h = refl
     go false false false h = h
 
-module _ (vs o : List ℕ) (a code : ℕ) {x : Lain} where
+module _ (vs o : List ℕ) (a code : ℕ) {x : Possible Lain} where
   pub body-block : {attrs : List Attribute} → isBlock code ≡ true → attrs ≡ attributesOf code → x ≡ lies o a (writeBody high (attributes attrs) vs) → x ≡ lies o a (writeBody high (leafBody code) vs)
   unfolding leafBody
   body-block c e h = rw c (h ∙ ap (λ (l : List Attribute). lies o a (writeBody high (attributes l) vs)) e)

@@ -8,30 +8,28 @@ ghost use Rattle.format.specs.WritingBodies.{packed, writeBody};
 ghost use Rattle.fixed.specs.Fixed.{fixedOf};
 ghost use Rattle.bodies.specs.Leaf.{leafBody};
 ghost use Rattle.sink.specs.Lain.{lies, lainAs};
-use bits::BitPlace;
+use bits::BytePlace;
 use sink::Body;
 use sink::Sink;
 
 // What stands before a container's list, from a byte place on. No file is longer than 16,777,216 bytes.
-pub fn write_front(code: u32, values: &[u64], out: &mut [u8], at: usize) -> Body
-    requires { ⌜ at ≤ 16777218 ⌝ }
-    ensures { λ r. ⌜ lainAs (now (out .exit)) r ≡ lies (now (out .entry)) at (packed high (unrun high (front (fixedOf code)) (now (values .entry)) 0)) ⌝ }
+pub fn write_front(code: u32, values: &[u64], out: &mut [u8], at: BytePlace) -> Body
+    requires { ⌜ at .0 ≤ 16777218 ⌝ }
+    ensures { λ r. ⌜ lainAs (now (out .exit)) r ≡ lies (now (out .entry)) (at .0) (packed high (unrun high (front (fixedOf code)) (now (values .entry)) 0)) ⌝ }
 {
-    if 16777216 < at {
+    if 16777216 < at.0 {
         return Body::No;
     }
-    let s = Sink {
-        place: BitPlace(8 * at),
-        part: 0,
-    };
-    let r = write_fixed::write_fixed(code, out, s, values, 0);
+    let place = bits::first_bit(at);
+    let sink = Sink { place, part: 0 };
+    let r = write_fixed::write_fixed(code, out, sink, values, 0);
     spelling::conclude(r, values.len(), out)
 }
 
 // The body of a leaf tag, from a byte place on. One that is no attribute block ends as what stands before a list does.
-pub fn write_body(code: u32, values: &[u64], out: &mut [u8], at: usize) -> Body
-    requires { ⌜ at ≤ 16777218 ⌝ }
-    ensures { λ r. ⌜ lainAs (now (out .exit)) r ≡ lies (now (out .entry)) at (writeBody high (leafBody code) (now (values .entry))) ⌝ }
+pub fn write_body(code: u32, values: &[u64], out: &mut [u8], at: BytePlace) -> Body
+    requires { ⌜ at .0 ≤ 16777218 ⌝ }
+    ensures { λ r. ⌜ lainAs (now (out .exit)) r ≡ lies (now (out .entry)) (at .0) (writeBody high (leafBody code) (now (values .entry))) ⌝ }
 {
     if bodies::is_block(code) {
         return write_blocks::write_block(attributes::rows_of(code), values, out, at);

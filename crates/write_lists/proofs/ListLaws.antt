@@ -13,10 +13,12 @@ use Rattle.format.specs.Bits.{high}
 use Rattle.format.specs.FileAndTags as paper
 use Rattle.format.specs.FileAndTags.{container, classOf, isEnd, front}
 use Rattle.format.specs.WritingFormats.{unrun}
-use Rattle.format.specs.WritingBodies.{Bytes, bytes, impossible, packed, writeBody}
-use Rattle.format.specs.WritingFiles.{Made, made, unmade, allBytes, spellHead, fitsHead, bodyOf, fronted, fill, outTag, headed, unwalkList}
+use Rattle.format.specs.Possible.{Possible, this, cannot}
+use Rattle.format.specs.WritingBodies.{packed, writeBody}
+use Rattle.format.specs.WritingFiles.{Made, made, allBytes, spellHead, fitsHead, bodyOf, fronted, fill, outTag, headed, unwalkList}
 use Rattle.format.proofs.ListLaws.{unlist-nil, unlist-one}
 use Rattle.format.proofs.ListTrip.{ListIf, list-back}
+use Rattle.format.proofs.Absurd.{clash}
 use Rattle.classes.specs.declared.Class.{Class}
 use Rattle.classes.specs.declared.Class.the-variants.{Opaque, End, Container, Fixed, Attributes}
 use Rattle.classes.specs.Classes.{ends, contains, classAt}
@@ -27,7 +29,7 @@ use Rattle.bodies.specs.Leaf.{leafBody}
 use Rattle.sink.specs.Lain.{longest}
 use Rattle.write_lists.specs.declared.Wrote.{Wrote}
 use Rattle.write_lists.specs.declared.Wrote.the-variants.{Impossible}
-use Rattle.write_lists.specs.Stood.{Stood, stood, fell, over, stoodAs}
+use Rattle.write_lists.specs.Stood.{Stood, stood, over, stoodAs}
 use Rattle.write_lists.specs.Tags.{bodyIn, begun, shut, shutAs}
 use Rattle.write_lists.proofs.StoodLaws.{Parts, stood-index, andThen, parts-then, again, over-then}
 use Rattle.write_lists.proofs.TagLaws.{shut-over, shut-place, parts-shut, parts-begun}
@@ -47,74 +49,74 @@ classBy class code = spelt leafBody holder class code
 -- ---- a tag of the definitions, as this crate writes it
 
 -- the code before the numbers of what stands in a tag
-abbrev coded : ℕ → Made → Made
-coded code (made xs b ys) = made (code ∷ xs) b ys
-coded code unmade = unmade
+abbrev coded : ℕ → Possible Made → Possible Made
+coded code (this (made xs b ys)) = this (made (code ∷ xs) b ys)
+coded code cannot = cannot
 
-headed-last : (code : ℕ) (m : Made) (W : List ℕ → Made) → headed code true m W ≡ shut code (coded code m)
-headed-last code unmade W = refl
-headed-last code (made xs b ys) W = refl
+headed-last : (code : ℕ) (m : Possible Made) (W : List ℕ → Possible Made) → headed code true m W ≡ shut code (coded code m)
+headed-last code cannot W = refl
+headed-last code (this (made xs b ys)) W = refl
 
-headed-then : (code : ℕ) (m : Made) (W : List ℕ → Made) → headed code false m W ≡ andThen (shut code (coded code m)) W
-headed-then code unmade W = refl
-headed-then code (made xs b ys) W = go (fitsHead code (length b))
+headed-then : (code : ℕ) (m : Possible Made) (W : List ℕ → Possible Made) → headed code false m W ≡ andThen (shut code (coded code m)) W
+headed-then code cannot W = refl
+headed-then code (this (made xs b ys)) W = go (fitsHead code (length b))
   where
-    go : (c : Bool) → pick c (andThen (made (code ∷ xs) (spellHead code (length b) ++ b) ys) W) unmade ≡ andThen (pick c (made (code ∷ xs) (spellHead code (length b) ++ b) ys) unmade) W
+    go : (c : Bool) → pick c (andThen (this (made (code ∷ xs) (spellHead code (length b) ++ b) ys)) W) cannot ≡ andThen (pick c (this (made (code ∷ xs) (spellHead code (length b) ++ b) ys)) cannot) W
     go true = refl
     go false = refl
 
 -- no file has a code above 1023
-headed-high : (code : ℕ) (e : Bool) (m : Made) (W : List ℕ → Made) → 1023 < code → headed code e m W ≡ unmade
-headed-high code e unmade W h = refl
-headed-high code true (made xs b ys) W h = rw (le-ltb code 1024 h)
-headed-high code false (made xs b ys) W h = rw (le-ltb code 1024 h)
+headed-high : (code : ℕ) (e : Bool) (m : Possible Made) (W : List ℕ → Possible Made) → 1023 < code → headed code e m W ≡ cannot
+headed-high code e cannot W h = refl
+headed-high code true (this (made xs b ys)) W h = rw (le-ltb code 1024 h)
+headed-high code false (this (made xs b ys)) W h = rw (le-ltb code 1024 h)
 
-module _ (code left s n : ℕ) (vs ys : List ℕ) (W : List ℕ → Made) (counted : length vs ≡ n) where
+module _ (code left s n : ℕ) (vs ys : List ℕ) (W : List ℕ → Possible Made) (counted : length vs ≡ n) where
   fill-leaf : (class : Class) → contains class ≡ false
       → coded code (fill high W left (classBy class code) s n vs ys) ≡ bodyOf (code ∷ s ∷ n ∷ vs) (bodyIn class code s vs) ys
   fill-leaf Opaque h = go (eqb s 0) (allBytes vs)
     where
-      go : (x y : Bool) → coded code (pick x (pick y (made (s ∷ n ∷ vs) vs ys) unmade) unmade) ≡ bodyOf (code ∷ s ∷ n ∷ vs) (pick x (pick y (bytes vs) impossible) impossible) ys
+      go : (x y : Bool) → coded code (pick x (pick y (this (made (s ∷ n ∷ vs) vs ys)) cannot) cannot) ≡ bodyOf (code ∷ s ∷ n ∷ vs) (pick x (pick y (this vs) cannot) cannot) ys
       go true true = refl
       go true false = refl
       go false y = refl
   fill-leaf End h = rw counted (go (eqb s 1) (eqb n 0))
     where
-      go : (x y : Bool) → coded code (pick x (pick y (made (s ∷ n ∷ vs) [] ys) unmade) unmade) ≡ bodyOf (code ∷ s ∷ n ∷ vs) (pick x (pick y (bytes []) impossible) impossible) ys
+      go : (x y : Bool) → coded code (pick x (pick y (this (made (s ∷ n ∷ vs) [] ys)) cannot) cannot) ≡ bodyOf (code ∷ s ∷ n ∷ vs) (pick x (pick y (this []) cannot) cannot) ys
       go true true = refl
       go true false = refl
       go false y = refl
-  fill-leaf Container h = absurd (let z : _≡_ {A = Bool} true false = h in let y : _≡_ {A = ℕ} 0 1 = cc in omega arith)
+  fill-leaf Container h = absurd (let z : _≡_ {A = Bool} true false = h in clash cc)
   fill-leaf Fixed h = go (eqb s 1) (writeBody high (leafBody code) vs)
     where
-      go : (x : Bool) (z : Bytes) → coded code (pick x (bodyOf (s ∷ n ∷ vs) z ys) unmade) ≡ bodyOf (code ∷ s ∷ n ∷ vs) (pick x z impossible) ys
-      go true (bytes b) = refl
-      go true impossible = refl
+      go : (x : Bool) (z : Possible (List ℕ)) → coded code (pick x (bodyOf (s ∷ n ∷ vs) z ys) cannot) ≡ bodyOf (code ∷ s ∷ n ∷ vs) (pick x z cannot) ys
+      go true (this b) = refl
+      go true cannot = refl
       go false z = refl
   fill-leaf Attributes h = go (eqb s 1) (writeBody high (leafBody code) vs)
     where
-      go : (x : Bool) (z : Bytes) → coded code (pick x (bodyOf (s ∷ n ∷ vs) z ys) unmade) ≡ bodyOf (code ∷ s ∷ n ∷ vs) (pick x z impossible) ys
-      go true (bytes b) = refl
-      go true impossible = refl
+      go : (x : Bool) (z : Possible (List ℕ)) → coded code (pick x (bodyOf (s ∷ n ∷ vs) z ys) cannot) ≡ bodyOf (code ∷ s ∷ n ∷ vs) (pick x z cannot) ys
+      go true (this b) = refl
+      go true cannot = refl
       go false z = refl
 
   fill-container : (left ≡ 0 → ⊥) → coded code (fill high W left (holder code) s n vs ys) ≡ andThen (bodyOf (code ∷ s ∷ n ∷ vs) (bodyIn Container code s vs) ys) W
   fill-container h = rw (ne-eqb left 0 h) (go (eqb s 1) (packed high (unrun high (front (fixedOf code)) vs 0)) (W ys) refl)
     where
-      go : (x : Bool) (z : Bytes) (m : Made) → W ys ≡ m → coded code (pick x (fronted (s ∷ n ∷ vs) z (W ys)) unmade) ≡ andThen (bodyOf (code ∷ s ∷ n ∷ vs) (pick x z impossible) ys) W
-      go true (bytes b) (made xs′ b′ ys′) e = rw e
-      go true (bytes b) unmade e = rw e
-      go true impossible m e = refl
+      go : (x : Bool) (z : Possible (List ℕ)) (m : Possible Made) → W ys ≡ m → coded code (pick x (fronted (s ∷ n ∷ vs) z (W ys)) cannot) ≡ andThen (bodyOf (code ∷ s ∷ n ∷ vs) (pick x z cannot) ys) W
+      go true (this b) (this (made xs′ b′ ys′)) e = rw e
+      go true (this b) cannot e = rw e
+      go true cannot m e = refl
       go false z m e = refl
 
-module _ (code left : ℕ) (W : List ℕ → Made) where
+module _ (code left : ℕ) (W : List ℕ → Possible Made) where
   tag-leaf : (class : Class) (ns : List ℕ) → contains class ≡ false → coded code (outTag high W left (classBy class code) ns) ≡ begun class (code ∷ ns)
   tag-leaf class [] h = refl
   tag-leaf class (s ∷ []) h = refl
   tag-leaf class (s ∷ n ∷ ns) h = go (leb n (length ns)) refl
     where
-      go : (c : Bool) → leb n (length ns) ≡ c → coded code (pick c (fill high W left (classBy class code) s n (take n ns) (drop n ns)) unmade)
-          ≡ pick c (bodyOf (code ∷ s ∷ n ∷ take n ns) (bodyIn class code s (take n ns)) (drop n ns)) unmade
+      go : (c : Bool) → leb n (length ns) ≡ c → coded code (pick c (fill high W left (classBy class code) s n (take n ns) (drop n ns)) cannot)
+          ≡ pick c (bodyOf (code ∷ s ∷ n ∷ take n ns) (bodyIn class code s (take n ns)) (drop n ns)) cannot
       go true e = fill-leaf code left s n (take n ns) (drop n ns) W (length-take-le n ns (leb-true n (length ns) e)) class h
       go false e = refl
 
@@ -123,46 +125,46 @@ module _ (code left : ℕ) (W : List ℕ → Made) where
   tag-container (s ∷ []) h = refl
   tag-container (s ∷ n ∷ ns) h = go (leb n (length ns)) refl
     where
-      go : (c : Bool) → leb n (length ns) ≡ c → coded code (pick c (fill high W left (holder code) s n (take n ns) (drop n ns)) unmade)
-          ≡ andThen (pick c (bodyOf (code ∷ s ∷ n ∷ take n ns) (bodyIn Container code s (take n ns)) (drop n ns)) unmade) W
+      go : (c : Bool) → leb n (length ns) ≡ c → coded code (pick c (fill high W left (holder code) s n (take n ns) (drop n ns)) cannot)
+          ≡ andThen (pick c (bodyOf (code ∷ s ∷ n ∷ take n ns) (bodyIn Container code s (take n ns)) (drop n ns)) cannot) W
       go true e = fill-container code left s n (take n ns) (drop n ns) W (length-take-le n ns (leb-true n (length ns) e)) h
       go false e = refl
 
-  tag-deep : (ns : List ℕ) → left ≡ 0 → outTag high W left (holder code) ns ≡ unmade
+  tag-deep : (ns : List ℕ) → left ≡ 0 → outTag high W left (holder code) ns ≡ cannot
   tag-deep [] h = refl
   tag-deep (s ∷ []) h = refl
   tag-deep (s ∷ n ∷ ns) h = rw (eq-eqb left 0 h) (go (leb n (length ns)))
     where
-      go : (c : Bool) → pick c unmade unmade ≡ unmade
+      go : (c : Bool) → pick {A = Possible Made} c cannot cannot ≡ cannot
       go true = refl
       go false = refl
 
 -- ---- the list from index k on, put from place a on
 module _ (level : ℕ) where
-  abbrev pub list : ℕ → List ℕ → Made
+  abbrev pub list : ℕ → List ℕ → Possible Made
   list left ns = unwalkList high (classOf level) left ns
 
-  abbrev pub rest : List ℕ → ℕ → List ℕ → ℕ → ℕ → Stood
+  abbrev pub rest : List ℕ → ℕ → List ℕ → ℕ → ℕ → Possible Stood
   rest t left o a k = over o a k (list left (drop k t))
 
   -- what stands in a container: its own values, and its list
-  abbrev pub inner : Class → ℕ → List ℕ → Made
+  abbrev pub inner : Class → ℕ → List ℕ → Possible Made
   inner class left ns = andThen (begun class ns) (list (left - 1))
 
   pub parts-list : (left : ℕ) (ns : List ℕ) → Parts ns (list left ns)
   parts-list left ns = go (list left ns) (list-back high (classOf level) (length ns) left ns (omega arith))
     where
-      go : (m : Made) → ListIf high (classOf level) left ns m → Parts ns m
-      go (made xs b ys) h = h .0
-      go unmade h = tt
+      go : (m : Possible Made) → ListIf high (classOf level) left ns m → Parts ns m
+      go (this (made xs b ys)) h = h .0
+      go cannot h = tt
 
   -- the numbers are used up, and End did not come
-  pub rest-none : (t o : List ℕ) (left a k : ℕ) → length t ≤ k → fell ≡ rest t left o a k
+  pub rest-none : (t o : List ℕ) (left a k : ℕ) → length t ≤ k → cannot ≡ rest t left o a k
   unfolding over
   rest-none t o left a k h = sym (ap (λ (ns : List ℕ). over o a k (list left ns)) (drop-of-length-le t h) ∙ ap (over o a k) (unlist-nil high (classOf level) left))
 
   -- what stands in the tag at index k, by its code
-  within : List ℕ → ℕ → ℕ → ℕ → Made
+  within : List ℕ → ℕ → ℕ → ℕ → Possible Made
   within t left k code = outTag high (list (pred left)) left (classOf level code) (drop (suc k) t)
 
   list-one : (t : List ℕ) (left k code : ℕ) → k < length t → code ≡ getD t k 0 → list left (drop k t) ≡ headed code (isEnd (classOf level code)) (within t left k code) (list left)
@@ -170,7 +172,7 @@ module _ (level : ℕ) where
   list-one t left k code h is =
       ap (list left) (drop-cons t k 0 h ∙ ap (λ (x : ℕ). x ∷ drop (suc k) t) (sym is)) ∙ unlist-one high (classOf level) left code (drop (suc k) t)
 
-  pub turn-high : (t o : List ℕ) (left a k : ℕ) → k < length t → 1023 < getD t k 0 → fell ≡ rest t left o a k
+  pub turn-high : (t o : List ℕ) (left a k : ℕ) → k < length t → 1023 < getD t k 0 → cannot ≡ rest t left o a k
   unfolding over
   turn-high t o left a k h q =
       sym (ap (over o a k) (list-one t left k (getD t k 0) h refl ∙ headed-high (getD t k 0) (isEnd (classOf level (getD t k 0))) (within t left k (getD t k 0)) (list left) q))
@@ -201,15 +203,15 @@ module _ {level : ℕ} {t : List ℕ} {k code : ℕ} {class : Class} (g : Tag le
   more e = one ∙ rw e (headed-then code (within level t left k code) (list level left))
 
   -- a tag that was put whole, and the rest of the list
-  then-rest : (m : Made) → ends class ≡ false → coded code (within level t left k code) ≡ m → Parts (drop k t) m → {x : Stood} → x ≡ over o a k (shut code m)
+  then-rest : (m : Possible Made) → ends class ≡ false → coded code (within level t left k code) ≡ m → Parts (drop k t) m → {x : Possible Stood} → x ≡ over o a k (shut code m)
       → rest level t left o a k ≡ again (list level left) t x
   then-rest m e is q put =
-      ap (over o a k) (more e ∙ ap (λ (m : Made). andThen (shut code m) (list level left)) is)
+      ap (over o a k) (more e ∙ ap (λ (m : Possible Made). andThen (shut code m) (list level left)) is)
       ∙ over-then t o a k (shut code m) (list level left) (parts-shut (drop k t) code m q)
       ∙ ap (again (list level left) t) (sym put)
 
   -- its place and its index
-  pub tag-index : (m : Made) → Parts (drop k t) m → (u : List ℕ) (p j : ℕ) → stood u p j ≡ over o a k (shut code m) → (j ≤ length t) × (a + 2 ≤ p) × (p ≤ longest)
+  pub tag-index : (m : Possible Made) → Parts (drop k t) m → (u : List ℕ) (p j : ℕ) → this (stood u p j) ≡ over o a k (shut code m) → (j ≤ length t) × (a + 2 ≤ p) × (p ≤ longest)
   tag-index m q u p j e =
       let h : k < length t = g .there in
       let x = stood-index t o a k u p j (shut code m) (omega arith) (parts-shut (drop k t) code m q) e in
@@ -222,16 +224,16 @@ module _ {level : ℕ} {t : List ℕ} {k code : ℕ} {class : Class} (g : Tag le
     unfolding within
     leaf-is = rw class-is (tag-leaf code left (list level (pred left)) class (drop (suc k) t) leaf) ∙ ap (begun class) (sym cons)
 
-    pub leaf-last : ends class ≡ true → {x : Stood} → x ≡ over o a k (shut code (begun class (drop k t))) → x ≡ rest level t left o a k
+    pub leaf-last : ends class ≡ true → {x : Possible Stood} → x ≡ over o a k (shut code (begun class (drop k t))) → x ≡ rest level t left o a k
     leaf-last e put = put ∙ sym (ap (over o a k) (last e ∙ ap (shut code) leaf-is))
 
-    pub leaf-more : ends class ≡ false → {x : Stood} → x ≡ over o a k (shut code (begun class (drop k t))) → rest level t left o a k ≡ again (list level left) t x
+    pub leaf-more : ends class ≡ false → {x : Possible Stood} → x ≡ over o a k (shut code (begun class (drop k t))) → rest level t left o a k ≡ again (list level left) t x
     leaf-more e put = then-rest (begun class (drop k t)) e leaf-is (parts-begun class (drop k t)) put
 
-    pub leaf-fell : fell ≡ over o a k (shut code (begun class (drop k t))) → fell ≡ rest level t left o a k
+    pub leaf-fell : cannot ≡ over o a k (shut code (begun class (drop k t))) → cannot ≡ rest level t left o a k
     leaf-fell put = go (ends class) refl
       where
-        go : (c : Bool) → ends class ≡ c → fell ≡ rest level t left o a k
+        go : (c : Bool) → ends class ≡ c → cannot ≡ rest level t left o a k
         go true e = leaf-last e put
         go false e = sym (leaf-more e put)
 
@@ -250,11 +252,11 @@ module _ {level : ℕ} {t : List ℕ} {k code : ℕ} {class : Class} (g : Tag le
     holder-is : classOf level code ≡ holder code
     holder-is = class-is ∙ ap (λ (c : Class). classBy c code) container-is
 
-    pub held-deep : left ≡ 0 → fell ≡ rest level t left o a k
+    pub held-deep : left ≡ 0 → cannot ≡ rest level t left o a k
     unfolding over within
     held-deep z =
-        let e : within level t left k code ≡ unmade = rw holder-is (tag-deep code left (list level (pred left)) (drop (suc k) t) z) in
-        sym (ap (over o a k) (more (ap ends container-is) ∙ ap (λ (m : Made). andThen (shut code (coded code m)) (list level left)) e))
+        let e : within level t left k code ≡ cannot = rw holder-is (tag-deep code left (list level (pred left)) (drop (suc k) t) z) in
+        sym (ap (over o a k) (more (ap ends container-is) ∙ ap (λ (m : Possible Made). andThen (shut code (coded code m)) (list level left)) e))
 
     module _ (some : left ≡ 0 → ⊥) where
       pub parts-inner : Parts (drop k t) (inner level class left (drop k t))
@@ -272,7 +274,7 @@ module _ {level : ℕ} {t : List ℕ} {k code : ℕ} {class : Class} (g : Tag le
           below (suc n) z = omega arith
 
       -- its own values, and from there its list
-      pub held-list : {y x : Stood} → y ≡ over o (a + 2) k (begun class (drop k t)) → x ≡ again (list level (left - 1)) t y → x ≡ over o (a + 2) k (inner level class left (drop k t))
+      pub held-list : {y x : Possible Stood} → y ≡ over o (a + 2) k (begun class (drop k t)) → x ≡ again (list level (left - 1)) t y → x ≡ over o (a + 2) k (inner level class left (drop k t))
       held-list put e =
           e ∙ ap (again (list level (left - 1)) t) put ∙ sym (over-then t o (a + 2) k (begun class (drop k t)) (list level (left - 1)) (parts-begun class (drop k t)))
 
@@ -280,8 +282,8 @@ module _ {level : ℕ} {t : List ℕ} {k code : ℕ} {class : Class} (g : Tag le
       pub held-shut : (l : List ℕ) (W : Wrote) → stoodAs l W ≡ over o (a + 2) k (inner level class left (drop k t)) → shutAs l a code W ≡ over o a k (shut code (inner level class left (drop k t)))
       held-shut l W e = shut-over o l a k code W (inner level class left (drop k t)) (g .low) e
 
-      pub held-more : {x : Stood} → x ≡ over o a k (shut code (inner level class left (drop k t))) → rest level t left o a k ≡ again (list level left) t x
+      pub held-more : {x : Possible Stood} → x ≡ over o a k (shut code (inner level class left (drop k t))) → rest level t left o a k ≡ again (list level left) t x
       held-more put = then-rest (inner level class left (drop k t)) (ap ends container-is) inner-is parts-inner put
 
-      pub held-fell : fell ≡ over o (a + 2) k (begun class (drop k t)) → fell ≡ rest level t left o a k
+      pub held-fell : cannot ≡ over o (a + 2) k (begun class (drop k t)) → cannot ≡ rest level t left o a k
       held-fell put = sym (held-more (held-shut o Impossible (held-list put refl)))

@@ -9,38 +9,43 @@ use borrow.Author.Tests.{leb-false, le-leb, lt-leb, lt-ltb, eq-eqb, ne-eqb}
 use lib.ListN.{length, getD, take, drop, length-append, length-drop, take-append-drop}
 use lib.Seq.{sets, length-sets, drop-cons, length-take-le}
 use Rattle.format.specs.Tests.{pick}
-use Rattle.format.specs.WritingBodies.{Bytes, bytes, impossible}
-use Rattle.format.specs.WritingFiles.{Made, made, unmade, bodyOf, spell16, spell32, spellHead, fitsHead}
+use Rattle.format.specs.Possible.{Possible, this, cannot}
+use Rattle.format.specs.WritingFiles.{Made, made, bodyOf, spell16, spell32, spellHead, fitsHead}
+use Rattle.format.proofs.Absurd.{clash}
 use Rattle.classes.specs.declared.Class.{Class}
 use Rattle.tags.specs.Shown.{stateOf}
 use Rattle.table.proofs.EngineLaws.{sets-append}
 use Rattle.sink.specs.declared.Body.{Body}
 use Rattle.sink.specs.declared.Body.the-variants.{To, No}
-use Rattle.sink.specs.Lain.{longest, lain, unlain, lies, lainAs}
+use Rattle.bits.specs.declared.BytePlace.{BytePlace}
+use Rattle.sink.specs.Lain.{longest, lain, lies, lainAs}
 use Rattle.write_heads.specs.Heads.{underHead, Closed}
 use Rattle.write_heads.proofs.StoreLaws.{sets-taken, sets-cover}
 use Rattle.write_lists.specs.declared.Wrote.{Wrote}
 use Rattle.write_lists.specs.declared.Wrote.the-variants.{Done, Impossible}
-use Rattle.write_lists.specs.Stood.{stood, fell, over, stoodAs}
+use Rattle.write_lists.specs.Stood.{stood, over, stoodAs}
 use Rattle.write_lists.specs.Tags.{valuesIn, bodyIn, begun, shut, headAt, shutAs, After}
 use Rattle.write_lists.proofs.StoodLaws.{StoodBy, stood-by, Parts}
 
 -- no tag starts after the longest file's end
-pub over-late : (o : List ℕ) (a k : ℕ) (m : Made) → longest < a → fell ≡ over o a k m
+pub over-late : (o : List ℕ) (a k : ℕ) (m : Possible Made) → longest < a → cannot ≡ over o a k m
 unfolding over
-over-late o a k unmade h = refl
-over-late o a k (made xs b ys) h = rw (lt-leb (a + length b) longest (omega arith))
+over-late o a k cannot h = refl
+over-late o a k (this (made xs b ys)) h = rw (lt-leb (a + length b) longest (omega arith))
 
 -- ---- the header, from the answer of `close`
-module _ (l : List ℕ) (a code stop j : ℕ) {W : Wrote} (told : W ≡ Done stop j) where
+module _ (l : List ℕ) (a code : ℕ) (end : BytePlace) (j : ℕ) {W : Wrote} (told : W ≡ Done end j) where
+  abbrev stop : ℕ
+  stop = end .0
+
   pub shut-from : After a W → (a + 2 ≤ stop) × (stop ≤ longest)
   shut-from h = rw told at h
 
-  pub shut-late : {u : List ℕ} {next : ℕ} → Closed l a code (stop - (a + 2)) u next → longest < next → fell ≡ shutAs l a code W
+  pub shut-late : {u : List ℕ} {next : ℕ} → Closed l a code (stop - (a + 2)) u next → longest < next → cannot ≡ shutAs l a code W
   shut-late {u} {next} c h =
       sym (ap (shutAs l a code) told ∙ rw (lt-leb (a + length (spellHead code (stop - (a + 2))) + (stop - (a + 2))) longest (rw (← c .place) h)))
 
-  pub shut-done : {u : List ℕ} {next : ℕ} → Closed l a code (stop - (a + 2)) u next → next ≤ longest → stood u next j ≡ shutAs l a code W
+  pub shut-done : {u : List ℕ} {next : ℕ} → Closed l a code (stop - (a + 2)) u next → next ≤ longest → this (stood u next j) ≡ shutAs l a code W
   shut-done {u} {next} c h =
       sym (ap (shutAs l a code) told ∙ rw (le-leb (a + length (spellHead code (stop - (a + 2))) + (stop - (a + 2))) longest (rw (← c .place) h), ← c .put, ← c .place))
 
@@ -63,7 +68,7 @@ under-head o b a code =
 
 -- over o, from its bytes
 head-over : (o : List ℕ) (a k code : ℕ) (xs b ys : List ℕ) → code < 1024 → a + 2 + length b ≤ longest
-    → headAt (sets o (a + 2) b) a code (length b) (k + length xs) ≡ over o a k (shut code (made xs b ys))
+    → headAt (sets o (a + 2) b) a code (length b) (k + length xs) ≡ over o a k (shut code (this (made xs b ys)))
 unfolding over
 head-over o a k code xs b ys h g =
     let q : a + length (spellHead code (length b)) + length b ≡ a + length (spellHead code (length b) ++ b) = rw length-append (omega arith) in
@@ -71,51 +76,51 @@ head-over o a k code xs b ys h g =
     rw (under-head o b a code, q, lt-ltb code 1024 h, f)
 
 -- THE law of the header: what stands two bytes after a gets it
-pub shut-over : (o l : List ℕ) (a k code : ℕ) (W : Wrote) (m : Made) → code < 1024 → stoodAs l W ≡ over o (a + 2) k m → shutAs l a code W ≡ over o a k (shut code m)
+pub shut-over : (o l : List ℕ) (a k code : ℕ) (W : Wrote) (m : Possible Made) → code < 1024 → stoodAs l W ≡ over o (a + 2) k m → shutAs l a code W ≡ over o a k (shut code m)
 unfolding over
-shut-over o l a k code Impossible unmade h e = refl
-shut-over o l a k code Impossible (made xs b ys) h e = go (leb (a + 2 + length b) longest) refl e (fitsHead code (length b))
+shut-over o l a k code Impossible cannot h e = refl
+shut-over o l a k code Impossible (this (made xs b ys)) h e = go (leb (a + 2 + length b) longest) refl e (fitsHead code (length b))
   where
-    go : (c : Bool) → leb (a + 2 + length b) longest ≡ c → fell ≡ pick c (stood (sets o (a + 2) b) (a + 2 + length b) (k + length xs)) fell
-        → (f : Bool) → fell ≡ over o a k (pick f (made xs (spellHead code (length b) ++ b) ys) unmade)
-    go true q w f = absurd (let z : _≡_ {A = ℕ} 0 1 = cc in omega arith)
+    go : (c : Bool) → leb (a + 2 + length b) longest ≡ c → cannot ≡ pick c (this (stood (sets o (a + 2) b) (a + 2 + length b) (k + length xs))) cannot
+        → (f : Bool) → cannot ≡ over o a k (pick f (this (made xs (spellHead code (length b) ++ b) ys)) cannot)
+    go true q w f = clash cc
     go false q w false = refl
     go false q w true =
         rw (lt-leb (a + length (spellHead code (length b) ++ b)) longest (rw length-append (omega (arith, leb-false (a + 2 + length b) longest q, head-two code (length b)))))
 shut-over o l a k code (Done p j) m h e =
-    let s : StoodBy o (a + 2) k l p j m = stood-by o (a + 2) k l p j m e in
-    let n : p - (a + 2) ≡ length (s .b) = omega (arith, s .place) in
-    ap (λ (x : List ℕ). headAt x a code (p - (a + 2)) j) (s .out)
+    let s : StoodBy o (a + 2) k l (p .0) j m = stood-by o (a + 2) k l (p .0) j m e in
+    let n : p .0 - (a + 2) ≡ length (s .b) = omega (arith, s .place) in
+    ap (λ (x : List ℕ). headAt x a code (p .0 - (a + 2)) j) (s .out)
     ∙ ap₂ (λ (x y : ℕ). headAt (sets o (a + 2) (s .b)) a code x y) n (s .index)
     ∙ head-over o a k code (s .xs) (s .b) (s .ys) h (omega (arith, s .place, s .small))
-    ∙ sym (ap (λ (x : Made). over o a k (shut code x)) (s .is))
+    ∙ sym (ap (λ (x : Possible Made). over o a k (shut code x)) (s .is))
 
 -- what the header's code asks for
-pub shut-after : (o l : List ℕ) (a k : ℕ) (W : Wrote) (m : Made) → stoodAs l W ≡ over o (a + 2) k m → After a W
+pub shut-after : (o l : List ℕ) (a k : ℕ) (W : Wrote) (m : Possible Made) → stoodAs l W ≡ over o (a + 2) k m → After a W
 shut-after o l a k Impossible m e = tt
-shut-after o l a k (Done p j) m e = let s = stood-by o (a + 2) k l p j m e in (omega (arith, s .place), s .small)
+shut-after o l a k (Done p j) m e = let s = stood-by o (a + 2) k l (p .0) j m e in (omega (arith, s .place), s .small)
 
 -- a whole tag takes two bytes at least
-pub shut-place : (o u : List ℕ) (a k code p j : ℕ) (m : Made) → stood u p j ≡ over o a k (shut code m) → (a + 2 ≤ p) × (p ≤ longest)
+pub shut-place : (o u : List ℕ) (a k code p j : ℕ) (m : Possible Made) → this (stood u p j) ≡ over o a k (shut code m) → (a + 2 ≤ p) × (p ≤ longest)
 unfolding over
-shut-place o u a k code p j unmade e = absurd (let z : _≡_ {A = ℕ} 0 1 = cc in omega arith)
-shut-place o u a k code p j (made xs b ys) e = go (fitsHead code (length b)) e
+shut-place o u a k code p j cannot e = clash cc
+shut-place o u a k code p j (this (made xs b ys)) e = go (fitsHead code (length b)) e
   where
-    go : (c : Bool) → stood u p j ≡ over o a k (pick c (made xs (spellHead code (length b) ++ b) ys) unmade) → (a + 2 ≤ p) × (p ≤ longest)
-    go false w = absurd (let z : _≡_ {A = ℕ} 0 1 = cc in omega arith)
+    go : (c : Bool) → this (stood u p j) ≡ over o a k (pick c (this (made xs (spellHead code (length b) ++ b) ys)) cannot) → (a + 2 ≤ p) × (p ≤ longest)
+    go false w = clash cc
     go true w =
-        let s = stood-by o a k u p j (made xs (spellHead code (length b) ++ b) ys) w in
+        let s = stood-by o a k u p j (this (made xs (spellHead code (length b) ++ b) ys)) w in
         let d : spellHead code (length b) ++ b ≡ s .b = go′ (s .xs) (s .b) (s .ys) (s .is) in
         (omega (arith, s .place, ap length d, length-append (spellHead code (length b)) b, head-two code (length b)), s .small)
       where
-        go′ : (xs′ b′ ys′ : List ℕ) → made xs (spellHead code (length b) ++ b) ys ≡ made xs′ b′ ys′ → spellHead code (length b) ++ b ≡ b′
+        go′ : (xs′ b′ ys′ : List ℕ) → this (made xs (spellHead code (length b) ++ b) ys) ≡ this (made xs′ b′ ys′) → spellHead code (length b) ++ b ≡ b′
         go′ xs′ b′ ys′ z = cc
 
-pub parts-shut : (ns : List ℕ) (code : ℕ) (m : Made) → Parts ns m → Parts ns (shut code m)
-parts-shut ns code unmade h = tt
-parts-shut ns code (made xs b ys) h = go (fitsHead code (length b))
+pub parts-shut : (ns : List ℕ) (code : ℕ) (m : Possible Made) → Parts ns m → Parts ns (shut code m)
+parts-shut ns code cannot h = tt
+parts-shut ns code (this (made xs b ys)) h = go (fitsHead code (length b))
   where
-    go : (c : Bool) → Parts ns (pick c (made xs (spellHead code (length b) ++ b) ys) unmade)
+    go : (c : Bool) → Parts ns (pick c (this (made xs (spellHead code (length b) ++ b) ys)) cannot)
     go true = h
     go false = tt
 
@@ -127,17 +132,17 @@ parts-begun class (code ∷ []) = tt
 parts-begun class (code ∷ s ∷ []) = tt
 parts-begun class (code ∷ s ∷ n ∷ ns) = go (leb n (length ns)) (bodyIn class code s (take n ns))
   where
-    go : (c : Bool) (z : Bytes) → Parts (code ∷ s ∷ n ∷ ns) (pick c (bodyOf (code ∷ s ∷ n ∷ take n ns) z (drop n ns)) unmade)
-    go true (bytes b) = ap (λ (l : List ℕ). code ∷ s ∷ n ∷ l) (sym (take-append-drop n ns))
-    go true impossible = tt
+    go : (c : Bool) (z : Possible (List ℕ)) → Parts (code ∷ s ∷ n ∷ ns) (pick c (bodyOf (code ∷ s ∷ n ∷ take n ns) z (drop n ns)) cannot)
+    go true (this b) = ap (λ (l : List ℕ). code ∷ s ∷ n ∷ l) (sym (take-append-drop n ns))
+    go true cannot = tt
     go false z = tt
 
 module _ (class : Class) (t : List ℕ) (k : ℕ) (o : List ℕ) (b : ℕ) where
-  pub begun-few : length t - k < 3 → fell ≡ over o b k (begun class (drop k t))
+  pub begun-few : length t - k < 3 → cannot ≡ over o b k (begun class (drop k t))
   unfolding over
   begun-few h = go (drop k t) (rw length-drop h)
     where
-      go : (ns : List ℕ) → length ns < 3 → fell ≡ over o b k (begun class ns)
+      go : (ns : List ℕ) → length ns < 3 → cannot ≡ over o b k (begun class ns)
       go [] e = refl
       go (x ∷ []) e = refl
       go (x ∷ y ∷ []) e = refl
@@ -154,7 +159,7 @@ module _ (class : Class) (t : List ℕ) (k : ℕ) (o : List ℕ) (b : ℕ) where
         ∙ ap (λ (l : List ℕ). getD t k 0 ∷ l)
         (drop-cons t (suc k) 0 (omega arith) ∙ ap (λ (l : List ℕ). getD t (suc k) 0 ∷ l) (drop-cons t (suc (suc k)) 0 (omega arith))))
 
-    pub begun-cut : length t - k - 3 < getD t (k + 2) 0 → fell ≡ over o b k (begun class (drop k t))
+    pub begun-cut : length t - k - 3 < getD t (k + 2) 0 → cannot ≡ over o b k (begun class (drop k t))
     unfolding over
     begun-cut l = rw (three, lt-leb (getD t (k + 2) 0) (length (drop (k + 3) t)) (omega (arith, length-drop (k + 3) t)))
 
@@ -167,7 +172,7 @@ module _ (class : Class) (t : List ℕ) (k : ℕ) (o : List ℕ) (b : ℕ) where
       unfolding vs
       begun-is = rw (three, le-leb (getD t (k + 2) 0) (length (drop (k + 3) t)) (omega (arith, length-drop (k + 3) t)))
 
-      pub begun-state : (getD t (k + 1) 0 ≡ stateOf class → ⊥) → fell ≡ over o b k (begun class (drop k t))
+      pub begun-state : (getD t (k + 1) 0 ≡ stateOf class → ⊥) → cannot ≡ over o b k (begun class (drop k t))
       unfolding over
       begun-state h = sym (ap (over o b k) begun-is ∙ rw (ne-eqb (getD t (k + 1) 0) (stateOf class) h))
 
@@ -184,31 +189,31 @@ module _ (class : Class) (t : List ℕ) (k : ℕ) (o : List ℕ) (b : ℕ) where
 
         is : over o b k (begun class (drop k t))
             ≡ over o b k (bodyOf (code ∷ getD t (k + 1) 0 ∷ getD t (k + 2) 0 ∷ vs) (valuesIn class code v) (drop (getD t (k + 2) 0) (drop (k + 3) t)))
-        is = ap (over o b k) begun-is ∙ ap (λ (z : Bytes). over o b k (bodyOf (code ∷ getD t (k + 1) 0 ∷ getD t (k + 2) 0 ∷ vs) z (drop (getD t (k + 2) 0) (drop (k + 3) t)))) body-is
+        is = ap (over o b k) begun-is ∙ ap (λ (z : Possible (List ℕ)). over o b k (bodyOf (code ∷ getD t (k + 1) 0 ∷ getD t (k + 2) 0 ∷ vs) z (drop (getD t (k + 2) 0) (drop (k + 3) t)))) body-is
 
-        pub begun-to : {p : ℕ} → R ≡ To p → stood u p (k + 3 + getD t (k + 2) 0) ≡ over o b k (begun class (drop k t))
+        pub begun-to : {end : BytePlace} → R ≡ To end → this (stood u (end .0) (k + 3 + getD t (k + 2) 0)) ≡ over o b k (begun class (drop k t))
         unfolding over lies
-        begun-to {p} d = sym (is ∙ go (valuesIn class code v) (ap (lainAs u) (sym d) ∙ put))
+        begun-to {end} d = sym (is ∙ go (valuesIn class code v) (ap (lainAs u) (sym d) ∙ put))
           where
-            go : (z : Bytes) → lain u p ≡ lies o b z
-                → over o b k (bodyOf (code ∷ getD t (k + 1) 0 ∷ getD t (k + 2) 0 ∷ vs) z (drop (getD t (k + 2) 0) (drop (k + 3) t))) ≡ stood u p (k + 3 + getD t (k + 2) 0)
-            go impossible q = absurd (let z : _≡_ {A = ℕ} 0 1 = cc in omega arith)
-            go (bytes bs) q = lim (leb (b + length bs) longest) q
+            go : (z : Possible (List ℕ)) → this (lain u (end .0)) ≡ lies o b z
+                → over o b k (bodyOf (code ∷ getD t (k + 1) 0 ∷ getD t (k + 2) 0 ∷ vs) z (drop (getD t (k + 2) 0) (drop (k + 3) t))) ≡ this (stood u (end .0) (k + 3 + getD t (k + 2) 0))
+            go cannot q = clash cc
+            go (this bs) q = lim (leb (b + length bs) longest) q
               where
-                lim : (c : Bool) → lain u p ≡ pick c (lain (sets o b bs) (b + length bs)) unlain
-                    → pick c (stood (sets o b bs) (b + length bs) (k + length (code ∷ getD t (k + 1) 0 ∷ getD t (k + 2) 0 ∷ vs))) fell ≡ stood u p (k + 3 + getD t (k + 2) 0)
-                lim true w = let x : u ≡ sets o b bs = cc in let y : p ≡ b + length bs = cc in rw (x, y, used)
-                lim false w = absurd (let z : _≡_ {A = ℕ} 0 1 = cc in omega arith)
+                lim : (c : Bool) → this (lain u (end .0)) ≡ pick c (this (lain (sets o b bs) (b + length bs))) cannot
+                    → pick c (this (stood (sets o b bs) (b + length bs) (k + length (code ∷ getD t (k + 1) 0 ∷ getD t (k + 2) 0 ∷ vs)))) cannot ≡ this (stood u (end .0) (k + 3 + getD t (k + 2) 0))
+                lim true w = let x : u ≡ sets o b bs = cc in let y : end .0 ≡ b + length bs = cc in rw (x, y, used)
+                lim false w = clash cc
 
-        pub begun-no : R ≡ No → fell ≡ over o b k (begun class (drop k t))
+        pub begun-no : R ≡ No → cannot ≡ over o b k (begun class (drop k t))
         unfolding over lies
         begun-no d = sym (is ∙ go (valuesIn class code v) (ap (lainAs u) (sym d) ∙ put))
           where
-            go : (z : Bytes) → unlain ≡ lies o b z → over o b k (bodyOf (code ∷ getD t (k + 1) 0 ∷ getD t (k + 2) 0 ∷ vs) z (drop (getD t (k + 2) 0) (drop (k + 3) t))) ≡ fell
-            go impossible q = refl
-            go (bytes bs) q = lim (leb (b + length bs) longest) q
+            go : (z : Possible (List ℕ)) → cannot ≡ lies o b z → over o b k (bodyOf (code ∷ getD t (k + 1) 0 ∷ getD t (k + 2) 0 ∷ vs) z (drop (getD t (k + 2) 0) (drop (k + 3) t))) ≡ cannot
+            go cannot q = refl
+            go (this bs) q = lim (leb (b + length bs) longest) q
               where
-                lim : (c : Bool) → unlain ≡ pick c (lain (sets o b bs) (b + length bs)) unlain
-                    → pick c (stood (sets o b bs) (b + length bs) (k + length (code ∷ getD t (k + 1) 0 ∷ getD t (k + 2) 0 ∷ vs))) fell ≡ fell
-                lim true w = absurd (let z : _≡_ {A = ℕ} 0 1 = cc in omega arith)
+                lim : (c : Bool) → cannot ≡ pick c (this (lain (sets o b bs) (b + length bs))) cannot
+                    → pick c (this (stood (sets o b bs) (b + length bs) (k + length (code ∷ getD t (k + 1) 0 ∷ getD t (k + 2) 0 ∷ vs)))) cannot ≡ cannot
+                lim true w = clash cc
                 lim false w = refl

@@ -11,11 +11,12 @@ use borrow.Author.Tests.{le-leb, lt-leb, lt-ltb, le-ltb, eq-eqb, ne-eqb, ltb-tru
 use lib.ListN.{length, getD, set, take, drop, length-take, length-drop, take-append-drop, drop-of-length-le}
 use lib.Seq.{sets, sets-eq, length-sets, drop-cons, drop-drop, take-all, length-take-le}
 use Rattle.format.specs.Tests.{pick}
-use Rattle.format.specs.WritingBodies.{bytes, impossible}
+use Rattle.format.specs.Possible.{Possible, this, cannot}
 use Rattle.format.specs.WritingFiles.{allBytes}
+use Rattle.format.proofs.Absurd.{clash}
 use Rattle.classes.specs.declared.Class.{Class}
 use Rattle.classes.specs.declared.Class.the-variants.{End}
-use Rattle.sink.specs.Lain.{longest, Lain, lain, unlain, lies}
+use Rattle.sink.specs.Lain.{longest, Lain, lain, lies}
 use Rattle.table.proofs.EngineLaws.{sets-append}
 use Rattle.bits.proofs.StoreLaws.{sets-out}
 use Rattle.write_lists.specs.Tags.{asBytes, LaidAs, valuesIn}
@@ -52,11 +53,11 @@ bytes-split (suc m) (x ∷ xs) = go (ltb x 256) (bytes-split m xs)
     go false e = refl
 
 module _ (o : List ℕ) (b : ℕ) (vs : List ℕ) where
-  pub copy-long : b ≤ longest → longest - b < length vs → unlain ≡ lies o b (asBytes vs)
+  pub copy-long : b ≤ longest → longest - b < length vs → cannot ≡ lies o b (asBytes vs)
   unfolding lies
   copy-long h l = go (allBytes vs)
     where
-      go : (c : Bool) → unlain ≡ lies o b (pick c (bytes vs) impossible)
+      go : (c : Bool) → cannot ≡ lies o b (pick c (this vs) cannot)
       go true = rw (lt-leb (b + length vs) longest (omega arith))
       go false = refl
 
@@ -70,7 +71,7 @@ module _ (o : List ℕ) (b : ℕ) (vs : List ℕ) where
   -- the part p of the output that was lent, back in its place
   pub front-some : (m k j : ℕ) (r : Bool) (p : List ℕ) {u : List ℕ} → k ≡ m → j ≡ m → 0 < m → m ≡ min (length vs) (length o - b) → not r ≡ false → LaidAs r (take j vs) p
       → u ≡ take b o ++ (p ++ drop k (drop b o)) → Front m u
-  front-some m k j false p d e z h n l q = absurd (let x : _≡_ {A = ℕ} 0 1 = cc in omega arith)
+  front-some m k j false p d e z h n l q = clash cc
   front-some m k j true p d e z h n l q =
       let f : p ≡ take m vs = l .1 ∙ ap (λ (x : ℕ). take x vs) e in
       let len : length (take m vs) ≡ m = length-take-le m vs (omega arith) in
@@ -81,16 +82,16 @@ module _ (o : List ℕ) (b : ℕ) (vs : List ℕ) where
   pub front-length : (m : ℕ) {u : List ℕ} → Front m u → length u ≡ length o
   front-length m f = ap length (f .1) ∙ length-sets o b (take m vs)
 
-  pub copy-bad : (j : ℕ) (r : Bool) (p : List ℕ) → not r ≡ true → LaidAs r (take j vs) p → unlain ≡ lies o b (asBytes vs)
+  pub copy-bad : (j : ℕ) (r : Bool) (p : List ℕ) → not r ≡ true → LaidAs r (take j vs) p → cannot ≡ lies o b (asBytes vs)
   unfolding lies
-  copy-bad j true p n l = absurd (let x : _≡_ {A = ℕ} 0 1 = cc in omega arith)
+  copy-bad j true p n l = clash cc
   copy-bad j false p n l = rw (bytes-split j vs, l)
 
   -- the others, as a part of the slice up to its end
   after-front : (m : ℕ) {u : List ℕ} {r : Bool} → Front m u → r ≡ allBytes (take (length vs - m) (drop m vs)) → allBytes vs ≡ r
   after-front m f e = bytes-split m vs ∙ rw (f .0) (ap allBytes (sym (take-all (length vs - m) (drop m vs) (rw length-drop (omega arith)))) ∙ sym e)
 
-  pub copy-bad-after : (m : ℕ) {u : List ℕ} {r : Bool} → Front m u → r ≡ allBytes (take (length vs - m) (drop m vs)) → r ≡ false → unlain ≡ lies o b (asBytes vs)
+  pub copy-bad-after : (m : ℕ) {u : List ℕ} {r : Bool} → Front m u → r ≡ allBytes (take (length vs - m) (drop m vs)) → r ≡ false → cannot ≡ lies o b (asBytes vs)
   unfolding lies
   copy-bad-after m f e q = rw (after-front m f e, q)
 
@@ -106,20 +107,20 @@ module _ (o : List ℕ) (b : ℕ) (vs : List ℕ) where
       go false q = ap (sets o b) (sym (take-all m vs (ltb-false m (length vs) q)))
 
   pub copy-done : (m : ℕ) {u : List ℕ} {r : Bool} → m ≡ min (length vs) (length o - b) → b ≤ longest → length vs ≤ longest - b → Front m u
-      → r ≡ allBytes (take (length vs - m) (drop m vs)) → r ≡ true → lain u (b + length vs) ≡ lies o b (asBytes vs)
+      → r ≡ allBytes (take (length vs - m) (drop m vs)) → r ≡ true → this (lain u (b + length vs)) ≡ lies o b (asBytes vs)
   unfolding lies
   copy-done m {u} e h l f g q =
       let s : u ≡ sets o b vs = f .1 ∙ sym (sets-room m e) in
       rw (after-front m f g, q, le-leb (b + length vs) longest (omega arith), s)
 
   -- ---- by the class that a `match` tells
-  pub values-of : (code : ℕ) {class : Class} {x : Lain} (told : Class) → class ≡ told → x ≡ lies o b (valuesIn told code vs) → x ≡ lies o b (valuesIn class code vs)
+  pub values-of : (code : ℕ) {class : Class} {x : Possible Lain} (told : Class) → class ≡ told → x ≡ lies o b (valuesIn told code vs) → x ≡ lies o b (valuesIn class code vs)
   values-of code told e f = f ∙ ap (λ (z : Class). lies o b (valuesIn z code vs)) (sym e)
 
-  pub end-none : (code : ℕ) → b ≤ longest → length vs ≡ 0 → lain o b ≡ lies o b (valuesIn End code vs)
+  pub end-none : (code : ℕ) → b ≤ longest → length vs ≡ 0 → this (lain o b) ≡ lies o b (valuesIn End code vs)
   unfolding lies
-  end-none code h e = rw (eq-eqb (length vs) 0 e, le-leb (b + 0) longest (omega arith)) (ap (lain o) (sym (add-zero b)))
+  end-none code h e = rw (eq-eqb (length vs) 0 e, le-leb (b + 0) longest (omega arith)) (ap (λ (x : ℕ). this (lain o x)) (sym (add-zero b)))
 
-  pub end-some : (code : ℕ) → (length vs ≡ 0 → ⊥) → unlain ≡ lies o b (valuesIn End code vs)
+  pub end-some : (code : ℕ) → (length vs ≡ 0 → ⊥) → cannot ≡ lies o b (valuesIn End code vs)
   unfolding lies
   end-some code e = rw (ne-eqb (length vs) 0 e)

@@ -5,7 +5,8 @@ use lib.Dec.{leb}
 use lib.ListN.{length}
 use lib.Seq.{sets}
 use Rattle.format.specs.Tests.{pick}
-use Rattle.format.specs.WritingFiles.{Made, made, unmade}
+use Rattle.format.specs.Possible.{Possible, this, cannot}
+use Rattle.format.specs.WritingFiles.{Made, made}
 use Rattle.sink.specs.Lain.{longest}
 use Rattle.write_lists.specs.declared.Wrote.{Wrote}
 use Rattle.write_lists.specs.declared.Wrote.the-variants.{Done, Impossible}
@@ -13,13 +14,12 @@ use Rattle.write_lists.specs.declared.Wrote.the-variants.{Done, Impossib
 -- the output, the next byte place and the index of the next number; where no file has the tags, nothing is said of the output
 pub data Stood : Type 0 where
   stood : List ℕ → ℕ → ℕ → Stood
-  fell : Stood
 
 -- tags put over the output o from place a on, their numbers from index k on; no file ends after `longest`
-unfoldable pub over : List ℕ → ℕ → ℕ → Made → Stood
-over o a k (made xs b ys) = pick (leb (a + length b) longest) (stood (sets o a b) (a + length b) (k + length xs)) fell
-over o a k unmade = fell
+unfoldable pub over : List ℕ → ℕ → ℕ → Possible Made → Possible Stood
+over o a k (this (made xs b ys)) = pick (leb (a + length b) longest) (this (stood (sets o a b) (a + length b) (k + length xs))) cannot
+over o a k cannot = cannot
 
-abbrev pub stoodAs : List ℕ → Wrote → Stood
-stoodAs o (Done a k) = stood o a k
-stoodAs o Impossible = fell
+abbrev pub stoodAs : List ℕ → Wrote → Possible Stood
+stoodAs o (Done a k) = this (stood o (a .0) k)
+stoodAs o Impossible = cannot

@@ -9,8 +9,9 @@ use Rattle.format.specs.Tests.{pick}
 use Rattle.format.specs.Bits.{high}
 use Rattle.format.specs.FileAndTags.{front}
 use Rattle.format.specs.WritingFormats.{unrun}
-use Rattle.format.specs.WritingBodies.{Bytes, bytes, impossible, packed, writeBody}
-use Rattle.format.specs.WritingFiles.{Made, made, unmade, allBytes, bodyOf, fitsHead, spellHead}
+use Rattle.format.specs.Possible.{Possible, this, cannot}
+use Rattle.format.specs.WritingBodies.{packed, writeBody}
+use Rattle.format.specs.WritingFiles.{Made, made, allBytes, bodyOf, fitsHead, spellHead}
 use Rattle.classes.specs.declared.Class.{Class}
 use Rattle.classes.specs.declared.Class.the-variants.{Opaque, End, Container, Fixed, Attributes}
 use Rattle.fixed.specs.Fixed.{fixedOf}
@@ -20,11 +21,11 @@ use Rattle.sink.specs.Lain.{longest}
 use Rattle.write_heads.specs.Heads.{underHead}
 use Rattle.write_lists.specs.declared.Wrote.{Wrote}
 use Rattle.write_lists.specs.declared.Wrote.the-variants.{Done, Impossible}
-use Rattle.write_lists.specs.Stood.{Stood, stood, fell}
+use Rattle.write_lists.specs.Stood.{Stood, stood}
 
 -- an opaque tag's values are its body
-abbrev pub asBytes : List ℕ → Bytes
-asBytes vs = pick (allBytes vs) (bytes vs) impossible
+abbrev pub asBytes : List ℕ → Possible (List ℕ)
+asBytes vs = pick (allBytes vs) (this vs) cannot
 
 -- the answer of a function that lays numbers as bytes, and what it leaves: the numbers, if all of them are bytes
 abbrev pub LaidAs : Bool → List ℕ → List ℕ → Type 0
@@ -32,38 +33,38 @@ LaidAs true vs u = (allBytes vs ≡ true) × (u ≡ vs)
 LaidAs false vs u = allBytes vs ≡ false
 
 -- what a tag's values are written as; of a container they stand before its list
-abbrev pub valuesIn : Class → ℕ → List ℕ → Bytes
+abbrev pub valuesIn : Class → ℕ → List ℕ → Possible (List ℕ)
 valuesIn Opaque code vs = asBytes vs
-valuesIn End code vs = pick (eqb (length vs) 0) (bytes []) impossible
+valuesIn End code vs = pick (eqb (length vs) 0) (this []) cannot
 valuesIn Container code vs = packed high (unrun high (front (fixedOf code)) vs 0)
 valuesIn Fixed code vs = writeBody high (leafBody code) vs
 valuesIn Attributes code vs = writeBody high (leafBody code) vs
 
 -- if the state is the class's
-abbrev pub bodyIn : Class → ℕ → ℕ → List ℕ → Bytes
-bodyIn class code s vs = pick (eqb s (stateOf class)) (valuesIn class code vs) impossible
+abbrev pub bodyIn : Class → ℕ → ℕ → List ℕ → Possible (List ℕ)
+bodyIn class code s vs = pick (eqb s (stateOf class)) (valuesIn class code vs) cannot
 
 -- a tag without its header, and a container without its list too
-abbrev pub begun : Class → List ℕ → Made
-begun class [] = unmade
-begun class (code ∷ []) = unmade
-begun class (code ∷ s ∷ []) = unmade
-begun class (code ∷ s ∷ n ∷ ns) = pick (leb n (length ns)) (bodyOf (code ∷ s ∷ n ∷ take n ns) (bodyIn class code s (take n ns)) (drop n ns)) unmade
+abbrev pub begun : Class → List ℕ → Possible Made
+begun class [] = cannot
+begun class (code ∷ []) = cannot
+begun class (code ∷ s ∷ []) = cannot
+begun class (code ∷ s ∷ n ∷ ns) = pick (leb n (length ns)) (bodyOf (code ∷ s ∷ n ∷ take n ns) (bodyIn class code s (take n ns)) (drop n ns)) cannot
 
 -- and with its header
-abbrev pub shut : ℕ → Made → Made
-shut code (made xs b ys) = pick (fitsHead code (length b)) (made xs (spellHead code (length b) ++ b) ys) unmade
-shut code unmade = unmade
+abbrev pub shut : ℕ → Possible Made → Possible Made
+shut code (this (made xs b ys)) = pick (fitsHead code (length b)) (this (made xs (spellHead code (length b) ++ b) ys)) cannot
+shut code cannot = cannot
 
 -- what stands two bytes after a, up to the place of an answer, with its header before it; unless the file would be too long
-abbrev pub headAt : List ℕ → ℕ → ℕ → ℕ → ℕ → Stood
-headAt l a code n j = pick (leb (a + length (spellHead code n) + n) longest) (stood (underHead l a code n) (a + length (spellHead code n) + n) j) fell
+abbrev pub headAt : List ℕ → ℕ → ℕ → ℕ → ℕ → Possible Stood
+headAt l a code n j = pick (leb (a + length (spellHead code n) + n) longest) (this (stood (underHead l a code n) (a + length (spellHead code n) + n) j)) cannot
 
-abbrev pub shutAs : List ℕ → ℕ → ℕ → Wrote → Stood
-shutAs l a code (Done p j) = headAt l a code (p - (a + 2)) j
-shutAs l a code Impossible = fell
+abbrev pub shutAs : List ℕ → ℕ → ℕ → Wrote → Possible Stood
+shutAs l a code (Done p j) = headAt l a code (p .0 - (a + 2)) j
+shutAs l a code Impossible = cannot
 
 -- an answer whose place is two bytes after a or more
 abbrev pub After : ℕ → Wrote → Type 0
-After a (Done p j) = (a + 2 ≤ p) × (p ≤ longest)
+After a (Done p j) = (a + 2 ≤ p .0) × (p .0 ≤ longest)
 After a Impossible = Unit {0}

@@ -9,13 +9,14 @@ ghost use Rattle.format.specs.WritingFiles.{allBytes, unwalkList};
 ghost use Rattle.classes.specs.Classes.{contains, ends};
 ghost use Rattle.sink.specs.Lain.{longest, lies, lainAs};
 ghost use Rattle.write_lists.specs.Stood.{over, stoodAs};
-ghost use Rattle.write_lists.specs.Tags.{asBytes, LaidAs, valuesIn, begun, shut as «shutBy», shutAs, After};
+ghost use Rattle.write_lists.specs.Tags.{asBytes, LaidAs, valuesIn, begun, shut as shutBy, shutAs, After};
+use bits::BytePlace;
 use classes::Class;
 use sink::Body;
 
 // The next byte place and the index of the next number; or no file has the tags.
 pub enum Wrote {
-    Done(usize, usize),
+    Done(BytePlace, usize),
     Impossible,
 }
 
@@ -24,14 +25,14 @@ fn lay_bytes(values: &[u64], out: &mut [u8]) -> bool
     requires { ⌜ length (now values) ≡ length (now out) ⌝ }
     ensures { λ r. ⌜ LaidAs r (now (values .entry)) (now (out .exit)) ⌝ }
 {
-    let n = values.len();
+    let count = values.len();
     let mut i = 0;
-    while i < n {
-        let x = values[i];
-        if 255 < x {
+    while i < count {
+        let value = values[i];
+        if 255 < value {
             return false;
         }
-        out[i] = x as u8;
+        out[i] = value as u8;
         i += 1;
     }
     true
@@ -41,9 +42,9 @@ fn lay_bytes(values: &[u64], out: &mut [u8]) -> bool
 fn are_bytes(values: &[u64]) -> bool
     ensures { λ r. ⌜ r ≡ allBytes (now (values .entry)) ⌝ }
 {
-    let n = values.len();
+    let count = values.len();
     let mut i = 0;
-    while i < n {
+    while i < count {
         if 255 < values[i] {
             return false;
         }
@@ -53,31 +54,33 @@ fn are_bytes(values: &[u64]) -> bool
 }
 
 // The values of an opaque tag are its bytes.
-fn copy_bytes(values: &[u64], out: &mut [u8], at: usize) -> Body
-    requires { ⌜ at ≤ longest ⌝ }
-    ensures { λ r. ⌜ lainAs (now (out .exit)) r ≡ lies (now (out .entry)) at (asBytes (now (values .entry))) ⌝ }
+fn copy_bytes(values: &[u64], out: &mut [u8], at: BytePlace) -> Body
+    requires { ⌜ at .0 ≤ longest ⌝ }
+    ensures { λ r. ⌜ lainAs (now (out .exit)) r ≡ lies (now (out .entry)) (at .0) (asBytes (now (values .entry))) ⌝ }
 {
-    let n = values.len();
-    if 16777216 - at < n {
+    let count = values.len();
+    let from = at.0;
+    if 16777216 - from < count {
         return Body::No;
     }
-    let m = table::room_for(out.len(), at, n);
-    if 0 < m {
-        let to = at + m;
-        if !lay_bytes(&values[0..m], &mut out[at..to]) {
+    let room = table::room_for(out.len(), from, count);
+    if 0 < room {
+        let to = from + room;
+        if !lay_bytes(&values[0..room], &mut out[from..to]) {
             return Body::No;
         }
     }
-    if are_bytes(&values[m..]) {
-        return Body::To(at + n);
+    if are_bytes(&values[room..]) {
+        let stop = from + count;
+        return Body::To(BytePlace(stop));
     }
     Body::No
 }
 
 // The values of a tag, by its class.
-fn write_values(class: Class, code: u32, values: &[u64], out: &mut [u8], at: usize) -> Body
-    requires { ⌜ at ≤ longest ⌝ }
-    ensures { λ r. ⌜ lainAs (now (out .exit)) r ≡ lies (now (out .entry)) at (valuesIn class code (now (values .entry))) ⌝ }
+fn write_tag_values(class: Class, code: u32, values: &[u64], out: &mut [u8], at: BytePlace) -> Body
+    requires { ⌜ at .0 ≤ longest ⌝ }
+    ensures { λ r. ⌜ lainAs (now (out .exit)) r ≡ lies (now (out .entry)) (at .0) (valuesIn class code (now (values .entry))) ⌝ }
 {
     match class {
         Class::Opaque => copy_bytes(values, out, at),
@@ -92,57 +95,72 @@ fn write_values(class: Class, code: u32, values: &[u64], out: &mut [u8], at: usi
     }
 }
 
-// The tag at index k without its header, and a container without its list too.
-fn begin_tag(class: Class, code: u32, out: &mut [u8], at: usize, t: &[u64], k: usize) -> Wrote
-    requires { ⌜ (at ≤ longest + 2) × (k < length (now t)) × (code ≡ getD (now t) k 0) ⌝ }
-    ensures { λ r. ⌜ stoodAs (now (out .exit)) r ≡ over (now (out .entry)) at k (begun class (drop k (now (t .entry)))) ⌝ }
+// The tag at index k without its header, two bytes after its place; and a container without its list too.
+fn begin_tag(
+    class: Class,
+    code: u32,
+    out: &mut [u8],
+    place: BytePlace,
+    table: &[u64],
+    index: usize,
+) -> Wrote
+    requires { ⌜ (place .0 ≤ longest) × (index < length (now table)) × (code ≡ getD (now table) index 0) ⌝ }
+    ensures { λ r. ⌜ stoodAs (now (out .exit)) r ≡ over (now (out .entry)) (place .0 + 2) index (begun class (drop index (now (table .entry)))) ⌝ }
 {
+    let at = place.0 + 2;
     if 16777216 < at {
         return Wrote::Impossible;
     }
-    let rest = t.len() - k;
+    let rest = table.len() - index;
     if rest < 3 {
         return Wrote::Impossible;
     }
-    let state = t[k + 1];
-    let count = t[k + 2];
+    let state = table[index + 1];
+    let count = table[index + 2];
     if ((rest - 3) as u64) < count {
         return Wrote::Impossible;
     }
     if state != tags::state(class) {
         return Wrote::Impossible;
     }
-    let from = k + 3;
-    let to = from + count as usize;
-    let body = write_values(class, code, &t[from..to], out, at);
+    let first = index + 3;
+    let behind = first + count as usize;
+    let body = write_tag_values(class, code, &table[first..behind], out, BytePlace(at));
     let Body::To(stop) = body else {
         return Wrote::Impossible;
     };
-    Wrote::Done(stop, to)
+    Wrote::Done(stop, behind)
 }
 
 // The header of the tag at a place, before what was put two bytes after it.
-fn shut(out: &mut [u8], place: usize, code: u32, w: Wrote) -> Wrote
-    requires { ⌜ After place w × (code < 1024) ⌝ }
-    ensures { λ r. ⌜ stoodAs (now (out .exit)) r ≡ shutAs (now (out .entry)) place code w ⌝ }
+fn shut(out: &mut [u8], place: BytePlace, code: u32, wrote: Wrote) -> Wrote
+    requires { ⌜ After (place .0) wrote × (code < 1024) ⌝ }
+    ensures { λ r. ⌜ stoodAs (now (out .exit)) r ≡ shutAs (now (out .entry)) (place .0) code wrote ⌝ }
 {
-    let Wrote::Done(stop, j) = w else {
-        return w;
+    let Wrote::Done(stop, behind) = wrote else {
+        return wrote;
     };
     let next = write_heads::close(out, place, code, stop);
-    if 16777216 < next {
+    if 16777216 < next.0 {
         return Wrote::Impossible;
     }
-    Wrote::Done(next, j)
+    Wrote::Done(next, behind)
 }
 
 // A whole tag that is no container.
-fn write_leaf(class: Class, code: u32, out: &mut [u8], place: usize, t: &[u64], k: usize) -> Wrote
-    requires { ⌜ (place ≤ longest) × (k < length (now t)) × (code ≡ getD (now t) k 0) × (code < 1024) ⌝ }
-    ensures { λ r. ⌜ stoodAs (now (out .exit)) r ≡ over (now (out .entry)) place k («shutBy» code (begun class (drop k (now (t .entry))))) ⌝ }
+fn write_leaf(
+    class: Class,
+    code: u32,
+    out: &mut [u8],
+    place: BytePlace,
+    table: &[u64],
+    index: usize,
+) -> Wrote
+    requires { ⌜ (place .0 ≤ longest) × (index < length (now table)) × (code ≡ getD (now table) index 0) × (code < 1024) ⌝ }
+    ensures { λ r. ⌜ stoodAs (now (out .exit)) r ≡ over (now (out .entry)) (place .0) index (shutBy code (begun class (drop index (now (table .entry))))) ⌝ }
 {
-    let w = begin_tag(class, code, out, place + 2, t, k);
-    shut(out, place, code, w)
+    let wrote = begin_tag(class, code, out, place, table, index);
+    shut(out, place, code, wrote)
 }
 
 // Whether a list stands in a tag of this class.
@@ -171,16 +189,23 @@ fn ends_list(class: Class) -> bool
     }
 }
 
-// The tag list whose numbers start at an index; `left` depths may lie below it. It calls itself for the list in a container.
-pub fn write_list(level: u32, left: u32, out: &mut [u8], at: usize, t: &[u64], from: usize) -> Wrote
-    requires { ⌜ (at ≤ longest) × (from ≤ length (now t)) ⌝ }
-    ensures { λ r. ⌜ stoodAs (now (out .exit)) r ≡ over (now (out .entry)) at from (unwalkList high (classOf level) left (drop from (now (t .entry)))) ⌝ }
+// The tag list whose numbers start at an index; so many `depths` may lie below it. It calls itself for the list in a container.
+pub fn write_list(
+    level: u32,
+    depths: u32,
+    out: &mut [u8],
+    at: BytePlace,
+    table: &[u64],
+    from: usize,
+) -> Wrote
+    requires { ⌜ (at .0 ≤ longest) × (from ≤ length (now table)) ⌝ }
+    ensures { λ r. ⌜ stoodAs (now (out .exit)) r ≡ over (now (out .entry)) (at .0) from (unwalkList high (classOf level) depths (drop from (now (table .entry)))) ⌝ }
 {
     let classes = classes::all();
     let mut place = at;
-    let mut k = from;
-    while k < t.len() {
-        let number = t[k];
+    let mut index = from;
+    while index < table.len() {
+        let number = table[index];
         if 1023 < number {
             return Wrote::Impossible;
         }
@@ -188,30 +213,30 @@ pub fn write_list(level: u32, left: u32, out: &mut [u8], at: usize, t: &[u64], f
         let listed = classes[(code / 32) as usize][(code % 32) as usize];
         let class = classes::at_level(level, code, listed);
         if holds_list(class) {
-            if left == 0 {
+            if depths == 0 {
                 return Wrote::Impossible;
             }
-            let b = begin_tag(class, code, out, place + 2, t, k);
-            let Wrote::Done(p, j) = b else {
-                return b;
+            let begun = begin_tag(class, code, out, place, table, index);
+            let Wrote::Done(start, first) = begun else {
+                return begun;
             };
-            let list = write_list(level, left - 1, out, p, t, j);
-            let w = shut(out, place, code, list);
-            let Wrote::Done(next, i) = w else {
-                return w;
+            let list = write_list(level, depths - 1, out, start, table, first);
+            let wrote = shut(out, place, code, list);
+            let Wrote::Done(next, behind) = wrote else {
+                return wrote;
             };
             place = next;
-            k = i;
+            index = behind;
         } else {
-            let w = write_leaf(class, code, out, place, t, k);
-            let Wrote::Done(next, i) = w else {
-                return w;
+            let wrote = write_leaf(class, code, out, place, table, index);
+            let Wrote::Done(next, behind) = wrote else {
+                return wrote;
             };
             if ends_list(class) {
-                return w;
+                return wrote;
             }
             place = next;
-            k = i;
+            index = behind;
         }
     }
     Wrote::Impossible

@@ -10,6 +10,7 @@ use Rattle.format.specs.Formats.{nothing, _▸_, times}
 use Rattle.format.specs.Items.{skipped, coordinates, time}
 use Rattle.format.specs.Bodies as bodies
 use Rattle.format.specs.Bodies.{value, values, interpolations, beziers, aligned}
+use Rattle.format.specs.Possible.{Possible, this}
 use Rattle.format.specs.WritingItems.{dig}
 use Rattle.table.specs.Fields.{fieldOf}
 use Rattle.table.specs.declared.fields.Field.the-variants.{Verb, Interpolation}
@@ -32,21 +33,21 @@ use Rattle.spelling.proofs.FieldLaws.{announces-done}
 use Rattle.write_values.specs.Easing.{Eases}
 
 -- ---- what a `match` tells
-pub value-of : (t : List ℕ) (st : State) (k : ℕ) {what : DataType} {x : Seen} (told : DataType) → what ≡ told → x ≡ ran t st k (value (typeOf told)) → x ≡ ran t st k (value (typeOf what))
+pub value-of : (t : List ℕ) (st : State) (k : ℕ) {what : DataType} {x : Possible Seen} (told : DataType) → what ≡ told → x ≡ ran t st k (value (typeOf told)) → x ≡ ran t st k (value (typeOf what))
 value-of t st k told e d = d ∙ ap (λ (z : DataType). ran t st k (value (typeOf z))) (sym e)
 
-pub values-of : (t : List ℕ) (st : State) (k n : ℕ) {what : DataType} {x : Seen} (told : DataType) → what ≡ told → x ≡ ran t st k (values (typeOf told) n)
+pub values-of : (t : List ℕ) (st : State) (k n : ℕ) {what : DataType} {x : Possible Seen} (told : DataType) → what ≡ told → x ≡ ran t st k (values (typeOf told) n)
     → x ≡ ran t st k (values (typeOf what) n)
 values-of t st k n told e d = d ∙ ap (λ (z : DataType). ran t st k (values (typeOf z) n)) (sym e)
 
-pub in-turn-of : (t : List ℕ) (st : State) (k n : ℕ) {what : DataType} {x : Seen} (told : DataType) → values (typeOf told) n ≡ times n (value (typeOf told)) → what ≡ told
+pub in-turn-of : (t : List ℕ) (st : State) (k n : ℕ) {what : DataType} {x : Possible Seen} (told : DataType) → values (typeOf told) n ≡ times n (value (typeOf told)) → what ≡ told
     → x ≡ ran t st k (times n (value (typeOf what))) → x ≡ ran t st k (values (typeOf what) n)
 in-turn-of t st k n told same e d =
     values-of t st k n told e (d ∙ ap (λ (z : DataType). ran t st k (times n (value (typeOf z)))) e ∙ ap (ran t st k) (sym same))
 
 -- ---- a path: its coordinates are those that its verbs announce
 pub verbs-done : (t : List ℕ) (st : State) (k n m : ℕ) (u : List ℕ) (R : Put) → seen u R ≡ ran t st k (times n (fieldOf Verb 3)) → Announces Verb t k n R m
-    → (s : Sink) (j : ℕ) {x : Seen} → R ≡ Done s j → x ≡ ran t (at u s) j (scaled m) → x ≡ ran t st k (pathOf n)
+    → (s : Sink) (j : ℕ) {x : Possible Seen} → R ≡ Done s j → x ≡ ran t (at u s) j (scaled m) → x ≡ ran t st k (pathOf n)
 verbs-done t st k n m u R first a s j e d =
     then-on t st k (times n (fieldOf Verb 3)) (λ verbs. scaled (coordinates verbs)) u R first s j e
     (d ∙ ap (λ (c : ℕ). ran t (at u s) j (scaled c)) (announces-done Verb t k n m a e .0 ∙ announced-verbs (take (j - k) (drop k t))))
@@ -64,7 +65,7 @@ module _ (t : List ℕ) (st : State) (k n : ℕ) (u : List ℕ) {st′ : State} 
   pub none-left : (kind : bodies.Kind) (s : Sink) → interpolations kind n ≡ nothing → at u s ≡ st′ → s .place .0 ≤ limit → Leave kind (Done s k) 0
   none-left kind s none e l =
       let z : k - k ≡ 0 = omega arith in
-      (align-on t st k low skip (λ xs. interpolations kind n) (rw none (ap (λ (x : State). here x k) e ∙ sym (ran-nothing t st′ k (subst (λ (x : State). x .place ≤ limit) e l)))), (rw z, omega arith))
+      (align-on t st k low skip (λ xs. interpolations kind n) (rw none (ap (λ (x : State). this (here x k)) e ∙ sym (ran-nothing t st′ k (subst (λ (x : State). x .place ≤ limit) e l)))), (rw z, omega arith))
 
   -- they are fields of two bits
   pub some-left : (R : Put) (m : ℕ) → seen u R ≡ ran t st′ k (times n (fieldOf Interpolation 2)) → Announces Interpolation t k n R m → Leave bodies.Simple R m
@@ -77,7 +78,7 @@ module _ (t : List ℕ) (st : State) (k n : ℕ) (u : List ℕ) {st′ : State} 
 -- ---- the parts of keyframed content
 
 -- the code counts n + 1, and writes the values with the skip before them
-pub frames-is : (t : List ℕ) (st : State) (k : ℕ) (d : bodies.DataType) (n m : ℕ) {x : Seen} → x ≡ ran t st k (times (n + 1) time ▸ (aligned ▸ values d (n + 1)) ▸ (aligned ▸ scaled m))
+pub frames-is : (t : List ℕ) (st : State) (k : ℕ) (d : bodies.DataType) (n m : ℕ) {x : Possible Seen} → x ≡ ran t st k (times (n + 1) time ▸ (aligned ▸ values d (n + 1)) ▸ (aligned ▸ scaled m))
     → x ≡ ran t st k (framesOf d n m)
 frames-is t st k d n m e =
     let f : times (n + 1) time ▸ (aligned ▸ values d (n + 1)) ▸ (aligned ▸ scaled m) ≡ times (suc n) time ▸ (aligned ▸ values d (suc n)) ▸ (aligned ▸ scaled m) =
@@ -93,7 +94,7 @@ pub eases-few : (t : List ℕ) (k n m : ℕ) {R : Put} {s : Sink} {j : ℕ} → 
 eases-few t k n m a e = eases-done t k n m a e .1
 
 pub keyframes-done : (t : List ℕ) (st : State) (k : ℕ) (kind : bodies.Kind) (d : bodies.DataType) (n m : ℕ) (u : List ℕ) (R : Put) → seen u R ≡ ran t st k (aligned ▸ interpolations kind n)
-    → Eases t k n R m → (s : Sink) (j : ℕ) {x : Seen} → R ≡ Done s j → x ≡ ran t (at u s) j (framesOf d n m) → x ≡ ran t st k (keyframesOf kind d n)
+    → Eases t k n R m → (s : Sink) (j : ℕ) {x : Possible Seen} → R ≡ Done s j → x ≡ ran t (at u s) j (framesOf d n m) → x ≡ ran t st k (keyframesOf kind d n)
 keyframes-done t st k kind d n m u R first a s j e f =
     then-on t st k (aligned ▸ interpolations kind n) (λ kinds. framesOf d n (beziers kinds * 4)) u R first s j e
     (f ∙ ap (λ (c : ℕ). ran t (at u s) j (framesOf d n c)) (eases-done t k n m a e .0))

@@ -2,14 +2,14 @@
 ghost use mathlib.Core.Path.{_≡_};
 ghost use Prim.Native.Nat.{_<_, _≤_, _^_};
 ghost use Rattle.format.specs.Formats.{_▸_};
-ghost use Rattle.format.specs.Bodies.{values as «valuesOf», interpolations as «interpolationsOf», aligned, keyframed as «keyframed»};
+ghost use Rattle.format.specs.Bodies.{values as valuesOf, interpolations as interpolationsOf, aligned, keyframed};
 ghost use Rattle.attributes.specs.Rows.{kindOf, typeOf};
 ghost use Rattle.values.specs.Parts.{scaled, framesOf, keyframesOf};
-ghost use Rattle.sink.specs.Laying.{at as «under»};
+ghost use Rattle.sink.specs.Laying.{at as under};
 ghost use Rattle.spelling.specs.Writing.{seen, ran, Fine};
 ghost use Rattle.write_values.specs.Easing.{Eases};
+use crate::write_frame_values;
 use crate::write_in_turn;
-use crate::write_values;
 use attributes::DataType;
 use attributes::Kind;
 use items::Item;
@@ -21,108 +21,115 @@ use table::fields::Field;
 // The interpolations of n frames, UB[2] each; only Simple attributes have them. A Bezier frame announces four easing numbers.
 fn write_interpolations(
     kind: Kind,
-    n: usize,
+    frames: usize,
     out: &mut [u8],
-    s: Sink,
-    t: &[u64],
-    k: usize,
+    sink: Sink,
+    values: &[u64],
+    from: usize,
 ) -> Announced
-    requires { ⌜ Fine s × (n ≤ 4096) ⌝ }
-    ensures states { λ r. ⌜ seen (now (out .exit)) (r .put) ≡ ran (now (t .entry)) («under» (now (out .entry)) s) k (aligned ▸ «interpolationsOf» (kindOf kind) n) ⌝ }
-    ensures counts { λ r. ⌜ Eases (now (t .entry)) k n (r .put) (r .count) ⌝ }
+    requires { ⌜ Fine sink × (frames ≤ 4096) ⌝ }
+    ensures states { λ r. ⌜ seen (now (out .exit)) (r .put) ≡ ran (now (values .entry)) (under (now (out .entry)) sink) from (aligned ▸ interpolationsOf (kindOf kind) frames) ⌝ }
+    ensures counts { λ r. ⌜ Eases (now (values .entry)) from frames (r .put) (r .count) ⌝ }
 {
-    let start = spelling::skip(out, s);
+    let start = spelling::skip(out, sink);
     match kind {
         Kind::Simple => spelling::fields::write_fields(
             Field::Interpolation,
             2,
-            n,
+            frames,
             out,
             start,
-            t,
-            k,
+            values,
+            from,
         ),
         Kind::Value => Announced {
-            put: Put::Done(start, k),
+            put: Put::Done(start, from),
             count: 0,
         },
         Kind::Fixed => Announced {
-            put: Put::Done(start, k),
+            put: Put::Done(start, from),
             count: 0,
         },
         Kind::BitFlag => Announced {
-            put: Put::Done(start, k),
+            put: Put::Done(start, from),
             count: 0,
         },
         Kind::Discrete => Announced {
-            put: Put::Done(start, k),
+            put: Put::Done(start, from),
             count: 0,
         },
     }
 }
 
 // The values part.
-fn write_values_part(what: DataType, n: usize, out: &mut [u8], s: Sink, t: &[u64], k: usize) -> Put
-    requires { ⌜ Fine s × (n < 2 ^ 32) ⌝ }
-    ensures { λ r. ⌜ seen (now (out .exit)) r ≡ ran (now (t .entry)) («under» (now (out .entry)) s) k (aligned ▸ «valuesOf» (typeOf what) n) ⌝ }
+fn write_values_part(
+    what: DataType,
+    count: usize,
+    out: &mut [u8],
+    sink: Sink,
+    values: &[u64],
+    from: usize,
+) -> Put
+    requires { ⌜ Fine sink × (count < 2 ^ 32) ⌝ }
+    ensures { λ r. ⌜ seen (now (out .exit)) r ≡ ran (now (values .entry)) (under (now (out .entry)) sink) from (aligned ▸ valuesOf (typeOf what) count) ⌝ }
 {
-    let start = spelling::skip(out, s);
-    write_values(what, n, out, start, t, k)
+    let start = spelling::skip(out, sink);
+    write_frame_values(what, count, out, start, values, from)
 }
 
 // The easing part: a width, which stands always, and n signed fields of it.
-fn write_easing(n: usize, out: &mut [u8], s: Sink, t: &[u64], k: usize) -> Put
-    requires { ⌜ Fine s × (n < 2 ^ 32) ⌝ }
-    ensures { λ r. ⌜ seen (now (out .exit)) r ≡ ran (now (t .entry)) («under» (now (out .entry)) s) k (aligned ▸ scaled n) ⌝ }
+fn write_easing(count: usize, out: &mut [u8], sink: Sink, values: &[u64], from: usize) -> Put
+    requires { ⌜ Fine sink × (count < 2 ^ 32) ⌝ }
+    ensures { λ r. ⌜ seen (now (out .exit)) r ≡ ran (now (values .entry)) (under (now (out .entry)) sink) from (aligned ▸ scaled count) ⌝ }
 {
-    let start = spelling::skip(out, s);
-    spelling::fields::write_scaled(Field::Coordinate, n, out, start, t, k)
+    let start = spelling::skip(out, sink);
+    spelling::fields::write_scaled(Field::Coordinate, count, out, start, values, from)
 }
 
 // n + 1 times, n + 1 values, and the easing of the Bezier frames.
 fn write_frames(
     what: DataType,
-    n: usize,
+    frames: usize,
     easing: usize,
     out: &mut [u8],
-    s: Sink,
-    t: &[u64],
-    k: usize,
+    sink: Sink,
+    values: &[u64],
+    from: usize,
 ) -> Put
-    requires { ⌜ Fine s × (n ≤ 4096) × (easing < 2 ^ 32) ⌝ }
-    ensures { λ r. ⌜ seen (now (out .exit)) r ≡ ran (now (t .entry)) («under» (now (out .entry)) s) k (framesOf (typeOf what) n easing) ⌝ }
+    requires { ⌜ Fine sink × (frames ≤ 4096) × (easing < 2 ^ 32) ⌝ }
+    ensures { λ r. ⌜ seen (now (out .exit)) r ≡ ran (now (values .entry)) (under (now (out .entry)) sink) from (framesOf (typeOf what) frames easing) ⌝ }
 {
-    let r = write_in_turn(DataType::Time, n + 1, out, s, t, k);
-    let Put::Done(timed, i) = r else {
+    let r = write_in_turn(DataType::Time, frames + 1, out, sink, values, from);
+    let Put::Done(timed, after_times) = r else {
         return r;
     };
-    let r = write_values_part(what, n + 1, out, timed, t, i);
-    let Put::Done(valued, j) = r else {
+    let r = write_values_part(what, frames + 1, out, timed, values, after_times);
+    let Put::Done(valued, after_values) = r else {
         return r;
     };
-    write_easing(easing, out, valued, t, j)
+    write_easing(easing, out, valued, values, after_values)
 }
 
 // What follows the count of n frames.
 fn write_keyframes(
     kind: Kind,
     what: DataType,
-    n: usize,
+    frames: usize,
     out: &mut [u8],
-    s: Sink,
-    t: &[u64],
-    k: usize,
+    sink: Sink,
+    values: &[u64],
+    from: usize,
 ) -> Put
-    requires { ⌜ Fine s × (n ≤ 4096) ⌝ }
-    ensures { λ r. ⌜ seen (now (out .exit)) r ≡ ran (now (t .entry)) («under» (now (out .entry)) s) k (keyframesOf (kindOf kind) (typeOf what) n) ⌝ }
+    requires { ⌜ Fine sink × (frames ≤ 4096) ⌝ }
+    ensures { λ r. ⌜ seen (now (out .exit)) r ≡ ran (now (values .entry)) (under (now (out .entry)) sink) from (keyframesOf (kindOf kind) (typeOf what) frames) ⌝ }
 {
-    let kinds = write_interpolations(kind, n, out, s, t, k);
+    let kinds = write_interpolations(kind, frames, out, sink, values, from);
     let easing = kinds.count;
     let r = kinds.put;
-    let Put::Done(next, j) = r else {
+    let Put::Done(next, behind) = r else {
         return r;
     };
-    write_frames(what, n, easing, out, next, t, j)
+    write_frames(what, frames, easing, out, next, values, behind)
 }
 
 // Keyframed content, with 1 to 4,096 frames.
@@ -130,16 +137,16 @@ pub fn write_keyframed(
     kind: Kind,
     what: DataType,
     out: &mut [u8],
-    s: Sink,
-    t: &[u64],
-    k: usize,
+    sink: Sink,
+    values: &[u64],
+    from: usize,
 ) -> Put
-    requires { ⌜ Fine s ⌝ }
-    ensures { λ r. ⌜ seen (now (out .exit)) r ≡ ran (now (t .entry)) («under» (now (out .entry)) s) k («keyframed» (kindOf kind) (typeOf what)) ⌝ }
+    requires { ⌜ Fine sink ⌝ }
+    ensures { λ r. ⌜ seen (now (out .exit)) r ≡ ran (now (values .entry)) (under (now (out .entry)) sink) from (keyframed (kindOf kind) (typeOf what)) ⌝ }
 {
-    let r = spelling::write_one(Item::Count(1), out, s, t, k);
-    let Put::Done(next, j) = r else {
+    let r = spelling::write_one(Item::Count(1), out, sink, values, from);
+    let Put::Done(next, behind) = r else {
         return r;
     };
-    write_keyframes(kind, what, t[k] as usize, out, next, t, j)
+    write_keyframes(kind, what, values[from] as usize, out, next, values, behind)
 }

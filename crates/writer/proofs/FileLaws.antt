@@ -12,17 +12,18 @@ use lib.Seq.{sets, sets-eq, drop-cons}
 use Rattle.format.specs.Tests.{pick}
 use Rattle.format.specs.Bits.{high}
 use Rattle.format.specs.FileAndTags.{classOf}
-use Rattle.format.specs.WritingBodies.{bytes, impossible}
-use Rattle.format.specs.WritingFiles.{Made, made, unmade, spell32, unwalkList, wholeFile, writeFile}
+use Rattle.format.specs.Possible.{Possible, this, cannot}
+use Rattle.format.specs.WritingFiles.{Made, made, spell32, unwalkList, wholeFile, writeFile}
 use Rattle.format.specs.Reasons as paper
 use Rattle.format.specs.Reasons.{Left, accepted, refusesWith, FileOf, Writes, tooHigh, tooShort, written}
 use Rattle.format.proofs.RoundTrip.{back, no-file}
+use Rattle.format.proofs.Absurd.{clash}
 use Rattle.table.proofs.EngineLaws.{sets-append}
 use Rattle.sink.specs.Lain.{longest}
 use Rattle.write_heads.proofs.StoreLaws.{sets-comm}
 use Rattle.write_lists.specs.declared.Wrote.{Wrote}
 use Rattle.write_lists.specs.declared.Wrote.the-variants.{Done, Impossible}
-use Rattle.write_lists.specs.Stood.{stood, fell, over, stoodAs}
+use Rattle.write_lists.specs.Stood.{stood, over, stoodAs}
 use Rattle.write_lists.proofs.StoodLaws.{StoodBy, stood-by, parts-of}
 use Rattle.write_lists.proofs.ListLaws.{parts-list}
 use Rattle.writer.specs.Files.{start}
@@ -35,15 +36,15 @@ pub nothing-lent : (l : List ℕ) → length l ≡ 0 → l ≡ []
 nothing-lent l h = drop-of-length-le l {i = 0} (omega arith)
 
 -- the tags that follow the compression byte
-abbrev pub tags : ℕ → List ℕ → Made
+abbrev pub tags : ℕ → List ℕ → Possible Made
 tags level t = unwalkList high (classOf level) 8 (drop 1 t)
 
 module _ (level : ℕ) (t : List ℕ) where
   -- ---- what the definition's two answers promise
-  none : level ≤ 1023 → writeFile high level t ≡ impossible → (m : List ℕ) → Writes high level t m (refusesWith m 20 0)
+  none : level ≤ 1023 → writeFile high level t ≡ cannot → (m : List ℕ) → Writes high level t m (refusesWith m 20 0)
   none h e m = paper.impossible h (λ f r. no-file high level t e f (r .bytes) (r .reads))
 
-  file-of : (f : List ℕ) → writeFile high level t ≡ bytes f → FileOf high level t f
+  file-of : (f : List ℕ) → writeFile high level t ≡ this f → FileOf high level t f
   file-of f e = let b = back high level f t e in record { bytes = b .0; reads = b .1 }
 
   -- ---- by the branches of `write`
@@ -54,7 +55,7 @@ module _ (level : ℕ) (t : List ℕ) where
   unfolding writeFile
   no-numbers h z m = none h (go t z) m
     where
-      go : (t : List ℕ) → length t ≡ 0 → writeFile high level t ≡ impossible
+      go : (t : List ℕ) → length t ≡ 0 → writeFile high level t ≡ cannot
       go [] e = refl
       go (x ∷ t) e = absurd (omega arith)
 
@@ -71,21 +72,21 @@ module _ (level : ℕ) (t : List ℕ) where
       unfolding writeFile
       is = ap (writeFile high level) cons ∙ rw (le-ltb 1023 level h, lt-ltb (getD t 0 0) 256 (omega arith))
 
-      pub no-list : fell ≡ over [] 9 1 (tags level t) → (m : List ℕ) → Writes high level t m (refusesWith m 20 0)
+      pub no-list : cannot ≡ over [] 9 1 (tags level t) → (m : List ℕ) → Writes high level t m (refusesWith m 20 0)
       unfolding over
       no-list e m = none h (is ∙ go (tags level t) e) m
         where
-          lim : (b u : List ℕ) (p j : ℕ) (c : Bool) → fell ≡ pick c (stood u p j) fell → pick c (bytes b) impossible ≡ impossible
-          lim b u p j true w = absurd (let z : _≡_ {A = ℕ} 0 1 = cc in omega arith)
+          lim : (b u : List ℕ) (p j : ℕ) (c : Bool) → cannot ≡ pick c (this (stood u p j)) cannot → pick c (this b) cannot ≡ cannot
+          lim b u p j true w = clash cc
           lim b u p j false w = refl
 
-          go : (m : Made) → fell ≡ over [] 9 1 m → wholeFile (getD t 0 0) m ≡ impossible
-          go unmade q = refl
-          go (made xs b (y ∷ ys)) q = refl
-          go (made xs b []) q = lim (0x50 ∷ 0x41 ∷ 0x47 ∷ 1 ∷ (spell32 (9 + length b) ++ getD t 0 0 ∷ b)) (sets [] 9 b) (9 + length b) (1 + length xs) (leb (9 + length b) longest) q
+          go : (m : Possible Made) → cannot ≡ over [] 9 1 m → wholeFile (getD t 0 0) m ≡ cannot
+          go cannot q = refl
+          go (this (made xs b (y ∷ ys))) q = refl
+          go (this (made xs b [])) q = lim (0x50 ∷ 0x41 ∷ 0x47 ∷ 1 ∷ (spell32 (9 + length b) ++ getD t 0 0 ∷ b)) (sets [] 9 b) (9 + length b) (1 + length xs) (leb (9 + length b) longest) q
 
       -- the tags end at n, and their numbers at k
-      module _ {u : List ℕ} {n k : ℕ} (e : stood u n k ≡ over [] 9 1 (tags level t)) where
+      module _ {u : List ℕ} {n k : ℕ} (e : this (stood u n k) ≡ over [] 9 1 (tags level t)) where
         s : StoodBy [] 9 1 u n k (tags level t)
         s = stood-by [] 9 1 u n k (tags level t) e
 
@@ -100,7 +101,7 @@ module _ (level : ℕ) (t : List ℕ) where
         pub numbers-left : k < length t → (m : List ℕ) → Writes high level t m (refusesWith m 20 0)
         numbers-left q m = none h (is ∙ ap (wholeFile (getD t 0 0)) (s .is) ∙ go (s .ys) (omega (arith, left))) m
           where
-            go : (ys : List ℕ) → 0 < length ys → wholeFile (getD t 0 0) (made (s .xs) (s .b) ys) ≡ impossible
+            go : (ys : List ℕ) → 0 < length ys → wholeFile (getD t 0 0) (this (made (s .xs) (s .b) ys)) ≡ cannot
             go [] w = absurd (omega arith)
             go (y ∷ ys) w = refl
 
@@ -117,7 +118,7 @@ module _ (level : ℕ) (t : List ℕ) where
           unfolding file
           file-is = file-of file (is ∙ ap (wholeFile (getD t 0 0)) (s .is) ∙ go (s .ys) (omega (arith, left)))
             where
-              go : (ys : List ℕ) → length ys ≡ 0 → wholeFile (getD t 0 0) (made (s .xs) (s .b) ys) ≡ bytes (start n (getD t 0 0) ++ s .b)
+              go : (ys : List ℕ) → length ys ≡ 0 → wholeFile (getD t 0 0) (this (made (s .xs) (s .b) ys)) ≡ this (start n (getD t 0 0) ++ s .b)
               go (y ∷ ys) w = absurd (omega arith)
               go [] w = rw (le-leb (9 + length (s .b)) longest (omega (arith, s .place, s .small)), ← s .place)
 
@@ -128,14 +129,14 @@ module _ (level : ℕ) (t : List ℕ) where
           laid : (m v : List ℕ) (R : Wrote) → stoodAs v R ≡ over m 9 1 (tags level t) → v ≡ sets m 9 (s .b)
           unfolding over
           laid m v (Done n′ k′) e′ =
-              let s′ = stood-by m 9 1 v n′ k′ (tags level t) e′ in
-              let z : made (s′ .xs) (s′ .b) (s′ .ys) ≡ made (s .xs) (s .b) (s .ys) = sym (s′ .is) ∙ s .is in
+              let s′ = stood-by m 9 1 v (n′ .0) k′ (tags level t) e′ in
+              let z : this (made (s′ .xs) (s′ .b) (s′ .ys)) ≡ this (made (s .xs) (s .b) (s .ys)) = sym (s′ .is) ∙ s .is in
               let same : s′ .b ≡ s .b = cc in
               s′ .out ∙ ap (sets m 9) same
           laid m v Impossible e′ =
-              let w : fell ≡ stood (sets m 9 (s .b)) (9 + length (s .b)) (1 + length (s .xs)) =
+              let w : cannot ≡ this (stood (sets m 9 (s .b)) (9 + length (s .b)) (1 + length (s .xs))) =
               e′ ∙ ap (over m 9 1) (s .is) ∙ rw (le-leb (9 + length (s .b)) longest (omega (arith, s .place, s .small))) in
-              absurd (let z : _≡_ {A = ℕ} 0 1 = cc in omega arith)
+              clash cc
 
           -- and the start before them
           pub file-put : (m v w : List ℕ) (R : Wrote) → n ≤ length m → stoodAs v R ≡ over m 9 1 (tags level t) → w ≡ sets v 0 (start n (getD t 0 0))

@@ -12,15 +12,16 @@ ghost use Rattle.answers.specs.Answers.{leaves};
 ghost use Rattle.write_lists.specs.Stood.{over, stoodAs};
 ghost use Rattle.writer.specs.Files.{start};
 use answers::Answer;
+use bits::BytePlace;
 use write_lists::Wrote;
 
 // The first nine bytes of a file: "PAG", version 1, the length n of the whole file, and the compression byte.
-fn put_start(out: &mut [u8], n: u64, compression: u64)
-    requires { ⌜ (n < 4294967296) × (compression < 256) ⌝ }
-    ensures { λ r. ⌜ now (out .exit) ≡ sets (now (out .entry)) 0 (start n compression) ⌝ }
+fn put_start(out: &mut [u8], length: u64, compression: u64)
+    requires { ⌜ (length < 4294967296) × (compression < 256) ⌝ }
+    ensures { λ r. ⌜ now (out .exit) ≡ sets (now (out .entry)) 0 (start length compression) ⌝ }
 {
-    write_heads::put32(out, 0, 0x01474150);
-    write_heads::put32(out, 4, n);
+    write_heads::put32(out, BytePlace(0), 0x01474150);
+    write_heads::put32(out, BytePlace(4), length);
     sink::put_byte(out, 8, compression);
 }
 
@@ -30,7 +31,7 @@ fn measure(level: u32, table: &[u64]) -> Wrote
     ensures { λ r. ⌜ stoodAs [] r ≡ over [] 9 1 (unwalkList high (classOf level) 8 (drop 1 (now (table .entry)))) ⌝ }
 {
     let mut none = [0u8; 1];
-    write_lists::write_list(level, 8, &mut none[..0], 9, table, 1)
+    write_lists::write_list(level, 8, &mut none[..0], BytePlace(9), table, 1)
 }
 
 // Writes the file that this level reads as the table: 1, 20 and 21 are tried in this order, and a refusal changes nothing lent.
@@ -48,16 +49,17 @@ pub fn write(level: u32, table: &[u64], out: &mut [u8]) -> Answer
         return Answer::Refused(20, 0);
     }
     let measured = measure(level, table);
-    let Wrote::Done(n, k) = measured else {
+    let Wrote::Done(stop, behind) = measured else {
         return Answer::Refused(20, 0);
     };
-    if k < table.len() {
+    if behind < table.len() {
         return Answer::Refused(20, 0);
     }
-    if out.len() < n {
-        return Answer::Refused(21, n as u64);
+    let length = stop.0;
+    if out.len() < length {
+        return Answer::Refused(21, length as u64);
     }
-    write_lists::write_list(level, 8, out, 9, table, 1);
-    put_start(out, n as u64, compression);
-    Answer::Accepted(n as u64)
+    write_lists::write_list(level, 8, out, BytePlace(9), table, 1);
+    put_start(out, length as u64, compression);
+    Answer::Accepted(length as u64)
 }

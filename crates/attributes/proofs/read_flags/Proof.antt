@@ -10,10 +10,10 @@ use Rattle.attributes.proofs.read_flags.Statement.{statement}
 use Rattle.attributes.proofs.read_flags.Tie as tie
 
 abbrev Inv-loop : tie.InvT-loop
-Inv-loop s flags₀ attributes end place₀ row₀ j₀ flags place row j = Going s flags₀ row₀ end (place₀ .0) flags (place .0) row j
+Inv-loop body flags₀ attributes end place₀ row₀ index₀ flags place row index = Going body flags₀ row₀ end (place₀ .0) flags (place .0) row index
 
 abbrev μ-loop : tie.MeasureT-loop
-μ-loop s flags₀ attributes end place₀ row₀ j₀ flags place row j = end - row
+μ-loop body flags₀ attributes end place₀ row₀ index₀ flags place row index = end - row
 
 loop-holds : tie.Need-loop-holds Inv-loop μ-loop
 loop-holds c = record { size = refl; rest = refl; place = c .before .before .pre .1; below = c .before .before .pre .0 .up; stored = omega arith }
@@ -40,25 +40,25 @@ same-length : tie.Need-same-length Inv-loop μ-loop
 same-length c = c .before .before .before .before .before .before .loop .inv .size
 
 returns : tie.Need-returns Inv-loop μ-loop
-returns c = let a = c .before .before .before .before .before .before .before .before .before .args in flags-stop (now (a .s)) (now (a .flags)) (a .rows .start) (a .rows .end) (a .at .0) (c .before .before .before .before .before .loop-test .taken) (c .before .before .before .before .before .before .before .before .before .pre .0 .inside) (c .before .before .before .before .before .before .loop .inv) (sym (got-fault (c .before .before .before .read-flag .ensures) (c .before .r2 .given .1)))
+returns c = let a = c .before .before .before .before .before .before .before .before .before .args in flags-stop (now (a .body)) (now (a .flags)) (a .rows .start) (a .rows .end) (a .at .0) (c .before .before .before .before .before .loop-test .taken) (c .before .before .before .before .before .before .before .before .before .pre .0 .inside) (c .before .before .before .before .before .before .loop .inv) (sym (got-fault (c .before .before .before .read-flag .ensures) (c .before .r2 .given .1)))
 
 add-row : tie.Need-add-row Inv-loop μ-loop
 add-row c = omega (arith, c .before .before .before .before .before .before .before .before .before .before .before .before .before .pre .0 .inside)
 
-add-j : tie.Need-add-j Inv-loop μ-loop
-add-j c = omega (arith, c .before .before .before .before .before .before .before .before .before .before .loop .inv .stored, c .before .before .before .before .before .before .before .before .before .before .before .before .before .pre .0 .inside)
+add-index : tie.Need-add-index Inv-loop μ-loop
+add-index c = omega (arith, c .before .before .before .before .before .before .before .before .before .before .loop .inv .stored, c .before .before .before .before .before .before .before .before .before .before .before .before .before .pre .0 .inside)
 
 loop-less : tie.Need-loop-less Inv-loop μ-loop
 loop-less c = omega arith
 
 loop-again : tie.Need-loop-again Inv-loop μ-loop
-loop-again c = let a = c .before .before .before .before .before .before .before .before .before .before .before .before .before .args in flags-next (now (a .s)) (now (a .flags)) (a .rows .start) (a .rows .end) (a .at .0) (c .before .before .before .before .before .before .before .before .before .loop-test .taken) (c .before .before .before .before .before .before .before .before .before .before .before .before .before .pre .0 .inside) (c .before .before .before .before .before .before .before .before .before .before .loop .inv) (sym (got-value (c .before .before .before .before .before .before .before .read-flag .ensures) (c .before .before .before .before .before .r .given .1))) (c .before .before .put .ensures)
+loop-again c = let a = c .before .before .before .before .before .before .before .before .before .before .before .before .before .args in flags-next (now (a .body)) (now (a .flags)) (a .rows .start) (a .rows .end) (a .at .0) (c .before .before .before .before .before .before .before .before .before .loop-test .taken) (c .before .before .before .before .before .before .before .before .before .before .before .before .before .pre .0 .inside) (c .before .before .before .before .before .before .before .before .before .before .loop .inv) (sym (got-value (c .before .before .before .before .before .before .before .read-flag .ensures) (c .before .before .before .before .before .r .given .1))) (c .before .before .put .ensures)
 
 same-length-2 : tie.Need-same-length-2 Inv-loop μ-loop
 same-length-2 c = c .before .loop .inv .size
 
 returns-2 : tie.Need-returns-2 Inv-loop μ-loop
-returns-2 c = let a = c .before .before .before .before .args in flags-done (now (a .s)) (now (a .flags)) (a .rows .start) (a .rows .end) (a .at .0) (c .loop-test .left) (c .before .loop .inv)
+returns-2 c = let a = c .before .before .before .before .args in flags-done (now (a .body)) (now (a .flags)) (a .rows .start) (a .rows .end) (a .at .0) (c .loop-test .left) (c .before .loop .inv)
 
 pub read-flags-spec : {M : Type 1} → statement M
 read-flags-spec =
@@ -76,7 +76,7 @@ read-flags-spec =
     same-length
     returns
     add-row
-    add-j
+    add-index
     loop-less
     loop-again
     same-length-2

@@ -2,7 +2,7 @@
 use denote.Ref.{now}
 use mathlib.Core.Path.{refl, sym, ap, _∙_}
 use native.Mathlib.Omega.{arith}
-use Rattle.bits.specs.Places.{seen}
+use Rattle.bits.specs.Places.{numOf}
 use Rattle.bit_reader.proofs.FieldLaws.{near-end, near-length, field-past, field-unplaced, near-value, near-fault}
 use borrow.Author.Needs.{needs}
 use Rattle.bit_reader.proofs.read_near.Statement.{statement}
@@ -34,8 +34,8 @@ read-field-requires c κs = let a = c .before .before .before .before .before .a
     let k = near-end _ _ (c .before .before .before .if1 .left) (c .before .near-end .ensures) in
     ((rw (near-length (now (a .bytes)) _ _ (k .inside)) (omega (arith, k .after)), rw (near-length (now (a .bytes)) _ _ (k .inside)) (omega (arith, k .five))), c .before .before .before .before .before .pre .0, c .before .before .before .before .before .pre .1)
 
-enum-known-v : tie.Need-enum-known-v
-enum-known-v c = search needs
+enum-known-value : tie.Need-enum-known-value
+enum-known-value c = search needs
 
 add-t19 : tie.Need-add-t19
 add-t19 c = search needs
@@ -44,10 +44,10 @@ enum-known-why : tie.Need-enum-known-why
 enum-known-why c = search needs
 
 returns-3 : tie.Need-returns-3
-returns-3 c = let a = c .before .before .before .before .before .before .before .before .before .args in near-value (a .signed) (now (a .bytes)) (a .place .0) (a .width) _ _ refl (near-end _ _ (c .before .before .before .before .before .before .before .if1 .left) (c .before .before .before .before .before .near-end .ensures)) (omega arith) (ap seen (sym (c .before .v .given .1)) ∙ c .before .before .before .read-field .ensures)
+returns-3 c = let a = c .before .before .before .before .before .before .before .before .before .args in near-value (a .signed) (now (a .bytes)) (a .place .0) (a .width) _ _ refl (near-end _ _ (c .before .before .before .before .before .before .before .if1 .left) (c .before .before .before .before .before .near-end .ensures)) (omega arith) (ap numOf (sym (c .before .value .given .1)) ∙ c .before .before .before .read-field .ensures)
 
 returns-4 : tie.Need-returns-4
-returns-4 c = let a = c .before .before .before .before .before .before .before .before .before .args in near-fault (a .signed) (now (a .bytes)) (a .place .0) (a .width) _ _ refl (near-end _ _ (c .before .before .before .before .before .before .before .if1 .left) (c .before .before .before .before .before .near-end .ensures)) (c .before .before .before .before .before .before .before .before .before .pre .1) (ap seen (sym (c .before .why .given .1)) ∙ c .before .before .before .read-field .ensures)
+returns-4 c = let a = c .before .before .before .before .before .before .before .before .before .args in near-fault (a .signed) (now (a .bytes)) (a .place .0) (a .width) _ _ refl (near-end _ _ (c .before .before .before .before .before .before .before .if1 .left) (c .before .before .before .before .before .near-end .ensures)) (c .before .before .before .before .before .before .before .before .before .pre .1) (ap numOf (sym (c .before .why .given .1)) ∙ c .before .before .before .read-field .ensures)
 
 pub read-near-spec : {M : Type 1} → statement M
 read-near-spec =
@@ -61,7 +61,7 @@ read-near-spec =
     part-near-start
     part-near-end
     read-field-requires
-    enum-known-v
+    enum-known-value
     add-t19
     enum-known-why
     returns-3

@@ -8,47 +8,42 @@ use borrow.Author.Needs.{needs}
 use Rattle.bits.proofs.align.Statement.{statement}
 use Rattle.bits.proofs.align.Tie as tie
 
-returns : tie.Need-returns
-returns c = aligned-clean (now (c .before .before .args .s)) (c .before .before .args .at .0) 0 (omega arith) (ub-none _ _) (omega arith) (omega arith)
+next-byte-requires : tie.Need-next-byte-requires
+next-byte-requires c κs = search needs
 
-sub-skipped : tie.Need-sub-skipped
-sub-skipped c = search needs
+returns : tie.Need-returns
+returns c =
+    let w = c .before .before .next-byte .ensures in
+    let e = c .before .before .before .if1 .taken in
+    aligned-clean (now (c .before .before .before .before .before .args .bytes)) (c .before .before .before .before .before .args .at .0) 0 (omega (arith, e)) (ub-none _ _) (omega (arith, w .0, e)) (w .1)
 
 byte-at-requires : tie.Need-byte-at-requires
 byte-at-requires c κs = search needs
 
+sub-cut : tie.Need-sub-cut
+sub-cut c = search needs
+
 cut-requires : tie.Need-cut-requires
 cut-requires c κs = search needs
 
-add-t14 : tie.Need-add-t14
-add-t14 c = search needs
-
-add-t16 : tie.Need-add-t16
-add-t16 c = search needs
-
 returns-2 : tie.Need-returns-2
 returns-2 c =
-    let b = now (c .before .before .before .before .before .args .s) in
+    let b = now (c .before .before .before .before .before .args .bytes) in
     let p = c .before .before .before .before .before .args .at .0 in
     let e = ub-rest b p (8 - p % 8) (c .before .before .byte-at .ensures) (omega arith) (c .before .cut .ensures .0) in
-    aligned-clean b p (8 - p % 8) (omega arith) (e ∙ c .if2 .taken) (omega arith) (omega arith)
+    aligned-unclean b p (8 - p % 8) (omega (arith, c .before .before .before .if1 .left)) (λ z. c .if2 .taken (sym e ∙ z))
+
+next-byte-requires-2 : tie.Need-next-byte-requires-2
+next-byte-requires-2 c κs = search needs
 
 returns-3 : tie.Need-returns-3
 returns-3 c =
-    let b = now (c .before .before .before .before .before .args .s) in
-    let p = c .before .before .before .before .before .args .at .0 in
-    let e = ub-rest b p (8 - p % 8) (c .before .before .byte-at .ensures) (omega arith) (c .before .cut .ensures .0) in
-    aligned-unclean b p (8 - p % 8) (omega arith) (λ z. c .if2 .left (sym e ∙ z))
+    let b = now (c .before .before .before .before .before .before .before .before .args .bytes) in
+    let p = c .before .before .before .before .before .before .before .before .args .at .0 in
+    let w = c .before .before .next-byte2 .ensures in
+    let l = c .before .before .before .before .before .before .if1 .left in
+    let e = ub-rest b p (8 - p % 8) (c .before .before .before .before .before .byte-at .ensures) (omega arith) (c .before .before .before .before .cut .ensures .0) in
+    aligned-clean b p (8 - p % 8) (omega (arith, l)) (e ∙ c .before .before .before .if2 .left) (omega (arith, w .0, l)) (w .1)
 
 pub align-spec : {M : Type 1} → statement M
-align-spec =
-    tie.close
-    (tie.spec
-    returns
-    sub-skipped
-    byte-at-requires
-    cut-requires
-    add-t14
-    add-t16
-    returns-2
-    returns-3)
+align-spec = tie.close (tie.spec next-byte-requires returns byte-at-requires sub-cut cut-requires returns-2 next-byte-requires-2 returns-3)

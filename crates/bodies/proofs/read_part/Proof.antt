@@ -13,37 +13,29 @@ use Rattle.bodies.proofs.blocks.read_block.Reads as read-block-reads
 use Rattle.bodies.proofs.is_block.Reads as is-block-reads
 use Rattle.fixed.proofs.read_fixed.Reads as read-fixed-reads
 
--- src/lib.rt:35:8
 is-block-requires : tie.Need-is-block-requires
 is-block-requires c κs = search needs
 
--- src/lib.rt:36:35
 rows-of-requires : tie.Need-rows-of-requires
 rows-of-requires c κs = search needs
 
--- src/lib.rt:36:9
 read-block-requires : tie.Need-read-block-requires
 read-block-requires c κs = let a = c .before .before .before .before .before .before .args in (rows-are (a .code) (c .before .rows-of .result) (c .before .rows-of .ensures) .0, ((omega arith, c .before .before .before .before .before .before .pre .0), omega (arith, c .before .before .before .before .before .before .pre .1)))
 
--- src/lib.rt:36:9
 same-length : tie.Need-same-length
 same-length c = search needs
 
--- src/lib.rt:36:9
 returns : tie.Need-returns
-returns c = let a = c .before .before .before .before .before .before .before .before .before .args in part-block (now (a .s)) (now (a .t)) (a .k) (a .code) (sym (c .before .before .before .before .before .before .is-block .ensures) ∙ c .before .before .before .before .before .if1 .taken) (rows-are (a .code) (c .before .before .before .before .rows-of .result) (c .before .before .before .before .rows-of .ensures) .1) (c .before .before .read-block .ensures)
+returns c = let a = c .before .before .before .before .before .before .before .before .before .args in part-block (now (a .body)) (now (a .table)) (a .from) (a .code) (sym (c .before .before .before .before .before .before .is-block .ensures) ∙ c .before .before .before .before .before .if1 .taken) (rows-are (a .code) (c .before .before .before .before .rows-of .result) (c .before .before .before .before .rows-of .ensures) .1) (c .before .before .read-block .ensures)
 
--- src/lib.rt:38:5
 read-fixed-requires : tie.Need-read-fixed-requires
 read-fixed-requires c κs = search needs
 
--- src/lib.rt:31:1
 same-length-2 : tie.Need-same-length-2
 same-length-2 c = search needs
 
--- src/lib.rt:31:1
 returns-2 : tie.Need-returns-2
-returns-2 c = let a = c .before .before .before .before .before .before .before .before .args in part-fixed (now (a .s)) (now (a .t)) (a .k) (a .code) (sym (c .before .before .before .before .before .is-block .ensures) ∙ c .before .before .before .before .if1 .left) (c .before .before .read-fixed .ensures)
+returns-2 c = let a = c .before .before .before .before .before .before .before .before .args in part-fixed (now (a .body)) (now (a .table)) (a .from) (a .code) (sym (c .before .before .before .before .before .is-block .ensures) ∙ c .before .before .before .before .if1 .left) (c .before .before .read-fixed .ensures)
 
 pub read-part-spec : {M : Type 1} → statement M
 read-part-spec =

@@ -4,11 +4,9 @@ use Rattle.classes.proofs.at_level.Tie as tie
 use Rattle.classes.proofs.at_level.Reads as reads
 use Rattle.classes.proofs.at_level.Lts as lts
 
--- src/lib.rt:97:1
 returns : tie.Need-returns
 returns c = rw (lt-ltb _ _ (c .if1 .taken))
 
--- src/lib.rt:97:1
 returns-2 : tie.Need-returns-2
 returns-2 c = rw (le-ltb _ _ (c .if1 .left))
 

@@ -13,33 +13,26 @@ use Rattle.fixed.proofs.read_fonts.Reads as read-fonts-reads
 use Rattle.fixed.proofs.read_items.Reads as read-items-reads
 use Rattle.fixed.proofs.rows_of.Reads as rows-of-reads
 
--- src/lib.rt:135:9
 read-fonts-requires : tie.Need-read-fonts-requires
 read-fonts-requires c κs = search needs
 
--- src/lib.rt:135:9
 same-length : tie.Need-same-length
 same-length c = search needs
 
--- src/lib.rt:135:9
 returns : tie.Need-returns
-returns c = let a = c .before .before .before .before .before .before .before .args in left-as (now (a .t)) (a .k) (ap (λ (f : Format). run high (now (a .s)) f (a .at .0)) (sym (fixed-fonts (a .code) (c .before .before .before .before .if1 .taken)))) (c .before .before .read-fonts .ensures)
+returns c = let a = c .before .before .before .before .before .before .before .args in left-as (now (a .table)) (a .from) (ap (λ (f : Format). run high (now (a .body)) f (a .at .0)) (sym (fixed-fonts (a .code) (c .before .before .before .before .if1 .taken)))) (c .before .before .read-fonts .ensures)
 
--- src/lib.rt:137:9
 rows-of-requires : tie.Need-rows-of-requires
 rows-of-requires c κs = search needs
 
--- src/lib.rt:138:5
 read-items-requires : tie.Need-read-items-requires
 read-items-requires c κs = search needs
 
--- src/lib.rt:130:1
 same-length-2 : tie.Need-same-length-2
 same-length-2 c = search needs
 
--- src/lib.rt:130:1
 returns-2 : tie.Need-returns-2
-returns-2 c = let a = c .before .before .before .before .before .before .before .before .args in left-as (now (a .t)) (a .k) (c .before .before .before .before .rows-of .ensures .items (now (a .s)) (a .at .0)) (c .before .before .read-items .ensures)
+returns-2 c = let a = c .before .before .before .before .before .before .before .before .args in left-as (now (a .table)) (a .from) (c .before .before .before .before .rows-of .ensures .items (now (a .body)) (a .at .0)) (c .before .before .read-items .ensures)
 
 pub read-fixed-spec : {M : Type 1} → statement M
 read-fixed-spec =

@@ -14,60 +14,47 @@ use Rattle.fixed.proofs.read_items.Lts as lts
 use Rattle.table.proofs.read_one.Reads as read-one-reads
 
 abbrev Inv-loop : tie.InvT-loop
-Inv-loop start end s t₀ k rows place₀ j₀ row₀ t place j row = (row ≤ end) × Going s t₀ k (inOrder (itemsFrom start end)) (place₀ .0) t (place .0) j (inOrder (itemsFrom row end))
+Inv-loop start end body table₀ from rows place₀ index₀ row₀ table place index row = (row ≤ end) × Going body table₀ from (inOrder (itemsFrom start end)) (place₀ .0) table (place .0) index (inOrder (itemsFrom row end))
 
 abbrev μ-loop : tie.MeasureT-loop
-μ-loop start end s t₀ k rows place₀ j₀ row₀ t place j row = end - row
+μ-loop start end body table₀ from rows place₀ index₀ row₀ table place index row = end - row
 
--- src/lib.rt:60:5
 loop-holds : tie.Need-loop-holds Inv-loop μ-loop
 loop-holds c = (c .before .before .pre .0, record { size = refl; same = refl; fits = c .before .before .pre .2 })
 
--- src/lib.rt:61:20
 mul-kind : tie.Need-mul-kind Inv-loop μ-loop
 mul-kind c = search needs
 
--- src/lib.rt:61:20
 array-copy-out-kind : tie.Need-array-copy-out-kind Inv-loop μ-loop
 array-copy-out-kind c = omega (arith, c .before .before .before .before .pre .1)
 
--- src/lib.rt:62:13
 read-one-requires : tie.Need-read-one-requires Inv-loop μ-loop
 read-one-requires c κs = c .before .before .before .loop .inv .1 .fits
 
--- src/lib.rt:63:23
 enum-known-r : tie.Need-enum-known-r Inv-loop μ-loop
 enum-known-r c = search needs
 
--- src/lib.rt:64:13
 enum-told : tie.Need-enum-told Inv-loop μ-loop
 enum-told c = search needs
 
--- src/lib.rt:64:13
 same-length : tie.Need-same-length Inv-loop μ-loop
 same-length c = going-size (c .before .before .before .before .before .before .before .before .loop .inv .1) (items-more (c .before .before .before .before .before .before .before .before .loop .row) (c .before .before .before .before .before .before .before .before .before .before .before .args .end) refl (c .before .before .before .before .before .before .before .loop-test .taken) (c .before .before .before .before .before .before .before .before .before .before .before .pre .1)) (c .before .before .before .before .read-one .ensures)
 
--- src/lib.rt:64:13
 returns : tie.Need-returns Inv-loop μ-loop
 returns c = going-stop (c .before .before .before .before .before .before .before .before .loop .inv .1) (items-more (c .before .before .before .before .before .before .before .before .loop .row) (c .before .before .before .before .before .before .before .before .before .before .before .args .end) refl (c .before .before .before .before .before .before .before .loop-test .taken) (c .before .before .before .before .before .before .before .before .before .before .before .pre .1)) (c .enum-told .given .1) (c .before .before .before .before .read-one .ensures)
 
--- src/lib.rt:68:9
 add-row : tie.Need-add-row Inv-loop μ-loop
 add-row c = omega (arith, c .before .before .before .before .before .before .before .before .before .before .before .before .pre .1)
 
--- src/lib.rt:60:5
 loop-less : tie.Need-loop-less Inv-loop μ-loop
 loop-less c = omega arith
 
--- src/lib.rt:60:5
 loop-again : tie.Need-loop-again Inv-loop μ-loop
 loop-again c = (omega arith, going-next (c .before .before .before .before .before .before .before .before .before .loop .inv .1) (items-more (c .before .before .before .before .before .before .before .before .before .loop .row) (c .before .before .before .before .before .before .before .before .before .before .before .before .args .end) refl (c .before .before .before .before .before .before .before .before .loop-test .taken) (c .before .before .before .before .before .before .before .before .before .before .before .before .pre .1)) (fair-kind (getD allItems (c .before .before .before .before .before .before .before .before .before .loop .row) U32)) (c .before .r .given .1) (c .before .before .before .before .before .read-one .ensures))
 
--- src/lib.rt:52:1
 same-length-2 : tie.Need-same-length-2 Inv-loop μ-loop
 same-length-2 c = c .before .loop .inv .1 .size
 
--- src/lib.rt:52:1
 returns-2 : tie.Need-returns-2 Inv-loop μ-loop
 returns-2 c = going-done (c .before .loop .inv .1) (items-none (c .before .loop .row) (c .before .before .before .before .args .end) (omega (arith, c .before .loop .inv .0)))
 

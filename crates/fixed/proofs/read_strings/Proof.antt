@@ -13,52 +13,41 @@ use Rattle.fixed.proofs.read_strings.Lts as lts
 use Rattle.table.proofs.text.read_string.Reads as read-string-reads
 
 abbrev Inv-loop : tie.InvT-loop
-Inv-loop n s t₀ k place₀ j₀ left₀ t place j left = Going s t₀ k (times n string) (place₀ .0) t (place .0) j (times left string)
+Inv-loop count body table₀ from place₀ index₀ left₀ table place index left = Going body table₀ from (times count string) (place₀ .0) table (place .0) index (times left string)
 
 abbrev μ-loop : tie.MeasureT-loop
-μ-loop n s t₀ k place₀ j₀ left₀ t place j left = left
+μ-loop count body table₀ from place₀ index₀ left₀ table place index left = left
 
--- src/lib.rt:86:5
 loop-holds : tie.Need-loop-holds Inv-loop μ-loop
 loop-holds c = record { size = refl; same = refl; fits = c .before .before .pre }
 
--- src/lib.rt:87:13
 read-string-requires : tie.Need-read-string-requires Inv-loop μ-loop
 read-string-requires c κs = c .before .before .loop .inv .fits
 
--- src/lib.rt:88:23
 enum-known-r : tie.Need-enum-known-r Inv-loop μ-loop
 enum-known-r c = search needs
 
--- src/lib.rt:89:13
 enum-told : tie.Need-enum-told Inv-loop μ-loop
 enum-told c = search needs
 
--- src/lib.rt:89:13
 same-length : tie.Need-same-length Inv-loop μ-loop
 same-length c = going-size (c .before .before .before .before .before .before .before .loop .inv) (times-more (c .before .before .before .before .before .before .before .loop .left) string (c .before .before .before .before .before .before .loop-test .taken)) (c .before .before .before .before .read-string .ensures)
 
--- src/lib.rt:89:13
 returns : tie.Need-returns Inv-loop μ-loop
 returns c = going-stop (c .before .before .before .before .before .before .before .loop .inv) (times-more (c .before .before .before .before .before .before .before .loop .left) string (c .before .before .before .before .before .before .loop-test .taken)) (c .enum-told .given .1) (c .before .before .before .before .read-string .ensures)
 
--- src/lib.rt:93:9
 sub-left : tie.Need-sub-left Inv-loop μ-loop
 sub-left c = omega arith
 
--- src/lib.rt:86:5
 loop-less : tie.Need-loop-less Inv-loop μ-loop
 loop-less c = omega arith
 
--- src/lib.rt:86:5
 loop-again : tie.Need-loop-again Inv-loop μ-loop
 loop-again c = going-next (c .before .before .before .before .before .before .before .before .loop .inv) (times-more (c .before .before .before .before .before .before .before .before .loop .left) string (c .before .before .before .before .before .before .before .loop-test .taken)) (fair-byte high Item.string tt) (c .before .r .given .1) (c .before .before .before .before .before .read-string .ensures)
 
--- src/lib.rt:79:1
 same-length-2 : tie.Need-same-length-2 Inv-loop μ-loop
 same-length-2 c = c .before .loop .inv .size
 
--- src/lib.rt:79:1
 returns-2 : tie.Need-returns-2 Inv-loop μ-loop
 returns-2 c = going-done (c .before .loop .inv) (times-zero (c .before .loop .left) string (omega arith))
 

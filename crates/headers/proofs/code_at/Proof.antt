@@ -9,33 +9,26 @@ use Rattle.headers.proofs.code_at.Reads as reads
 use Rattle.headers.proofs.code_at.Lts as lts
 use Rattle.bits.proofs.byte_at.Reads as byte-at-reads
 
--- src/lib.rt:69:18
 byte-at-requires : tie.Need-byte-at-requires
 byte-at-requires c κs = search needs
 
--- src/lib.rt:69:63
 add-byte-at : tie.Need-add-byte-at
 add-byte-at c = search needs
 
--- src/lib.rt:69:46
 byte-at-requires-2 : tie.Need-byte-at-requires-2
 byte-at-requires-2 c κs = search needs
 
--- src/lib.rt:69:40
 mul-number : tie.Need-mul-number
 mul-number c = search needs
 
--- src/lib.rt:69:18
 add-number : tie.Need-add-number
 add-number c = search needs
 
--- src/lib.rt:70:5
 cast-result : tie.Need-cast-result
 cast-result c = search needs
 
--- src/lib.rt:65:1
 returns : tie.Need-returns
-returns c = let a = c .before .before .before .args in (code-of (now (a .s)) (a .i) _ _ _ refl (c .before .byte-at .ensures .0) (c .byte-at2 .ensures .0) refl, omega (arith, c .before .byte-at .ensures .1, c .byte-at2 .ensures .1))
+returns c = let a = c .before .before .before .args in (code-of (now (a .room)) (a .at .0) _ _ _ refl (c .before .byte-at .ensures .0) (c .byte-at2 .ensures .0) refl, omega (arith, c .before .byte-at .ensures .1, c .byte-at2 .ensures .1))
 
 pub code-at-spec : {M : Type 1} → statement M
 code-at-spec =

@@ -29,7 +29,7 @@ add-result : tie.Need-add-result
 add-result c = search needs
 
 returns : tie.Need-returns
-returns c = (two-bytes (now (c .before .before .before .before .before .args .s)) (c .before .before .before .before .before .args .i) _ _ _ refl (c .before .before .wide .ensures .0) (c .wide2 .ensures .0), omega arith)
+returns c = (two-bytes (now (c .before .before .before .before .before .args .bytes)) (c .before .before .before .before .before .args .i) _ _ _ refl (c .before .before .wide .ensures .0) (c .wide2 .ensures .0), omega arith)
 
 pub le16-at-spec : {M : Type 1} → statement M
 le16-at-spec =

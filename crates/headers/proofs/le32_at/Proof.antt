@@ -22,7 +22,7 @@ add-result : tie.Need-add-result
 add-result c = search needs
 
 returns : tie.Need-returns
-returns c = four-bytes (now (c .before .before .before .args .s)) (c .before .before .before .args .i) _ _ _ refl (c .before .le16-at .ensures .0) (c .le16-at2 .ensures .0)
+returns c = four-bytes (now (c .before .before .before .args .bytes)) (c .before .before .before .args .i) _ _ _ refl (c .before .le16-at .ensures .0) (c .le16-at2 .ensures .0)
 
 pub le32-at-spec : {M : Type 1} → statement M
 le32-at-spec =

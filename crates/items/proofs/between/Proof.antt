@@ -4,10 +4,10 @@ use Rattle.items.proofs.between.Statement.{statement}
 use Rattle.items.proofs.between.Tie as tie
 
 returns : tie.Need-returns
-returns c = rw (le-leb (c .before .args .a) (c .before .args .v) (c .if1 .taken))
+returns c = rw (le-leb (c .before .args .least) (c .before .args .value) (c .if1 .taken))
 
 returns-2 : tie.Need-returns-2
-returns-2 c = rw (lt-leb (c .before .args .a) (c .before .args .v) (c .if1 .left))
+returns-2 c = rw (lt-leb (c .before .args .least) (c .before .args .value) (c .if1 .left))
 
 pub between-spec : {M : Type 1} → statement M
 between-spec = tie.close (tie.spec returns returns-2)

@@ -38,23 +38,23 @@ enum-told-6 c = search needs
 
 returns : tie.Need-returns
 unfolding rangeFault
-returns c = rw (c .before .before .kind .given .1, le-leb (c .before .before .before .before .args .v) _ (c .if1 .taken))
+returns c = rw (c .before .before .kind .given .1, le-leb (c .before .before .before .before .args .value) _ (c .if1 .taken))
 
 returns-2 : tie.Need-returns-2
 unfolding rangeFault
-returns-2 c = rw (c .before .before .kind .given .1, lt-leb (c .before .before .before .before .args .v) _ (c .if1 .left))
+returns-2 c = rw (c .before .before .kind .given .1, lt-leb (c .before .before .before .before .args .value) _ (c .if1 .left))
 
 returns-3 : tie.Need-returns-3
 unfolding rangeFault
-returns-3 c = rw (c .before .enum-told .given .1, le-leb (c .before .before .before .args .v) _ (c .if2 .taken))
+returns-3 c = rw (c .before .enum-told .given .1, le-leb (c .before .before .before .args .value) _ (c .if2 .taken))
 
 returns-4 : tie.Need-returns-4
 unfolding rangeFault
-returns-4 c = rw (c .before .before .before .enum-told .given .1, lt-leb (c .before .before .before .before .before .args .v) _ (c .before .before .if2 .left), sym (c .before .between .ensures) ∙ c .if3 .taken)
+returns-4 c = rw (c .before .before .before .enum-told .given .1, lt-leb (c .before .before .before .before .before .args .value) _ (c .before .before .if2 .left), sym (c .before .between .ensures) ∙ c .if3 .taken)
 
 returns-5 : tie.Need-returns-5
 unfolding rangeFault
-returns-5 c = rw (c .before .before .before .enum-told .given .1, lt-leb (c .before .before .before .before .before .args .v) _ (c .before .before .if2 .left), sym (c .before .between .ensures) ∙ c .if3 .left)
+returns-5 c = rw (c .before .before .before .enum-told .given .1, lt-leb (c .before .before .before .before .before .args .value) _ (c .before .before .if2 .left), sym (c .before .between .ensures) ∙ c .if3 .left)
 
 returns-6 : tie.Need-returns-6
 unfolding rangeFault

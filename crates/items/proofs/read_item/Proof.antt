@@ -11,19 +11,19 @@ use Rattle.items.proofs.read_item.Tie as tie
 align-requires : tie.Need-align-requires
 align-requires c κs = search needs
 
-enum-known-a : tie.Need-enum-known-a
-enum-known-a c = search needs
+enum-known-aligned : tie.Need-enum-known-aligned
+enum-known-aligned c = search needs
 
 enum-told : tie.Need-enum-told
 enum-told c = search needs
 
 returns : tie.Need-returns
 returns c = let a = c .before .before .before .before .args in
-    sym (item-unclean (now (a .s)) (a .at .0) (a .kind) (align-unclean (now (a .s)) (a .at .0) (sym (c .before .before .align .ensures) ∙ c .enum-told .given .1)))
+    sym (item-unclean (now (a .body)) (a .at .0) (a .kind) (align-unclean (now (a .body)) (a .at .0) (sym (c .before .before .align .ensures) ∙ c .enum-told .given .1)))
 
 read-spelling-requires : tie.Need-read-spelling-requires
 read-spelling-requires c κs = let a = c .before .before .before .before .before .args in
-    let h = align-clean (now (a .s)) (a .at .0) (sym (c .before .before .before .align .ensures) ∙ c .before .a .given .1) in
+    let h = align-clean (now (a .body)) (a .at .0) (sym (c .before .before .before .align .ensures) ∙ c .before .aligned .given .1) in
     ((omega arith, c .before .before .before .before .before .pre .1), h .1)
 
 enum-known-r : tie.Need-enum-known-r
@@ -34,28 +34,28 @@ enum-told-2 c = search needs
 
 returns-2 : tie.Need-returns-2
 returns-2 c = let a = c .before .before .before .before .before .before .before .before .args in
-    let h = align-clean (now (a .s)) (a .at .0) (sym (c .before .before .before .before .before .before .align .ensures) ∙ c .before .before .before .before .a .given .1) in
-    item-bad (now (a .s)) (a .at .0) (a .kind) (h .0) (c .before .before .read-spelling .ensures) (c .enum-told2 .given .1)
+    let h = align-clean (now (a .body)) (a .at .0) (sym (c .before .before .before .before .before .before .align .ensures) ∙ c .before .before .before .before .aligned .given .1) in
+    item-bad (now (a .body)) (a .at .0) (a .kind) (h .0) (c .before .before .read-spelling .ensures) (c .enum-told2 .given .1)
 
 out-of-range-requires : tie.Need-out-of-range-requires
 out-of-range-requires c κs = search needs
 
 returns-3 : tie.Need-returns-3
 returns-3 c = let a = c .before .before .before .before .before .before .before .before .before .before .before .args in
-    let h = align-clean (now (a .s)) (a .at .0) (sym (c .before .before .before .before .before .before .before .before .before .align .ensures) ∙ c .before .before .before .before .before .before .before .a .given .1) in
-    item-in (now (a .s)) (a .at .0) (a .kind) (h .0) (c .before .before .before .before .before .read-spelling .ensures) (c .before .before .before .r .given .1) (sym (c .before .out-of-range .ensures) ∙ c .if1 .taken)
+    let h = align-clean (now (a .body)) (a .at .0) (sym (c .before .before .before .before .before .before .before .before .before .align .ensures) ∙ c .before .before .before .before .before .before .before .aligned .given .1) in
+    item-in (now (a .body)) (a .at .0) (a .kind) (h .0) (c .before .before .before .before .before .read-spelling .ensures) (c .before .before .before .r .given .1) (sym (c .before .out-of-range .ensures) ∙ c .if1 .taken)
 
 returns-4 : tie.Need-returns-4
 returns-4 c = let a = c .before .before .before .before .before .before .before .before .before .before .before .args in
-    let h = align-clean (now (a .s)) (a .at .0) (sym (c .before .before .before .before .before .before .before .before .before .align .ensures) ∙ c .before .before .before .before .before .before .before .a .given .1) in
-    item-out (now (a .s)) (a .at .0) (a .kind) (h .0) (c .before .before .before .before .before .read-spelling .ensures) (c .before .before .before .r .given .1) (c .before .out-of-range .ensures) (c .if1 .left)
+    let h = align-clean (now (a .body)) (a .at .0) (sym (c .before .before .before .before .before .before .before .before .before .align .ensures) ∙ c .before .before .before .before .before .before .before .aligned .given .1) in
+    item-out (now (a .body)) (a .at .0) (a .kind) (h .0) (c .before .before .before .before .before .read-spelling .ensures) (c .before .before .before .r .given .1) (c .before .out-of-range .ensures) (c .if1 .left)
 
 pub read-item-spec : {M : Type 1} → statement M
 read-item-spec =
     tie.close
     (tie.spec
     align-requires
-    enum-known-a
+    enum-known-aligned
     enum-told
     returns
     read-spelling-requires

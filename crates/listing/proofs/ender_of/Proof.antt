@@ -4,11 +4,9 @@ use Rattle.listing.proofs.ender_of.Tie as tie
 use Rattle.listing.proofs.ender_of.Reads as reads
 use Rattle.listing.proofs.ender_of.Lts as lts
 
--- src/lib.rt:42:1
 returns : tie.Need-returns
 returns c = simp (eq-eqb _ _ (c .if1 .taken))
 
--- src/lib.rt:42:1
 returns-2 : tie.Need-returns-2
 returns-2 c = simp (ne-eqb _ _ (c .if1 .left))
 

@@ -11,38 +11,30 @@ use Rattle.listing.proofs.fields.put_tabbed.Reads as put-tabbed-reads
 use Rattle.listing.proofs.fields.put_word.Reads as put-word-reads
 use Rattle.listing.proofs.number_at.Reads as number-at-reads
 
--- src/lib.rt:53:30
 slice-aggregate-put-word : tie.Need-slice-aggregate-put-word
 slice-aggregate-put-word c = refl
 
--- src/lib.rt:53:9
 put-word-requires : tie.Need-put-word-requires
 put-word-requires c κs = omega (arith, c .before .before .before .before .pre)
 
--- src/lib.rt:55:32
 slice-aggregate-put-tabbed : tie.Need-slice-aggregate-put-tabbed
 slice-aggregate-put-tabbed c = refl
 
--- src/lib.rt:55:9
 put-tabbed-requires : tie.Need-put-tabbed-requires
 put-tabbed-requires c κs = omega (arith, c .before .before .before .before .before .before .before .before .before .pre, c .before .before .before .before .put-word .ensures .1, c .before .before .before .before .put-word .kept .0)
 
--- src/lib.rt:56:23
 number-at-requires : tie.Need-number-at-requires
 number-at-requires c κs = tt
 
--- src/lib.rt:56:5
 put-field-requires : tie.Need-put-field-requires
 put-field-requires c κs = omega (arith, c .before .before .before .before .before .before .before .before .before .before .before .before .before .before .pre, c .before .before .before .before .before .before .before .before .before .put-word .ensures .1, c .before .before .before .before .before .before .before .before .before .put-word .kept .0, c .before .before .before .before .put-tabbed .kept .0, c .before .before .before .before .put-tabbed .ensures .1)
 
--- src/lib.rt:49:1
 same-length : tie.Need-same-length
 same-length c = c .before .before .put-field .kept .0 ∙ c .before .before .before .before .before .before .before .put-tabbed .kept .0 ∙ c .before .before .before .before .before .before .before .before .before .before .before .before .put-word .kept .0
 
--- src/lib.rt:49:1
 returns : tie.Need-returns
 returns c = (
-  first-laid (c .before .before .before .before .before .before .before .before .before .before .before .before .before .before .before .before .before .args .n) (now (c .before .before .before .before .before .before .before .before .before .before .before .before .before .before .before .before .before .args .out)) (now (c .before .before .before .before .before .before .before .before .before .before .before .before .before .before .before .before .before .args .t)) (c .before .before .before .before .before .before .before .before .before .before .before .before .before .before .before .before .before .args .k) (c .before .before .before .number-at .result) (c .before .before .before .before .before .before .before .before .before .before .before .before .put-word .ensures .0) (c .before .before .before .before .before .before .before .put-tabbed .ensures .0) (c .before .before .before .number-at .ensures) (c .before .before .put-field .ensures .0),
+  first-laid (c .before .before .before .before .before .before .before .before .before .before .before .before .before .before .before .before .before .args .len) (now (c .before .before .before .before .before .before .before .before .before .before .before .before .before .before .before .before .before .args .out)) (now (c .before .before .before .before .before .before .before .before .before .before .before .before .before .before .before .before .before .args .table)) (c .before .before .before .before .before .before .before .before .before .before .before .before .before .before .before .before .before .args .from) (c .before .before .before .number-at .result) (c .before .before .before .before .before .before .before .before .before .before .before .before .put-word .ensures .0) (c .before .before .before .before .before .before .before .put-tabbed .ensures .0) (c .before .before .before .number-at .ensures) (c .before .before .put-field .ensures .0),
   omega (arith, c .before .before .before .before .before .before .before .before .before .before .before .before .put-word .ensures .1, c .before .before .before .before .before .before .before .put-tabbed .ensures .1, c .before .before .put-field .ensures .1),
 )
 

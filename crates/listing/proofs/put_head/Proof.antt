@@ -12,78 +12,60 @@ use Rattle.listing.proofs.fields.put_tabbed.Reads as put-tabbed-reads
 use Rattle.listing.proofs.number_at.Reads as number-at-reads
 use Rattle.listing.proofs.row_at.Reads as row-at-reads
 
--- src/lib.rt:64:20
 row-at-requires : tie.Need-row-at-requires
 row-at-requires c κs = tt
 
--- src/lib.rt:64:44
 add-row-at : tie.Need-add-row-at
 add-row-at c = omega (arith, c .before .before .before .before .pre .2)
 
--- src/lib.rt:64:34
 row-at-requires-2 : tie.Need-row-at-requires-2
 row-at-requires-2 c κs = tt
 
--- src/lib.rt:64:62
 add-row-at-2 : tie.Need-add-row-at-2
 add-row-at-2 c = omega (arith, c .before .before .before .before .before .pre .2)
 
--- src/lib.rt:64:52
 row-at-requires-3 : tie.Need-row-at-requires-3
 row-at-requires-3 c κs = tt
 
--- src/lib.rt:64:80
 add-row-at-3 : tie.Need-add-row-at-3
 add-row-at-3 c = omega (arith, c .before .before .before .before .before .before .pre .2)
 
--- src/lib.rt:64:70
 row-at-requires-4 : tie.Need-row-at-requires-4
 row-at-requires-4 c κs = tt
 
--- src/lib.rt:64:88
 number-at-requires : tie.Need-number-at-requires
 number-at-requires c κs = tt
 
--- src/lib.rt:65:32
 slice-aggregate-put-tabbed : tie.Need-slice-aggregate-put-tabbed
 slice-aggregate-put-tabbed c = refl
 
--- src/lib.rt:65:9
 put-tabbed-requires : tie.Need-put-tabbed-requires
 put-tabbed-requires c κs = omega (arith, c .before .before .before .before .before .before .before .before .before .before .pre .0)
 
--- src/lib.rt:66:36
 add-number-at : tie.Need-add-number-at
 add-number-at c = omega (arith, c .before .before .before .before .before .before .before .before .before .before .before .before .before .before .pre .1)
 
--- src/lib.rt:66:23
 number-at-requires-2 : tie.Need-number-at-requires-2
 number-at-requires-2 c κs = tt
 
--- src/lib.rt:66:66
 add-number-at-2 : tie.Need-add-number-at-2
 add-number-at-2 c = omega (arith, c .before .before .before .before .before .before .before .before .before .before .before .before .before .before .before .pre .1)
 
--- src/lib.rt:66:53
 number-at-requires-3 : tie.Need-number-at-requires-3
 number-at-requires-3 c κs = tt
 
--- src/lib.rt:66:44
 ender-of-requires : tie.Need-ender-of-requires
 ender-of-requires c κs = tt
 
--- src/lib.rt:66:5
 put-field-requires : tie.Need-put-field-requires
 put-field-requires c κs = omega (arith, c .before .before .before .before .before .before .before .before .before .before .before .before .before .before .before .before .before .pre .0, c .before .before .before .before .before .before .put-tabbed .ensures .1, c .before .before .before .before .before .before .put-tabbed .kept .0)
 
--- src/lib.rt:60:1
 same-length : tie.Need-same-length
 same-length c = c .before .before .put-field .kept .0 ∙ c .before .before .before .before .before .before .before .before .before .put-tabbed .kept .0
 
--- src/lib.rt:60:1
 returns : tie.Need-returns
 returns c = (
-  head-laid (now (c .before .before .before .before .before .before .before .before .before .before .before .before .before .before .before .before .before .before .before .before .args .out)) (now (c .before .before .before .before .before .before .before .before .before .before .before .before .before .before .before .before .before .before .before .before .args .t)) (now (c .before .before .before .before .before .before .before .before .before .before .before .before .before .before .before .before .before .before .before .before .args .g)) (c .before .before .before .before .before .before .before .before .before .before .before .before .before .before .before .before .before .before .before .before .args .k) (c .before .before .before .before .before .before .before .before .before .before .before .before .before .before .before .before .before .before .before .before .args .i) (c .before .before .before .before .before .before .before .before .before .before .before .before .before .before .before .before .before .before .before .before .args .m) (c .before .before .before .before .before .before .before .before .before .before .before .before .before .before .before .before .row-at .result) (c .before .before .before .before .before .before .before .before .before .before .before .before .before .before .before .row-at2 .result) (c .before .before .before .before .before .before .before .before .before .before .before .before .before .before .row-at3 .result) (c .before .before .before .before .before .before .before .before .before .before .before .before .before .row-at4 .result) (c .before .before .before .before .before .before .before .before .before .before .before .before .number-at .result)
+  head-laid (now (c .before .before .before .before .before .before .before .before .before .before .before .before .before .before .before .before .before .before .before .before .args .out)) (now (c .before .before .before .before .before .before .before .before .before .before .before .before .before .before .before .before .before .before .before .before .args .table)) (now (c .before .before .before .before .before .before .before .before .before .before .before .before .before .before .before .before .before .before .before .before .args .rows)) (c .before .before .before .before .before .before .before .before .before .before .before .before .before .before .before .before .before .before .before .before .args .from) (c .before .before .before .before .before .before .before .before .before .before .before .before .before .before .before .before .before .before .before .before .args .index) (c .before .before .before .before .before .before .before .before .before .before .before .before .before .before .before .before .before .before .before .before .args .row) (c .before .before .before .before .before .before .before .before .before .before .before .before .before .before .before .before .row-at .result) (c .before .before .before .before .before .before .before .before .before .before .before .before .before .before .before .row-at2 .result) (c .before .before .before .before .before .before .before .before .before .before .before .before .before .before .row-at3 .result) (c .before .before .before .before .before .before .before .before .before .before .before .before .before .row-at4 .result) (c .before .before .before .before .before .before .before .before .before .before .before .before .number-at .result)
       (c .before .before .before .before .before .number-at2 .result) (c .before .before .before .ender-of .result) (c .before .before .before .before .number-at3 .result) (c .before .before .before .before .before .before .before .before .before .before .before .before .before .before .before .before .row-at .ensures) (c .before .before .before .before .before .before .before .before .before .before .before .before .before .before .before .row-at2 .ensures) (c .before .before .before .before .before .before .before .before .before .before .before .before .before .before .row-at3 .ensures) (c .before .before .before .before .before .before .before .before .before .before .before .before .before .row-at4 .ensures) (c .before .before .before .before .before .before .before .before .before .before .before .before .number-at .ensures) (c .before .before .before .before .before .before .before .before .before .put-tabbed .ensures .0)
       (c .before .before .before .before .before .number-at2 .ensures) (c .before .before .before .before .number-at3 .ensures) (c .before .before .before .ender-of .ensures) (c .before .before .put-field .ensures .0),
   omega (arith, c .before .before .before .before .before .before .before .before .before .put-tabbed .ensures .1, c .before .before .put-field .ensures .1),

@@ -9,23 +9,18 @@ use Rattle.listing.proofs.put_refusal.Lts as lts
 use Rattle.listing.proofs.fields.put_field.Reads as put-field-reads
 use Rattle.listing.proofs.fields.put_word.Reads as put-word-reads
 
--- src/lib.rt:134:30
 slice-aggregate-put-word : tie.Need-slice-aggregate-put-word
 slice-aggregate-put-word c = search needs
 
--- src/lib.rt:134:9
 put-word-requires : tie.Need-put-word-requires
 put-word-requires c κs = search needs
 
--- src/lib.rt:135:9
 put-field-requires : tie.Need-put-field-requires
 put-field-requires c κs = omega (arith, c .before .put-word .ensures .1, c .before .put-word .kept .0)
 
--- src/lib.rt:136:5
 put-field-requires-2 : tie.Need-put-field-requires-2
 put-field-requires-2 c κs = omega (arith, c .before .before .before .put-word .ensures .1, c .before .before .before .put-word .kept .0, c .before .put-field .kept .0, c .before .put-field .ensures .1)
 
--- src/lib.rt:131:1
 returns : tie.Need-returns
 returns c = (
   refusal-laid (now (c .before .before .before .before .before .before .before .args .out)) 0 (c .before .before .before .before .before .before .before .args .reason) (c .before .before .before .before .before .before .before .args .number) (c .before .before .before .before .put-word .ensures .0) (c .before .before .put-field .ensures .0) (c .put-field2 .ensures .0),

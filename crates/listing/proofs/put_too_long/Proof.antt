@@ -6,15 +6,12 @@ use Rattle.listing.proofs.put_too_long.Reads as reads
 use Rattle.listing.proofs.put_too_long.Lts as lts
 use Rattle.listing.proofs.fields.put_word.Reads as put-word-reads
 
--- src/lib.rt:143:22
 slice-aggregate-put-word : tie.Need-slice-aggregate-put-word
 slice-aggregate-put-word c = search needs
 
--- src/lib.rt:143:5
 put-word-requires : tie.Need-put-word-requires
 put-word-requires c κs = search needs
 
--- src/lib.rt:140:1
 returns : tie.Need-returns
 returns c = (c .put-word .ensures .0, omega (arith, c .put-word .ensures .1))
 

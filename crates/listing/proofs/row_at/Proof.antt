@@ -8,25 +8,20 @@ use Rattle.listing.proofs.row_at.Tie as tie
 use Rattle.listing.proofs.row_at.Reads as reads
 use Rattle.listing.proofs.row_at.Lts as lts
 
--- src/lib.rt:38:22
 mul-result : tie.Need-mul-result
 mul-result c = search needs
 
--- src/lib.rt:38:22
 shared-slice-read-result : tie.Need-shared-slice-read-result
 shared-slice-read-result c = search needs
 
--- src/lib.rt:38:22
 cast-result : tie.Need-cast-result
-cast-result c = omega (arith, c .shared-slice-known .given (c .before .before .args .i))
+cast-result c = omega (arith, c .shared-slice-known .given (c .before .before .args .index))
 
--- src/lib.rt:35:1
 returns : tie.Need-returns
 returns c = search needs
 
--- src/lib.rt:35:1
 returns-2 : tie.Need-returns-2
-returns-2 c = sym (List·getD-eq-default (now (c .before .args .g)) 0 (c .if1 .left))
+returns-2 c = sym (List·getD-eq-default (now (c .before .args .rows)) 0 (c .if1 .left))
 
 pub row-at-spec : {M : Type 1} → statement M
 row-at-spec =

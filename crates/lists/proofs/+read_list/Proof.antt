@@ -8,7 +8,7 @@ use Rattle.format.specs.FileAndTags.{le16}
 use Rattle.classes.specs.Classes.{named, classBy}
 use Rattle.classes.proofs.ClassLaws.{class-at, taken-named}
 use Rattle.lists.specs.Lists.{ownerOf}
-use Rattle.lists.proofs.ListLaws.{Going, going-start, seen-table, seen-rows, seen-room, used-up, tag-sizes, tag-fault, tag-stops, tag-last, tag-next, tag-open, open-bounds, open-sizes, open-next, open-fault}
+use Rattle.lists.proofs.ListLaws.{Going, going-start, passed-table, passed-rows, passed-room, used-up, tag-sizes, tag-fault, tag-stops, tag-last, tag-next, tag-open, open-bounds, open-sizes, open-next, open-fault}
 use Prim.Native.Nat.{ℕ, _<_}
 use borrow.Fn.Kinds.{In}
 use borrow.Fn.PlainCycle.{Measures, is, falls, and}
@@ -40,195 +40,152 @@ abbrev calls : ℕ → read-list-lts.Claims
 calls t = (all-reads.Asked, all-reads.Learnt, code-at-reads.Asked, code-at-reads.Learnt, at-level-reads.Asked, at-level-reads.Learnt, taken-as-reads.Asked, taken-as-reads.Learnt, read-tag-reads.Asked, read-tag-reads.Learnt, last-reads.Asked, last-reads.Learnt, read-list-below t, read-list.Post, blame-reads.Asked, blame-reads.Learnt)
 
 abbrev read-list-Inv-loop : read-list-lts.InvT-loop
-read-list-Inv-loop reads level left own a r t₀ k g₀ m classes n i₀ j₀ w₀ t g i j w = Going reads level left (ownerOf own) a r t₀ k g₀ m t g i j w
+read-list-Inv-loop scope level depths owner at room table₀ from rows₀ row classes place₀ index₀ line₀ table rows place index line =
+    Going scope level depths (ownerOf owner) (at .0) room table₀ from rows₀ row table rows (place .0) index line
 
 abbrev read-list-μ-loop : read-list-lts.MeasureT-loop
-read-list-μ-loop reads level left own a r t₀ k g₀ m classes n i₀ j₀ w₀ t g i j w = length r - i
+read-list-μ-loop scope level depths owner at room table₀ from rows₀ row classes place₀ index₀ line₀ table rows place index line = length room - place .0
 
 -- the class that was looked up, as the walk takes it
 class-named : (t : ℕ) (c : read-list-lts.After-read-tag-arg2 (calls t) (read-list-at t) read-list.Post read-list-Inv-loop read-list-μ-loop)
-    → c .before .before .taken-as .result ≡ named (classBy (c .before .before .before .before .before .before .before .before .before .before .before .before .args .reads) (c .before .before .before .before .before .before .before .before .before .before .before .before .args .level) (le16 (drop (c .before .before .before .before .before .before .before .loop .i) (now (c .before .before .before .before .before .before .before .before .before .before .before .before .args .r))) / 64))
+    → c .before .before .taken-as .result ≡ named (classBy (c .before .before .before .before .before .before .before .before .before .before .before .before .before .before .before .args .scope) (c .before .before .before .before .before .before .before .before .before .before .before .before .before .before .before .args .level) (le16 (drop (c .before .before .before .before .before .before .before .before .before .before .loop .place .0) (now (c .before .before .before .before .before .before .before .before .before .before .before .before .before .before .before .args .room))) / 64))
 class-named t c =
-    let a = c .before .before .before .before .before .before .before .before .before .before .before .before .args in
-    taken-named (a .reads) (a .level) (c .before .before .before .before .before .code-at .ensures .0)
-    (c .before .before .before .at-level .ensures ∙ class-at _ (c .before .before .before .before .before .before .before .before .all .ensures) (a .level) (c .before .before .before .before .before .code-at .result) _ _ _ refl refl (c .before .before .before .before .before .code-at .ensures .1))
+    let a = c .before .before .before .before .before .before .before .before .before .before .before .before .before .before .before .args in
+    taken-named (a .scope) (a .level) (c .before .before .before .before .before .code-at .ensures .0)
+    (c .before .before .before .at-level .ensures ∙ class-at _ (c .before .before .before .before .before .before .before .before .before .before .before .all .ensures) (a .level) (c .before .before .before .before .before .code-at .result) _ _ _ refl refl (c .before .before .before .before .before .code-at .ensures .1))
     (c .before .before .taken-as .ensures)
 
--- src/lib.rt:118:19
 read-list-all-requires : (t : ℕ) → read-list-lts.Need-all-requires (calls t) (read-list-at t) read-list.Post read-list-Inv-loop read-list-μ-loop
 read-list-all-requires t c κs = tt
 
--- src/lib.rt:123:5
 read-list-loop-holds : (t : ℕ) → read-list-lts.Need-loop-holds (calls t) (read-list-at t) read-list.Post read-list-Inv-loop read-list-μ-loop
-read-list-loop-holds t c = let a = c .before .before .before .before .args in going-start (a .reads) (a .level) (a .left) (ownerOf (a .own)) (a .a) (now (a .r)) (now (a .t)) (a .k) (now (a .g)) (a .m)
+read-list-loop-holds t c = let a = c .before .before .before .before .args in going-start (a .scope) (a .level) (a .depths) (ownerOf (a .owner)) (a .at .0) (now (a .room)) (now (a .table)) (a .from) (now (a .rows)) (a .row)
 
--- src/lib.rt:124:21
-read-list-add-place : (t : ℕ) → read-list-lts.Need-add-place (calls t) (read-list-at t) read-list.Post read-list-Inv-loop read-list-μ-loop
-read-list-add-place t c = omega (arith, c .before .loop .inv .inside, c .before .before .before .before .before .before .pre .1 .place)
+read-list-add-tag : (t : ℕ) → read-list-lts.Need-add-tag (calls t) (read-list-at t) read-list.Post read-list-Inv-loop read-list-μ-loop
+read-list-add-tag t c = omega (arith, c .before .before .before .before .loop .inv .inside, c .before .before .before .before .before .before .before .before .before .pre .1 .place)
 
--- src/lib.rt:125:19
-read-list-add-row : (t : ℕ) → read-list-lts.Need-add-row (calls t) (read-list-at t) read-list.Post read-list-Inv-loop read-list-μ-loop
-read-list-add-row t c = let a = c .before .before .before .before .before .before .args in omega (arith, seen-room (a .reads) (a .level) (a .left) (ownerOf (a .own)) (a .a) (now (a .r)) (now (a .t)) (a .k) (now (a .g)) (a .m) _ (c .before .loop .inv .seen) .1, c .before .before .before .before .before .before .pre .1 .row, c .before .before .before .before .before .before .pre .1 .place)
+read-list-add-line : (t : ℕ) → read-list-lts.Need-add-line (calls t) (read-list-at t) read-list.Post read-list-Inv-loop read-list-μ-loop
+read-list-add-line t c = let a = c .before .before .before .before .before .before .before .before .before .args in omega (arith, passed-room (a .scope) (a .level) (a .depths) (ownerOf (a .owner)) (a .at .0) (now (a .room)) (now (a .table)) (a .from) (now (a .rows)) (a .row) _ (c .before .before .before .before .loop .inv .passed) .1, c .before .before .before .before .before .before .before .before .before .pre .1 .row, c .before .before .before .before .before .before .before .before .before .pre .1 .place)
 
--- src/lib.rt:126:13
 read-list-code-at-requires : (t : ℕ) → read-list-lts.Need-code-at-requires (calls t) (read-list-at t) read-list.Post read-list-Inv-loop read-list-μ-loop
-read-list-code-at-requires t c κs = c .loop-test .taken
+read-list-code-at-requires t c κs = c .before .before .if1 .taken
 
--- src/lib.rt:127:30
 read-list-cast-listed : (t : ℕ) → read-list-lts.Need-cast-listed (calls t) (read-list-at t) read-list.Post read-list-Inv-loop read-list-μ-loop
 read-list-cast-listed t c = search needs
 
--- src/lib.rt:127:52
 read-list-cast-listed-2 : (t : ℕ) → read-list-lts.Need-cast-listed-2 (calls t) (read-list-at t) read-list.Post read-list-Inv-loop read-list-μ-loop
 read-list-cast-listed-2 t c = search needs
 
--- src/lib.rt:127:22
 read-list-mul-listed : (t : ℕ) → read-list-lts.Need-mul-listed (calls t) (read-list-at t) read-list.Post read-list-Inv-loop read-list-μ-loop
 read-list-mul-listed t c = search needs
 
--- src/lib.rt:127:22
 read-list-index-1-listed : (t : ℕ) → read-list-lts.Need-index-1-listed (calls t) (read-list-at t) read-list.Post read-list-Inv-loop read-list-μ-loop
 read-list-index-1-listed t c = omega (arith, c .code-at .ensures .1)
 
--- src/lib.rt:127:22
 read-list-index-2-listed : (t : ℕ) → read-list-lts.Need-index-2-listed (calls t) (read-list-at t) read-list.Post read-list-Inv-loop read-list-μ-loop
 read-list-index-2-listed t c = omega arith
 
--- src/lib.rt:128:46
 read-list-at-level-requires : (t : ℕ) → read-list-lts.Need-at-level-requires (calls t) (read-list-at t) read-list.Post read-list-Inv-loop read-list-μ-loop
 read-list-at-level-requires t c κs = search needs
 
--- src/lib.rt:128:13
 read-list-taken-as-requires : (t : ℕ) → read-list-lts.Need-taken-as-requires (calls t) (read-list-at t) read-list.Post read-list-Inv-loop read-list-μ-loop
 read-list-taken-as-requires t c κs = search needs
 
--- src/lib.rt:129:15
 read-list-read-tag-requires : (t : ℕ) → read-list-lts.Need-read-tag-requires (calls t) (read-list-at t) read-list.Post read-list-Inv-loop read-list-μ-loop
-read-list-read-tag-requires t c κs = let a = c .before .before .before .before .before .before .before .before .before .before .before .before .args in (c .before .before .before .before .before .before .before .before .before .before .before .before .pre .1 .depth, c .before .before .before .before .before .before .before .loop .inv .inside, c .before .before .before .before .before .before .before .before .before .before .before .before .pre .1 .place, omega (arith, seen-room (a .reads) (a .level) (a .left) (ownerOf (a .own)) (a .a) (now (a .r)) (now (a .t)) (a .k) (now (a .g)) (a .m) _ (c .before .before .before .before .before .before .before .loop .inv .seen) .0, c .before .before .before .before .before .before .before .before .before .before .before .before .pre .1 .index, c .before .before .before .before .before .before .before .before .before .before .before .before .pre .1 .place), omega (arith, seen-room (a .reads) (a .level) (a .left) (ownerOf (a .own)) (a .a) (now (a .r)) (now (a .t)) (a .k) (now (a .g)) (a .m) _ (c .before .before .before .before .before .before .before .loop .inv .seen) .1, c .before .before .before .before .before .before .before .before .before .before .before .before .pre .1 .row, c .before .before .before .before .before .before .before .before .before .before .before .before .pre .1 .place))
+read-list-read-tag-requires t c κs = let a = c .before .before .before .before .before .before .before .before .before .before .before .before .before .before .before .args in (c .before .before .before .before .before .before .before .before .before .before .before .before .before .before .before .pre .1 .depth, c .before .before .before .before .before .before .before .before .before .before .loop .inv .inside, c .before .before .before .before .before .before .before .before .before .before .before .before .before .before .before .pre .1 .place, omega (arith, passed-room (a .scope) (a .level) (a .depths) (ownerOf (a .owner)) (a .at .0) (now (a .room)) (now (a .table)) (a .from) (now (a .rows)) (a .row) _ (c .before .before .before .before .before .before .before .before .before .before .loop .inv .passed) .0, c .before .before .before .before .before .before .before .before .before .before .before .before .before .before .before .pre .1 .index, c .before .before .before .before .before .before .before .before .before .before .before .before .before .before .before .pre .1 .place), omega (arith, passed-room (a .scope) (a .level) (a .depths) (ownerOf (a .owner)) (a .at .0) (now (a .room)) (now (a .table)) (a .from) (now (a .rows)) (a .row) _ (c .before .before .before .before .before .before .before .before .before .before .loop .inv .passed) .1, c .before .before .before .before .before .before .before .before .before .before .before .before .before .before .before .pre .1 .row, c .before .before .before .before .before .before .before .before .before .before .before .before .before .before .before .pre .1 .place))
 
--- src/lib.rt:130:25
 read-list-enum-known-why : (t : ℕ) → read-list-lts.Need-enum-known-why (calls t) (read-list-at t) read-list.Post read-list-Inv-loop read-list-μ-loop
 read-list-enum-known-why t c = search needs
 
--- src/lib.rt:131:17
 read-list-same-length : (t : ℕ) → read-list-lts.Need-same-length (calls t) (read-list-at t) read-list.Post read-list-Inv-loop read-list-μ-loop
-read-list-same-length t c = let a = c .before .before .before .before .before .before .before .before .before .before .before .before .before .before .before .before .before .before .before .before .args in tag-sizes (a .reads) (a .level) (a .left) (ownerOf (a .own)) (a .a) (now (a .r)) (now (a .t)) (a .k) (now (a .g)) (a .m) (c .before .before .before .before .before .before .before .before .before .before .before .before .before .before .before .loop .inv) (c .before .before .before .before .before .before .before .before .before .before .before .before .before .before .loop-test .taken) (c .before .before .before .before .before .before .before .read-tag .result) (class-named t (c .before .before .before .before .before .before .before .before)) (c .before .before .before .before .before .before .before .read-tag .ensures) .0
+read-list-same-length t c = let a = c .before .before .before .before .before .before .before .before .before .before .before .before .before .before .before .before .before .before .before .before .before .before .before .args in tag-sizes (a .scope) (a .level) (a .depths) (ownerOf (a .owner)) (a .at .0) (now (a .room)) (now (a .table)) (a .from) (now (a .rows)) (a .row) (c .before .before .before .before .before .before .before .before .before .before .before .before .before .before .before .before .before .before .loop .inv) (c .before .before .before .before .before .before .before .before .before .before .before .before .before .before .before .before .if1 .taken) (c .before .before .before .before .before .before .before .read-tag .result) (class-named t (c .before .before .before .before .before .before .before .before)) (c .before .before .before .before .before .before .before .read-tag .ensures) .0
 
--- src/lib.rt:131:17
 read-list-same-length-2 : (t : ℕ) → read-list-lts.Need-same-length-2 (calls t) (read-list-at t) read-list.Post read-list-Inv-loop read-list-μ-loop
-read-list-same-length-2 t c = let a = c .before .before .before .before .before .before .before .before .before .before .before .before .before .before .before .before .before .before .before .before .args in tag-sizes (a .reads) (a .level) (a .left) (ownerOf (a .own)) (a .a) (now (a .r)) (now (a .t)) (a .k) (now (a .g)) (a .m) (c .before .before .before .before .before .before .before .before .before .before .before .before .before .before .before .loop .inv) (c .before .before .before .before .before .before .before .before .before .before .before .before .before .before .loop-test .taken) (c .before .before .before .before .before .before .before .read-tag .result) (class-named t (c .before .before .before .before .before .before .before .before)) (c .before .before .before .before .before .before .before .read-tag .ensures) .1
+read-list-same-length-2 t c = let a = c .before .before .before .before .before .before .before .before .before .before .before .before .before .before .before .before .before .before .before .before .before .before .before .args in tag-sizes (a .scope) (a .level) (a .depths) (ownerOf (a .owner)) (a .at .0) (now (a .room)) (now (a .table)) (a .from) (now (a .rows)) (a .row) (c .before .before .before .before .before .before .before .before .before .before .before .before .before .before .before .before .before .before .loop .inv) (c .before .before .before .before .before .before .before .before .before .before .before .before .before .before .before .before .if1 .taken) (c .before .before .before .before .before .before .before .read-tag .result) (class-named t (c .before .before .before .before .before .before .before .before)) (c .before .before .before .before .before .before .before .read-tag .ensures) .1
 
--- src/lib.rt:131:17
 read-list-returns : (t : ℕ) → read-list-lts.Need-returns (calls t) (read-list-at t) read-list.Post read-list-Inv-loop read-list-μ-loop
-read-list-returns t c = let a = c .before .before .before .before .before .before .before .before .before .before .before .before .before .before .before .before .before .before .before .before .args in tag-fault (a .reads) (a .level) (a .left) (ownerOf (a .own)) (a .a) (now (a .r)) (now (a .t)) (a .k) (now (a .g)) (a .m) (c .before .before .before .before .before .before .before .before .before .before .before .before .before .before .before .loop .inv) (c .before .before .before .before .before .before .before .before .before .before .before .before .before .before .loop-test .taken) (c .before .before .before .before .before .before .before .read-tag .result) (class-named t (c .before .before .before .before .before .before .before .before)) (c .before .before .before .before .before .before .before .read-tag .ensures) (c .before .why .given .1)
+read-list-returns t c = let a = c .before .before .before .before .before .before .before .before .before .before .before .before .before .before .before .before .before .before .before .before .before .before .before .args in tag-fault (a .scope) (a .level) (a .depths) (ownerOf (a .owner)) (a .at .0) (now (a .room)) (now (a .table)) (a .from) (now (a .rows)) (a .row) (c .before .before .before .before .before .before .before .before .before .before .before .before .before .before .before .before .before .before .loop .inv) (c .before .before .before .before .before .before .before .before .before .before .before .before .before .before .before .before .if1 .taken) (c .before .before .before .before .before .before .before .read-tag .result) (class-named t (c .before .before .before .before .before .before .before .before)) (c .before .before .before .before .before .before .before .read-tag .ensures) (c .before .why .given .1)
 
--- src/lib.rt:133:24
 read-list-enum-known-stop : (t : ℕ) → read-list-lts.Need-enum-known-stop (calls t) (read-list-at t) read-list.Post read-list-Inv-loop read-list-μ-loop
 read-list-enum-known-stop t c = search needs
 
--- src/lib.rt:134:17
 read-list-last-requires : (t : ℕ) → read-list-lts.Need-last-requires (calls t) (read-list-at t) read-list.Post read-list-Inv-loop read-list-μ-loop
-read-list-last-requires t c κs = let a = c .before .before .before .before .before .before .before .before .before .before .before .before .before .before .before .before .before .before .before .before .args in omega (arith, tag-stops (a .reads) (a .level) (a .left) (ownerOf (a .own)) (a .a) (now (a .r)) (now (a .t)) (a .k) (now (a .g)) (a .m) (c .before .before .before .before .before .before .before .before .before .before .before .before .before .before .before .loop .inv) (c .before .before .before .before .before .before .before .before .before .before .before .before .before .before .loop-test .taken) (c .before .before .before .before .before .before .before .read-tag .result) (class-named t (c .before .before .before .before .before .before .before .before)) (c .before .before .before .before .before .before .before .read-tag .ensures) (c .before .stop .given .1), c .before .before .before .before .before .before .before .before .before .before .before .before .before .before .before .before .before .before .before .before .pre .1 .place)
+read-list-last-requires t c κs = let a = c .before .before .before .before .before .before .before .before .before .before .before .before .before .before .before .before .before .before .before .before .before .before .before .args in omega (arith, tag-stops (a .scope) (a .level) (a .depths) (ownerOf (a .owner)) (a .at .0) (now (a .room)) (now (a .table)) (a .from) (now (a .rows)) (a .row) (c .before .before .before .before .before .before .before .before .before .before .before .before .before .before .before .before .before .before .loop .inv) (c .before .before .before .before .before .before .before .before .before .before .before .before .before .before .before .before .if1 .taken) (c .before .before .before .before .before .before .before .read-tag .result) (class-named t (c .before .before .before .before .before .before .before .before)) (c .before .before .before .before .before .before .before .read-tag .ensures) (c .before .stop .given .1), c .before .before .before .before .before .before .before .before .before .before .before .before .before .before .before .before .before .before .before .before .before .before .before .pre .1 .place)
 
--- src/lib.rt:134:17
 read-list-same-length-3 : (t : ℕ) → read-list-lts.Need-same-length-3 (calls t) (read-list-at t) read-list.Post read-list-Inv-loop read-list-μ-loop
-read-list-same-length-3 t c = let a = c .before .before .before .before .before .before .before .before .before .before .before .before .before .before .before .before .before .before .before .before .before .args in tag-sizes (a .reads) (a .level) (a .left) (ownerOf (a .own)) (a .a) (now (a .r)) (now (a .t)) (a .k) (now (a .g)) (a .m) (c .before .before .before .before .before .before .before .before .before .before .before .before .before .before .before .before .loop .inv) (c .before .before .before .before .before .before .before .before .before .before .before .before .before .before .before .loop-test .taken) (c .before .before .before .before .before .before .before .before .read-tag .result) (class-named t (c .before .before .before .before .before .before .before .before .before)) (c .before .before .before .before .before .before .before .before .read-tag .ensures) .0
+read-list-same-length-3 t c = let a = c .before .before .before .before .before .before .before .before .before .before .before .before .before .before .before .before .before .before .before .before .before .before .before .before .args in tag-sizes (a .scope) (a .level) (a .depths) (ownerOf (a .owner)) (a .at .0) (now (a .room)) (now (a .table)) (a .from) (now (a .rows)) (a .row) (c .before .before .before .before .before .before .before .before .before .before .before .before .before .before .before .before .before .before .before .loop .inv) (c .before .before .before .before .before .before .before .before .before .before .before .before .before .before .before .before .before .if1 .taken) (c .before .before .before .before .before .before .before .before .read-tag .result) (class-named t (c .before .before .before .before .before .before .before .before .before)) (c .before .before .before .before .before .before .before .before .read-tag .ensures) .0
 
--- src/lib.rt:134:17
 read-list-same-length-4 : (t : ℕ) → read-list-lts.Need-same-length-4 (calls t) (read-list-at t) read-list.Post read-list-Inv-loop read-list-μ-loop
-read-list-same-length-4 t c = let a = c .before .before .before .before .before .before .before .before .before .before .before .before .before .before .before .before .before .before .before .before .before .args in tag-sizes (a .reads) (a .level) (a .left) (ownerOf (a .own)) (a .a) (now (a .r)) (now (a .t)) (a .k) (now (a .g)) (a .m) (c .before .before .before .before .before .before .before .before .before .before .before .before .before .before .before .before .loop .inv) (c .before .before .before .before .before .before .before .before .before .before .before .before .before .before .before .loop-test .taken) (c .before .before .before .before .before .before .before .before .read-tag .result) (class-named t (c .before .before .before .before .before .before .before .before .before)) (c .before .before .before .before .before .before .before .before .read-tag .ensures) .1
+read-list-same-length-4 t c = let a = c .before .before .before .before .before .before .before .before .before .before .before .before .before .before .before .before .before .before .before .before .before .before .before .before .args in tag-sizes (a .scope) (a .level) (a .depths) (ownerOf (a .owner)) (a .at .0) (now (a .room)) (now (a .table)) (a .from) (now (a .rows)) (a .row) (c .before .before .before .before .before .before .before .before .before .before .before .before .before .before .before .before .before .before .before .loop .inv) (c .before .before .before .before .before .before .before .before .before .before .before .before .before .before .before .before .before .if1 .taken) (c .before .before .before .before .before .before .before .before .read-tag .result) (class-named t (c .before .before .before .before .before .before .before .before .before)) (c .before .before .before .before .before .before .before .before .read-tag .ensures) .1
 
--- src/lib.rt:134:17
 read-list-returns-2 : (t : ℕ) → read-list-lts.Need-returns-2 (calls t) (read-list-at t) read-list.Post read-list-Inv-loop read-list-μ-loop
-read-list-returns-2 t c = let a = c .before .before .before .before .before .before .before .before .before .before .before .before .before .before .before .before .before .before .before .before .before .args in tag-last (a .reads) (a .level) (a .left) (ownerOf (a .own)) (a .a) (now (a .r)) (now (a .t)) (a .k) (now (a .g)) (a .m) (c .before .before .before .before .before .before .before .before .before .before .before .before .before .before .before .before .loop .inv) (c .before .before .before .before .before .before .before .before .before .before .before .before .before .before .before .loop-test .taken) (c .before .before .before .before .before .before .before .before .read-tag .result) (class-named t (c .before .before .before .before .before .before .before .before .before)) (c .before .before .before .before .before .before .before .before .read-tag .ensures) (a .own) refl (c .before .before .stop .given .1) (c .last .ensures)
+read-list-returns-2 t c = let a = c .before .before .before .before .before .before .before .before .before .before .before .before .before .before .before .before .before .before .before .before .before .before .before .before .args in tag-last (a .scope) (a .level) (a .depths) (ownerOf (a .owner)) (a .at .0) (now (a .room)) (now (a .table)) (a .from) (now (a .rows)) (a .row) (c .before .before .before .before .before .before .before .before .before .before .before .before .before .before .before .before .before .before .before .loop .inv) (c .before .before .before .before .before .before .before .before .before .before .before .before .before .before .before .before .before .if1 .taken) (c .before .before .before .before .before .before .before .before .read-tag .result) (class-named t (c .before .before .before .before .before .before .before .before .before)) (c .before .before .before .before .before .before .before .before .read-tag .ensures) (a .owner) refl (c .before .before .stop .given .1) (c .last .ensures)
 
--- src/lib.rt:136:24
 read-list-enum-known-stop-2 : (t : ℕ) → read-list-lts.Need-enum-known-stop-2 (calls t) (read-list-at t) read-list.Post read-list-Inv-loop read-list-μ-loop
 read-list-enum-known-stop-2 t c = search needs
 
--- src/lib.rt:123:5
 read-list-loop-less : (t : ℕ) → read-list-lts.Need-loop-less (calls t) (read-list-at t) read-list.Post read-list-Inv-loop read-list-μ-loop
-read-list-loop-less t c = let a = c .before .before .before .before .before .before .before .before .before .before .before .before .before .before .before .before .before .before .before .before .args in omega (arith, tag-next (a .reads) (a .level) (a .left) (ownerOf (a .own)) (a .a) (now (a .r)) (now (a .t)) (a .k) (now (a .g)) (a .m) (c .before .before .before .before .before .before .before .before .before .before .before .before .before .before .before .loop .inv) (c .before .before .before .before .before .before .before .before .before .before .before .before .before .before .loop-test .taken) (c .before .before .before .before .before .before .before .read-tag .result) (class-named t (c .before .before .before .before .before .before .before .before)) (c .before .before .before .before .before .before .before .read-tag .ensures) (c .before .stop2 .given .1) .0, tag-next (a .reads) (a .level) (a .left) (ownerOf (a .own)) (a .a) (now (a .r)) (now (a .t)) (a .k) (now (a .g)) (a .m) (c .before .before .before .before .before .before .before .before .before .before .before .before .before .before .before .loop .inv) (c .before .before .before .before .before .before .before .before .before .before .before .before .before .before .loop-test .taken) (c .before .before .before .before .before .before .before .read-tag .result) (class-named t (c .before .before .before .before .before .before .before .before)) (c .before .before .before .before .before .before .before .read-tag .ensures) (c .before .stop2 .given .1) .1 .inside)
+read-list-loop-less t c = let a = c .before .before .before .before .before .before .before .before .before .before .before .before .before .before .before .before .before .before .before .before .before .before .before .args in omega (arith, tag-next (a .scope) (a .level) (a .depths) (ownerOf (a .owner)) (a .at .0) (now (a .room)) (now (a .table)) (a .from) (now (a .rows)) (a .row) (c .before .before .before .before .before .before .before .before .before .before .before .before .before .before .before .before .before .before .loop .inv) (c .before .before .before .before .before .before .before .before .before .before .before .before .before .before .before .before .if1 .taken) (c .before .before .before .before .before .before .before .read-tag .result) (class-named t (c .before .before .before .before .before .before .before .before)) (c .before .before .before .before .before .before .before .read-tag .ensures) (c .before .stop2 .given .1) .0, tag-next (a .scope) (a .level) (a .depths) (ownerOf (a .owner)) (a .at .0) (now (a .room)) (now (a .table)) (a .from) (now (a .rows)) (a .row) (c .before .before .before .before .before .before .before .before .before .before .before .before .before .before .before .before .before .before .loop .inv) (c .before .before .before .before .before .before .before .before .before .before .before .before .before .before .before .before .if1 .taken) (c .before .before .before .before .before .before .before .read-tag .result) (class-named t (c .before .before .before .before .before .before .before .before)) (c .before .before .before .before .before .before .before .read-tag .ensures) (c .before .stop2 .given .1) .1 .inside)
 
--- src/lib.rt:123:5
 read-list-loop-again : (t : ℕ) → read-list-lts.Need-loop-again (calls t) (read-list-at t) read-list.Post read-list-Inv-loop read-list-μ-loop
-read-list-loop-again t c = let a = c .before .before .before .before .before .before .before .before .before .before .before .before .before .before .before .before .before .before .before .before .args in tag-next (a .reads) (a .level) (a .left) (ownerOf (a .own)) (a .a) (now (a .r)) (now (a .t)) (a .k) (now (a .g)) (a .m) (c .before .before .before .before .before .before .before .before .before .before .before .before .before .before .before .loop .inv) (c .before .before .before .before .before .before .before .before .before .before .before .before .before .before .loop-test .taken) (c .before .before .before .before .before .before .before .read-tag .result) (class-named t (c .before .before .before .before .before .before .before .before)) (c .before .before .before .before .before .before .before .read-tag .ensures) (c .before .stop2 .given .1) .1
+read-list-loop-again t c = let a = c .before .before .before .before .before .before .before .before .before .before .before .before .before .before .before .before .before .before .before .before .before .before .before .args in tag-next (a .scope) (a .level) (a .depths) (ownerOf (a .owner)) (a .at .0) (now (a .room)) (now (a .table)) (a .from) (now (a .rows)) (a .row) (c .before .before .before .before .before .before .before .before .before .before .before .before .before .before .before .before .before .before .loop .inv) (c .before .before .before .before .before .before .before .before .before .before .before .before .before .before .before .before .if1 .taken) (c .before .before .before .before .before .before .before .read-tag .result) (class-named t (c .before .before .before .before .before .before .before .before)) (c .before .before .before .before .before .before .before .read-tag .ensures) (c .before .stop2 .given .1) .1
 
--- src/lib.rt:141:24
-read-list-enum-known-list : (t : ℕ) → read-list-lts.Need-enum-known-list (calls t) (read-list-at t) read-list.Post read-list-Inv-loop read-list-μ-loop
-read-list-enum-known-list t c = search needs
+read-list-enum-known-opened : (t : ℕ) → read-list-lts.Need-enum-known-opened (calls t) (read-list-at t) read-list.Post read-list-Inv-loop read-list-μ-loop
+read-list-enum-known-opened t c = search needs
 
--- src/lib.rt:143:29
-read-list-sub-inner : (t : ℕ) → read-list-lts.Need-sub-inner (calls t) (read-list-at t) read-list.Post read-list-Inv-loop read-list-μ-loop
-read-list-sub-inner t c = let a = c .before .before .before .before .before .before .before .before .before .before .before .before .before .before .before .before .before .before .before .before .args in tag-open (a .reads) (a .level) (a .left) (ownerOf (a .own)) (a .a) (now (a .r)) (now (a .t)) (a .k) (now (a .g)) (a .m) (c .before .before .before .before .before .before .before .before .before .before .before .before .before .before .before .loop .inv) (c .before .before .before .before .before .before .before .before .before .before .before .before .before .before .loop-test .taken) (c .before .before .before .before .before .before .before .read-tag .result) (class-named t (c .before .before .before .before .before .before .before .before)) (c .before .before .before .before .before .before .before .read-tag .ensures) (c .before .list .given .1) .order
+read-list-sub-part : (t : ℕ) → read-list-lts.Need-sub-part (calls t) (read-list-at t) read-list.Post read-list-Inv-loop read-list-μ-loop
+read-list-sub-part t c = let a = c .before .before .before .before .before .before .before .before .before .before .before .before .before .before .before .before .before .before .before .before .before .before .before .before .args in tag-open (a .scope) (a .level) (a .depths) (ownerOf (a .owner)) (a .at .0) (now (a .room)) (now (a .table)) (a .from) (now (a .rows)) (a .row) (c .before .before .before .before .before .before .before .before .before .before .before .before .before .before .before .before .before .before .before .loop .inv) (c .before .before .before .before .before .before .before .before .before .before .before .before .before .before .before .before .before .if1 .taken) (c .before .before .before .before .before .before .before .before .read-tag .result) (class-named t (c .before .before .before .before .before .before .before .before .before)) (c .before .before .before .before .before .before .before .before .read-tag .ensures) _ (c .before .before .opened .given .1) .order
 
--- src/lib.rt:143:29
-read-list-part-inner-start : (t : ℕ) → read-list-lts.Need-part-inner-start (calls t) (read-list-at t) read-list.Post read-list-Inv-loop read-list-μ-loop
-read-list-part-inner-start t c = let a = c .before .before .before .before .before .before .before .before .before .before .before .before .before .before .before .before .before .before .before .before .args in tag-open (a .reads) (a .level) (a .left) (ownerOf (a .own)) (a .a) (now (a .r)) (now (a .t)) (a .k) (now (a .g)) (a .m) (c .before .before .before .before .before .before .before .before .before .before .before .before .before .before .before .loop .inv) (c .before .before .before .before .before .before .before .before .before .before .before .before .before .before .loop-test .taken) (c .before .before .before .before .before .before .before .read-tag .result) (class-named t (c .before .before .before .before .before .before .before .before)) (c .before .before .before .before .before .before .before .read-tag .ensures) (c .before .list .given .1) .order
+read-list-part-part-start : (t : ℕ) → read-list-lts.Need-part-part-start (calls t) (read-list-at t) read-list.Post read-list-Inv-loop read-list-μ-loop
+read-list-part-part-start t c = let a = c .before .before .before .before .before .before .before .before .before .before .before .before .before .before .before .before .before .before .before .before .before .before .before .before .args in tag-open (a .scope) (a .level) (a .depths) (ownerOf (a .owner)) (a .at .0) (now (a .room)) (now (a .table)) (a .from) (now (a .rows)) (a .row) (c .before .before .before .before .before .before .before .before .before .before .before .before .before .before .before .before .before .before .before .loop .inv) (c .before .before .before .before .before .before .before .before .before .before .before .before .before .before .before .before .before .if1 .taken) (c .before .before .before .before .before .before .before .before .read-tag .result) (class-named t (c .before .before .before .before .before .before .before .before .before)) (c .before .before .before .before .before .before .before .before .read-tag .ensures) _ (c .before .before .opened .given .1) .order
 
--- src/lib.rt:143:29
-read-list-part-inner-end : (t : ℕ) → read-list-lts.Need-part-inner-end (calls t) (read-list-at t) read-list.Post read-list-Inv-loop read-list-μ-loop
-read-list-part-inner-end t c = let a = c .before .before .before .before .before .before .before .before .before .before .before .before .before .before .before .before .before .before .before .before .args in tag-open (a .reads) (a .level) (a .left) (ownerOf (a .own)) (a .a) (now (a .r)) (now (a .t)) (a .k) (now (a .g)) (a .m) (c .before .before .before .before .before .before .before .before .before .before .before .before .before .before .before .loop .inv) (c .before .before .before .before .before .before .before .before .before .before .before .before .before .before .loop-test .taken) (c .before .before .before .before .before .before .before .read-tag .result) (class-named t (c .before .before .before .before .before .before .before .before)) (c .before .before .before .before .before .before .before .read-tag .ensures) (c .before .list .given .1) .inside
+read-list-part-part-end : (t : ℕ) → read-list-lts.Need-part-part-end (calls t) (read-list-at t) read-list.Post read-list-Inv-loop read-list-μ-loop
+read-list-part-part-end t c = let a = c .before .before .before .before .before .before .before .before .before .before .before .before .before .before .before .before .before .before .before .before .before .before .before .before .args in tag-open (a .scope) (a .level) (a .depths) (ownerOf (a .owner)) (a .at .0) (now (a .room)) (now (a .table)) (a .from) (now (a .rows)) (a .row) (c .before .before .before .before .before .before .before .before .before .before .before .before .before .before .before .before .before .before .before .loop .inv) (c .before .before .before .before .before .before .before .before .before .before .before .before .before .before .before .before .before .if1 .taken) (c .before .before .before .before .before .before .before .before .read-tag .result) (class-named t (c .before .before .before .before .before .before .before .before .before)) (c .before .before .before .before .before .before .before .before .read-tag .ensures) _ (c .before .before .opened .given .1) .inside
 
--- src/lib.rt:144:42
-read-list-sub-read-list : (t : ℕ) → read-list-lts.Need-sub-read-list (calls t) (read-list-at t) read-list.Post read-list-Inv-loop read-list-μ-loop
-read-list-sub-read-list t c = let a = c .before .before .before .before .before .before .before .before .before .before .before .before .before .before .before .before .before .before .before .before .before .args in tag-open (a .reads) (a .level) (a .left) (ownerOf (a .own)) (a .a) (now (a .r)) (now (a .t)) (a .k) (now (a .g)) (a .m) (c .before .before .before .before .before .before .before .before .before .before .before .before .before .before .before .before .loop .inv) (c .before .before .before .before .before .before .before .before .before .before .before .before .before .before .before .loop-test .taken) (c .before .before .before .before .before .before .before .before .read-tag .result) (class-named t (c .before .before .before .before .before .before .before .before .before)) (c .before .before .before .before .before .before .before .before .read-tag .ensures) (c .before .before .list .given .1) .deep
+read-list-sub-less : (t : ℕ) → read-list-lts.Need-sub-less (calls t) (read-list-at t) read-list.Post read-list-Inv-loop read-list-μ-loop
+read-list-sub-less t c = let a = c .before .before .before .before .before .before .before .before .before .before .before .before .before .before .before .before .before .before .before .before .before .before .before .args in tag-open (a .scope) (a .level) (a .depths) (ownerOf (a .owner)) (a .at .0) (now (a .room)) (now (a .table)) (a .from) (now (a .rows)) (a .row) (c .before .before .before .before .before .before .before .before .before .before .before .before .before .before .before .before .before .before .loop .inv) (c .before .before .before .before .before .before .before .before .before .before .before .before .before .before .before .before .if1 .taken) (c .before .before .before .before .before .before .before .read-tag .result) (class-named t (c .before .before .before .before .before .before .before .before)) (c .before .before .before .before .before .before .before .read-tag .ensures) _ (c .before .opened .given .1) .deep
 
--- src/lib.rt:144:60
-read-list-add-read-list : (t : ℕ) → read-list-lts.Need-add-read-list (calls t) (read-list-at t) read-list.Post read-list-Inv-loop read-list-μ-loop
-read-list-add-read-list t c = let a = c .before .before .before .before .before .before .before .before .before .before .before .before .before .before .before .before .before .before .before .before .before .args in omega (arith, tag-open (a .reads) (a .level) (a .left) (ownerOf (a .own)) (a .a) (now (a .r)) (now (a .t)) (a .k) (now (a .g)) (a .m) (c .before .before .before .before .before .before .before .before .before .before .before .before .before .before .before .before .loop .inv) (c .before .before .before .before .before .before .before .before .before .before .before .before .before .before .before .loop-test .taken) (c .before .before .before .before .before .before .before .before .read-tag .result) (class-named t (c .before .before .before .before .before .before .before .before .before)) (c .before .before .before .before .before .before .before .before .read-tag .ensures) (c .before .before .list .given .1) .order, tag-open (a .reads) (a .level) (a .left) (ownerOf (a .own)) (a .a) (now (a .r)) (now (a .t)) (a .k) (now (a .g)) (a .m) (c .before .before .before .before .before .before .before .before .before .before .before .before .before .before .before .before .loop .inv) (c .before .before .before .before .before .before .before .before .before .before .before .before .before .before .before .loop-test .taken) (c .before .before .before .before .before .before .before .before .read-tag .result) (class-named t (c .before .before .before .before .before .before .before .before .before)) (c .before .before .before .before .before .before .before .before .read-tag .ensures) (c .before .before .list .given .1) .inside, c .before .before .before .before .before .before .before .before .before .before .before .before .before .before .before .before .before .before .before .before .before .pre .1 .place)
+read-list-add-start : (t : ℕ) → read-list-lts.Need-add-start (calls t) (read-list-at t) read-list.Post read-list-Inv-loop read-list-μ-loop
+read-list-add-start t c = let a = c .before .before .before .before .before .before .before .before .before .before .before .before .before .before .before .before .before .before .before .before .before .before .before .before .args in omega (arith, tag-open (a .scope) (a .level) (a .depths) (ownerOf (a .owner)) (a .at .0) (now (a .room)) (now (a .table)) (a .from) (now (a .rows)) (a .row) (c .before .before .before .before .before .before .before .before .before .before .before .before .before .before .before .before .before .before .before .loop .inv) (c .before .before .before .before .before .before .before .before .before .before .before .before .before .before .before .before .before .if1 .taken) (c .before .before .before .before .before .before .before .before .read-tag .result) (class-named t (c .before .before .before .before .before .before .before .before .before)) (c .before .before .before .before .before .before .before .before .read-tag .ensures) _ (c .before .before .opened .given .1) .order, tag-open (a .scope) (a .level) (a .depths) (ownerOf (a .owner)) (a .at .0) (now (a .room)) (now (a .table)) (a .from) (now (a .rows)) (a .row) (c .before .before .before .before .before .before .before .before .before .before .before .before .before .before .before .before .before .before .before .loop .inv) (c .before .before .before .before .before .before .before .before .before .before .before .before .before .before .before .before .before .if1 .taken) (c .before .before .before .before .before .before .before .before .read-tag .result) (class-named t (c .before .before .before .before .before .before .before .before .before)) (c .before .before .before .before .before .before .before .before .read-tag .ensures) _ (c .before .before .opened .given .1) .inside, c .before .before .before .before .before .before .before .before .before .before .before .before .before .before .before .before .before .before .before .before .before .before .before .before .pre .1 .place)
 
--- src/lib.rt:144:21
 read-list-read-list-requires : (t : ℕ) → read-list-lts.Need-read-list-requires (calls t) (read-list-at t) read-list.Post read-list-Inv-loop read-list-μ-loop
-read-list-read-list-requires t c κs = let a = c .before .before .before .before .before .before .before .before .before .before .before .before .before .before .before .before .before .before .before .before .before .before .before .args in (omega (arith, tag-open (a .reads) (a .level) (a .left) (ownerOf (a .own)) (a .a) (now (a .r)) (now (a .t)) (a .k) (now (a .g)) (a .m) (c .before .before .before .before .before .before .before .before .before .before .before .before .before .before .before .before .before .before .loop .inv) (c .before .before .before .before .before .before .before .before .before .before .before .before .before .before .before .before .before .loop-test .taken) (c .before .before .before .before .before .before .before .before .before .before .read-tag .result) (class-named t (c .before .before .before .before .before .before .before .before .before .before .before)) (c .before .before .before .before .before .before .before .before .before .before .read-tag .ensures) (c .before .before .before .before .list .given .1) .deep), open-bounds (a .reads) (a .level) (a .left) (ownerOf (a .own)) (a .a) (now (a .r)) (now (a .t)) (a .k) (now (a .g)) (a .m) (c .before .before .before .before .before .before .before .before .before .before .before .before .before .before .before .before .before .before .loop .inv) (c .before .before .before .before .before .before .before .before .before .before .before .before .before .before .before .before .before .loop-test .taken) (c .before .before .before .before .before .before .before .before .before .before .read-tag .result) (class-named t (c .before .before .before .before .before .before .before .before .before .before .before)) (c .before .before .before .before .before .before .before .before .before .before .read-tag .ensures) (c .before .before .before .before .list .given .1) (c .before .before .before .before .before .before .before .before .before .before .before .before .before .before .before .before .before .before .before .before .before .before .before .pre .1))
+read-list-read-list-requires t c κs = let a = c .before .before .before .before .before .before .before .before .before .before .before .before .before .before .before .before .before .before .before .before .before .before .before .before .before .before .before .args in (omega (arith, c .before .before .before .before .before .before .before .before .before .before .before .before .before .before .before .before .before .before .before .before .before .before .before .before .before .before .before .pre .0, tag-open (a .scope) (a .level) (a .depths) (ownerOf (a .owner)) (a .at .0) (now (a .room)) (now (a .table)) (a .from) (now (a .rows)) (a .row) (c .before .before .before .before .before .before .before .before .before .before .before .before .before .before .before .before .before .before .before .before .before .before .loop .inv) (c .before .before .before .before .before .before .before .before .before .before .before .before .before .before .before .before .before .before .before .before .if1 .taken) (c .before .before .before .before .before .before .before .before .before .before .before .read-tag .result) (class-named t (c .before .before .before .before .before .before .before .before .before .before .before .before)) (c .before .before .before .before .before .before .before .before .before .before .before .read-tag .ensures) _ (c .before .before .before .before .before .opened .given .1) .deep), open-bounds (a .scope) (a .level) (a .depths) (ownerOf (a .owner)) (a .at .0) (now (a .room)) (now (a .table)) (a .from) (now (a .rows)) (a .row) (c .before .before .before .before .before .before .before .before .before .before .before .before .before .before .before .before .before .before .before .before .before .before .loop .inv) (c .before .before .before .before .before .before .before .before .before .before .before .before .before .before .before .before .before .before .before .before .if1 .taken) (c .before .before .before .before .before .before .before .before .before .before .before .read-tag .result) (class-named t (c .before .before .before .before .before .before .before .before .before .before .before .before)) (c .before .before .before .before .before .before .before .before .before .before .before .read-tag .ensures) _ (c .before .before .before .before .before .opened .given .1) (c .before .before .before .before .before .before .before .before .before .before .before .before .before .before .before .before .before .before .before .before .before .before .before .before .before .before .before .pre .1))
 
--- src/lib.rt:145:34
 read-list-enum-known-x : (t : ℕ) → read-list-lts.Need-enum-known-x (calls t) (read-list-at t) read-list.Post read-list-Inv-loop read-list-μ-loop
 read-list-enum-known-x t c = search needs
 
--- src/lib.rt:146:21
 read-list-enum-told : (t : ℕ) → read-list-lts.Need-enum-told (calls t) (read-list-at t) read-list.Post read-list-Inv-loop read-list-μ-loop
 read-list-enum-told t c = search needs
 
--- src/lib.rt:146:21
 read-list-same-length-5 : (t : ℕ) → read-list-lts.Need-same-length-5 (calls t) (read-list-at t) read-list.Post read-list-Inv-loop read-list-μ-loop
-read-list-same-length-5 t c = let a = c .before .before .before .before .before .before .before .before .before .before .before .before .before .before .before .before .before .before .before .before .before .before .before .before .before .before .before .before .before .before .args in open-sizes (a .reads) (a .level) (a .left) (ownerOf (a .own)) (a .a) (now (a .r)) (now (a .t)) (a .k) (now (a .g)) (a .m) (c .before .before .before .before .before .before .before .before .before .before .before .before .before .before .before .before .before .before .before .before .before .before .before .before .before .loop .inv) (c .before .before .before .before .before .before .before .before .before .before .before .before .before .before .before .before .before .before .before .before .before .before .before .before .loop-test .taken) (c .before .before .before .before .before .before .before .before .before .before .before .before .before .before .before .before .before .read-tag .result) (class-named t (c .before .before .before .before .before .before .before .before .before .before .before .before .before .before .before .before .before .before)) (c .before .before .before .before .before .before .before .before .before .before .before .before .before .before .before .before .before .read-tag .ensures) (c .before .before .before .before .before .before .before .before .before .before .before .list .given .1) (c .before .before .before .before .before .before .read-list .result) (c .before .before .before .before .before .before .read-list .ensures) .0
+read-list-same-length-5 t c = let a = c .before .before .before .before .before .before .before .before .before .before .before .before .before .before .before .before .before .before .before .before .before .before .before .before .before .before .before .before .before .before .before .before .before .before .args in open-sizes (a .scope) (a .level) (a .depths) (ownerOf (a .owner)) (a .at .0) (now (a .room)) (now (a .table)) (a .from) (now (a .rows)) (a .row) (c .before .before .before .before .before .before .before .before .before .before .before .before .before .before .before .before .before .before .before .before .before .before .before .before .before .before .before .before .before .loop .inv) (c .before .before .before .before .before .before .before .before .before .before .before .before .before .before .before .before .before .before .before .before .before .before .before .before .before .before .before .if1 .taken) (c .before .before .before .before .before .before .before .before .before .before .before .before .before .before .before .before .before .before .read-tag .result) (class-named t (c .before .before .before .before .before .before .before .before .before .before .before .before .before .before .before .before .before .before .before)) (c .before .before .before .before .before .before .before .before .before .before .before .before .before .before .before .before .before .before .read-tag .ensures) _ (c .before .before .before .before .before .before .before .before .before .before .before .before .opened .given .1) (c .before .before .before .before .before .before .read-list .result) (c .before .before .before .before .before .before .read-list .ensures) .0
 
--- src/lib.rt:146:21
 read-list-same-length-6 : (t : ℕ) → read-list-lts.Need-same-length-6 (calls t) (read-list-at t) read-list.Post read-list-Inv-loop read-list-μ-loop
-read-list-same-length-6 t c = let a = c .before .before .before .before .before .before .before .before .before .before .before .before .before .before .before .before .before .before .before .before .before .before .before .before .before .before .before .before .before .before .args in open-sizes (a .reads) (a .level) (a .left) (ownerOf (a .own)) (a .a) (now (a .r)) (now (a .t)) (a .k) (now (a .g)) (a .m) (c .before .before .before .before .before .before .before .before .before .before .before .before .before .before .before .before .before .before .before .before .before .before .before .before .before .loop .inv) (c .before .before .before .before .before .before .before .before .before .before .before .before .before .before .before .before .before .before .before .before .before .before .before .before .loop-test .taken) (c .before .before .before .before .before .before .before .before .before .before .before .before .before .before .before .before .before .read-tag .result) (class-named t (c .before .before .before .before .before .before .before .before .before .before .before .before .before .before .before .before .before .before)) (c .before .before .before .before .before .before .before .before .before .before .before .before .before .before .before .before .before .read-tag .ensures) (c .before .before .before .before .before .before .before .before .before .before .before .list .given .1) (c .before .before .before .before .before .before .read-list .result) (c .before .before .before .before .before .before .read-list .ensures) .1
+read-list-same-length-6 t c = let a = c .before .before .before .before .before .before .before .before .before .before .before .before .before .before .before .before .before .before .before .before .before .before .before .before .before .before .before .before .before .before .before .before .before .before .args in open-sizes (a .scope) (a .level) (a .depths) (ownerOf (a .owner)) (a .at .0) (now (a .room)) (now (a .table)) (a .from) (now (a .rows)) (a .row) (c .before .before .before .before .before .before .before .before .before .before .before .before .before .before .before .before .before .before .before .before .before .before .before .before .before .before .before .before .before .loop .inv) (c .before .before .before .before .before .before .before .before .before .before .before .before .before .before .before .before .before .before .before .before .before .before .before .before .before .before .before .if1 .taken) (c .before .before .before .before .before .before .before .before .before .before .before .before .before .before .before .before .before .before .read-tag .result) (class-named t (c .before .before .before .before .before .before .before .before .before .before .before .before .before .before .before .before .before .before .before)) (c .before .before .before .before .before .before .before .before .before .before .before .before .before .before .before .before .before .before .read-tag .ensures) _ (c .before .before .before .before .before .before .before .before .before .before .before .before .opened .given .1) (c .before .before .before .before .before .before .read-list .result) (c .before .before .before .before .before .before .read-list .ensures) .1
 
--- src/lib.rt:146:21
 read-list-returns-3 : (t : ℕ) → read-list-lts.Need-returns-3 (calls t) (read-list-at t) read-list.Post read-list-Inv-loop read-list-μ-loop
-read-list-returns-3 t c = let a = c .before .before .before .before .before .before .before .before .before .before .before .before .before .before .before .before .before .before .before .before .before .before .before .before .before .before .before .before .before .before .args in open-fault (a .reads) (a .level) (a .left) (ownerOf (a .own)) (a .a) (now (a .r)) (now (a .t)) (a .k) (now (a .g)) (a .m) (c .before .before .before .before .before .before .before .before .before .before .before .before .before .before .before .before .before .before .before .before .before .before .before .before .before .loop .inv) (c .before .before .before .before .before .before .before .before .before .before .before .before .before .before .before .before .before .before .before .before .before .before .before .before .loop-test .taken) (c .before .before .before .before .before .before .before .before .before .before .before .before .before .before .before .before .before .read-tag .result) (class-named t (c .before .before .before .before .before .before .before .before .before .before .before .before .before .before .before .before .before .before)) (c .before .before .before .before .before .before .before .before .before .before .before .before .before .before .before .before .before .read-tag .ensures) (c .before .before .before .before .before .before .before .before .before .before .before .list .given .1) (c .before .before .before .before .before .before .read-list .result) (c .before .before .before .before .before .before .read-list .ensures) (c .enum-told .given .1)
+read-list-returns-3 t c = let a = c .before .before .before .before .before .before .before .before .before .before .before .before .before .before .before .before .before .before .before .before .before .before .before .before .before .before .before .before .before .before .before .before .before .before .args in open-fault (a .scope) (a .level) (a .depths) (ownerOf (a .owner)) (a .at .0) (now (a .room)) (now (a .table)) (a .from) (now (a .rows)) (a .row) (c .before .before .before .before .before .before .before .before .before .before .before .before .before .before .before .before .before .before .before .before .before .before .before .before .before .before .before .before .before .loop .inv) (c .before .before .before .before .before .before .before .before .before .before .before .before .before .before .before .before .before .before .before .before .before .before .before .before .before .before .before .if1 .taken) (c .before .before .before .before .before .before .before .before .before .before .before .before .before .before .before .before .before .before .read-tag .result) (class-named t (c .before .before .before .before .before .before .before .before .before .before .before .before .before .before .before .before .before .before .before)) (c .before .before .before .before .before .before .before .before .before .before .before .before .before .before .before .before .before .before .read-tag .ensures) _ (c .before .before .before .before .before .before .before .before .before .before .before .before .opened .given .1) (c .before .before .before .before .before .before .read-list .result) (c .before .before .before .before .before .before .read-list .ensures) (c .enum-told .given .1)
 
--- src/lib.rt:123:5
 read-list-loop-less-2 : (t : ℕ) → read-list-lts.Need-loop-less-2 (calls t) (read-list-at t) read-list.Post read-list-Inv-loop read-list-μ-loop
-read-list-loop-less-2 t c = let a = c .before .before .before .before .before .before .before .before .before .before .before .before .before .before .before .before .before .before .before .before .before .before .before .before .before .before .before .before .before .before .before .args in omega (arith, tag-open (a .reads) (a .level) (a .left) (ownerOf (a .own)) (a .a) (now (a .r)) (now (a .t)) (a .k) (now (a .g)) (a .m) (c .before .before .before .before .before .before .before .before .before .before .before .before .before .before .before .before .before .before .before .before .before .before .before .before .before .before .loop .inv) (c .before .before .before .before .before .before .before .before .before .before .before .before .before .before .before .before .before .before .before .before .before .before .before .before .before .loop-test .taken) (c .before .before .before .before .before .before .before .before .before .before .before .before .before .before .before .before .before .before .read-tag .result) (class-named t (c .before .before .before .before .before .before .before .before .before .before .before .before .before .before .before .before .before .before .before)) (c .before .before .before .before .before .before .before .before .before .before .before .before .before .before .before .before .before .before .read-tag .ensures) (c .before .before .before .before .before .before .before .before .before .before .before .before .list .given .1) .ahead, tag-open (a .reads) (a .level) (a .left) (ownerOf (a .own)) (a .a) (now (a .r)) (now (a .t)) (a .k) (now (a .g)) (a .m) (c .before .before .before .before .before .before .before .before .before .before .before .before .before .before .before .before .before .before .before .before .before .before .before .before .before .before .loop .inv) (c .before .before .before .before .before .before .before .before .before .before .before .before .before .before .before .before .before .before .before .before .before .before .before .before .before .loop-test .taken) (c .before .before .before .before .before .before .before .before .before .before .before .before .before .before .before .before .before .before .read-tag .result) (class-named t (c .before .before .before .before .before .before .before .before .before .before .before .before .before .before .before .before .before .before .before)) (c .before .before .before .before .before .before .before .before .before .before .before .before .before .before .before .before .before .before .read-tag .ensures) (c .before .before .before .before .before .before .before .before .before .before .before .before .list .given .1) .inside)
+read-list-loop-less-2 t c = let a = c .before .before .before .before .before .before .before .before .before .before .before .before .before .before .before .before .before .before .before .before .before .before .before .before .before .before .before .before .before .before .before .before .before .before .before .before .args in omega (arith, tag-open (a .scope) (a .level) (a .depths) (ownerOf (a .owner)) (a .at .0) (now (a .room)) (now (a .table)) (a .from) (now (a .rows)) (a .row) (c .before .before .before .before .before .before .before .before .before .before .before .before .before .before .before .before .before .before .before .before .before .before .before .before .before .before .before .before .before .before .before .loop .inv) (c .before .before .before .before .before .before .before .before .before .before .before .before .before .before .before .before .before .before .before .before .before .before .before .before .before .before .before .before .before .if1 .taken) (c .before .before .before .before .before .before .before .before .before .before .before .before .before .before .before .before .before .before .before .before .read-tag .result) (class-named t (c .before .before .before .before .before .before .before .before .before .before .before .before .before .before .before .before .before .before .before .before .before)) (c .before .before .before .before .before .before .before .before .before .before .before .before .before .before .before .before .before .before .before .before .read-tag .ensures) _ (c .before .before .before .before .before .before .before .before .before .before .before .before .before .before .opened .given .1) .ahead, tag-open (a .scope) (a .level) (a .depths) (ownerOf (a .owner)) (a .at .0) (now (a .room)) (now (a .table)) (a .from) (now (a .rows)) (a .row) (c .before .before .before .before .before .before .before .before .before .before .before .before .before .before .before .before .before .before .before .before .before .before .before .before .before .before .before .before .before .before .before .loop .inv) (c .before .before .before .before .before .before .before .before .before .before .before .before .before .before .before .before .before .before .before .before .before .before .before .before .before .before .before .before .before .if1 .taken) (c .before .before .before .before .before .before .before .before .before .before .before .before .before .before .before .before .before .before .before .before .read-tag .result) (class-named t (c .before .before .before .before .before .before .before .before .before .before .before .before .before .before .before .before .before .before .before .before .before)) (c .before .before .before .before .before .before .before .before .before .before .before .before .before .before .before .before .before .before .before .before .read-tag .ensures) _ (c .before .before .before .before .before .before .before .before .before .before .before .before .before .before .opened .given .1) .inside)
 
--- src/lib.rt:123:5
 read-list-loop-again-2 : (t : ℕ) → read-list-lts.Need-loop-again-2 (calls t) (read-list-at t) read-list.Post read-list-Inv-loop read-list-μ-loop
-read-list-loop-again-2 t c = let a = c .before .before .before .before .before .before .before .before .before .before .before .before .before .before .before .before .before .before .before .before .before .before .before .before .before .before .before .before .before .before .before .args in open-next (a .reads) (a .level) (a .left) (ownerOf (a .own)) (a .a) (now (a .r)) (now (a .t)) (a .k) (now (a .g)) (a .m) (c .before .before .before .before .before .before .before .before .before .before .before .before .before .before .before .before .before .before .before .before .before .before .before .before .before .before .loop .inv) (c .before .before .before .before .before .before .before .before .before .before .before .before .before .before .before .before .before .before .before .before .before .before .before .before .before .loop-test .taken) (c .before .before .before .before .before .before .before .before .before .before .before .before .before .before .before .before .before .before .read-tag .result) (class-named t (c .before .before .before .before .before .before .before .before .before .before .before .before .before .before .before .before .before .before .before)) (c .before .before .before .before .before .before .before .before .before .before .before .before .before .before .before .before .before .before .read-tag .ensures) (c .before .before .before .before .before .before .before .before .before .before .before .before .list .given .1) (c .before .before .before .before .before .before .before .read-list .result) (c .before .before .before .before .before .before .before .read-list .ensures) (c .before .x .given .1) .1
+read-list-loop-again-2 t c = let a = c .before .before .before .before .before .before .before .before .before .before .before .before .before .before .before .before .before .before .before .before .before .before .before .before .before .before .before .before .before .before .before .before .before .before .before .before .args in open-next (a .scope) (a .level) (a .depths) (ownerOf (a .owner)) (a .at .0) (now (a .room)) (now (a .table)) (a .from) (now (a .rows)) (a .row) (c .before .before .before .before .before .before .before .before .before .before .before .before .before .before .before .before .before .before .before .before .before .before .before .before .before .before .before .before .before .before .before .loop .inv) (c .before .before .before .before .before .before .before .before .before .before .before .before .before .before .before .before .before .before .before .before .before .before .before .before .before .before .before .before .before .if1 .taken) (c .before .before .before .before .before .before .before .before .before .before .before .before .before .before .before .before .before .before .before .before .read-tag .result) (class-named t (c .before .before .before .before .before .before .before .before .before .before .before .before .before .before .before .before .before .before .before .before .before)) (c .before .before .before .before .before .before .before .before .before .before .before .before .before .before .before .before .before .before .before .before .read-tag .ensures) _ (c .before .before .before .before .before .before .before .before .before .before .before .before .before .before .opened .given .1) (c .before .before .before .before .before .before .before .before .read-list .result) (c .before .before .before .before .before .before .before .before .read-list .ensures) (c .before .before .x .given .1) .1
 
--- src/lib.rt:154:33
-read-list-add-blame : (t : ℕ) → read-list-lts.Need-add-blame (calls t) (read-list-at t) read-list.Post read-list-Inv-loop read-list-μ-loop
-read-list-add-blame t c = omega (arith, c .before .before .before .before .before .before .pre .1 .place)
+read-list-add-over : (t : ℕ) → read-list-lts.Need-add-over (calls t) (read-list-at t) read-list.Post read-list-Inv-loop read-list-μ-loop
+read-list-add-over t c = omega (arith, c .before .before .before .before .before .before .before .before .pre .1 .place)
 
--- src/lib.rt:154:22
 read-list-blame-requires : (t : ℕ) → read-list-lts.Need-blame-requires (calls t) (read-list-at t) read-list.Post read-list-Inv-loop read-list-μ-loop
 read-list-blame-requires t c κs = search needs
 
--- src/lib.rt:103:1
 read-list-same-length-7 : (t : ℕ) → read-list-lts.Need-same-length-7 (calls t) (read-list-at t) read-list.Post read-list-Inv-loop read-list-μ-loop
-read-list-same-length-7 t c = let a = c .before .before .before .before .before .before .before .args in seen-table (a .reads) (a .level) (a .left) (ownerOf (a .own)) (a .a) (now (a .r)) (now (a .t)) (a .k) (now (a .g)) (a .m) _ (c .before .before .loop .inv .seen)
+read-list-same-length-7 t c = let a = c .before .before .before .before .before .before .before .before .before .args in passed-table (a .scope) (a .level) (a .depths) (ownerOf (a .owner)) (a .at .0) (now (a .room)) (now (a .table)) (a .from) (now (a .rows)) (a .row) _ (c .before .before .before .before .loop .inv .passed)
 
--- src/lib.rt:103:1
 read-list-same-length-8 : (t : ℕ) → read-list-lts.Need-same-length-8 (calls t) (read-list-at t) read-list.Post read-list-Inv-loop read-list-μ-loop
-read-list-same-length-8 t c = let a = c .before .before .before .before .before .before .before .args in seen-rows (a .reads) (a .level) (a .left) (ownerOf (a .own)) (a .a) (now (a .r)) (now (a .t)) (a .k) (now (a .g)) (a .m) _ (c .before .before .loop .inv .seen)
+read-list-same-length-8 t c = let a = c .before .before .before .before .before .before .before .before .before .args in passed-rows (a .scope) (a .level) (a .depths) (ownerOf (a .owner)) (a .at .0) (now (a .room)) (now (a .table)) (a .from) (now (a .rows)) (a .row) _ (c .before .before .before .before .loop .inv .passed)
 
--- src/lib.rt:103:1
 read-list-returns-4 : (t : ℕ) → read-list-lts.Need-returns-4 (calls t) (read-list-at t) read-list.Post read-list-Inv-loop read-list-μ-loop
-read-list-returns-4 t c = let a = c .before .before .before .before .before .before .before .args in used-up (a .reads) (a .level) (a .left) (ownerOf (a .own)) (a .a) (now (a .r)) (now (a .t)) (a .k) (now (a .g)) (a .m) (c .before .before .loop .inv) (c .before .loop-test .left) (c .blame .ensures)
+read-list-returns-4 t c = let a = c .before .before .before .before .before .before .before .before .before .args in used-up (a .scope) (a .level) (a .depths) (ownerOf (a .owner)) (a .at .0) (now (a .room)) (now (a .table)) (a .from) (now (a .rows)) (a .row) (c .before .before .before .before .loop .inv) (c .before .before .if1 .left) (c .blame .ensures)
 
 pub +read-list-spec : {M : Type 1} → statement M
 +read-list-spec = close μ-read-list λ t. read-list-lts.spec (calls t)
@@ -236,9 +193,10 @@ pub +read-list-spec : {M : Type 1} → statement M
     read-list.Post
     read-list-Inv-loop
     read-list-μ-loop
-    (read-list-all-requires t) (read-list-loop-holds t)
-    (read-list-add-place t)
-    (read-list-add-row t)
+    (read-list-all-requires t)
+    (read-list-loop-holds t)
+    (read-list-add-tag t)
+    (read-list-add-line t)
     (read-list-code-at-requires t)
     (read-list-cast-listed t)
     (read-list-cast-listed-2 t)
@@ -260,12 +218,12 @@ pub +read-list-spec : {M : Type 1} → statement M
     (read-list-enum-known-stop-2 t)
     (read-list-loop-less t)
     (read-list-loop-again t)
-    (read-list-enum-known-list t)
-    (read-list-sub-inner t)
-    (read-list-part-inner-start t)
-    (read-list-part-inner-end t)
-    (read-list-sub-read-list t)
-    (read-list-add-read-list t)
+    (read-list-enum-known-opened t)
+    (read-list-sub-less t)
+    (read-list-add-start t)
+    (read-list-sub-part t)
+    (read-list-part-part-start t)
+    (read-list-part-part-end t)
     (read-list-read-list-requires t)
     (read-list-enum-known-x t)
     (read-list-enum-told t)
@@ -274,7 +232,7 @@ pub +read-list-spec : {M : Type 1} → statement M
     (read-list-returns-3 t)
     (read-list-loop-less-2 t)
     (read-list-loop-again-2 t)
-    (read-list-add-blame t)
+    (read-list-add-over t)
     (read-list-blame-requires t)
     (read-list-same-length-7 t)
     (read-list-same-length-8 t)

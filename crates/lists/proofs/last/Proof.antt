@@ -6,21 +6,17 @@ use Rattle.lists.proofs.last.Reads as reads
 use Rattle.lists.proofs.last.Lts as lts
 use Rattle.lists.proofs.blame.Reads as blame-reads
 
--- src/lib.rt:55:38
-add-blame : tie.Need-add-blame
-add-blame c = search needs
+add-over : tie.Need-add-over
+add-over c = search needs
 
--- src/lib.rt:55:27
 blame-requires : tie.Need-blame-requires
 blame-requires c κs = search needs
 
--- src/lib.rt:48:1
 returns : tie.Need-returns
-returns c = let a = c .before .args in last-whole (a .own) (a .a) (a .stop) (a .room) (a .k) (a .m) (c .if1 .taken)
+returns c = let a = c .before .before .args in last-whole (a .owner) (a .at .0) (a .stop .0) (a .size) (a .behind) (a .row) (c .if1 .taken)
 
--- src/lib.rt:48:1
 returns-2 : tie.Need-returns-2
-returns-2 c = let a = c .before .before .args in last-more (a .own) (a .a) (a .stop) (a .room) (a .k) (a .m) (c .before .if1 .left) (c .blame .ensures)
+returns-2 c = let a = c .before .before .before .before .before .args in last-more (a .owner) (a .at .0) (a .stop .0) (a .size) (a .behind) (a .row) (c .before .before .before .if1 .left) (c .blame .ensures)
 
 pub last-spec : {M : Type 1} → statement M
-last-spec = tie.close (tie.spec add-blame blame-requires returns returns-2)
+last-spec = tie.close (tie.spec add-over blame-requires returns returns-2)

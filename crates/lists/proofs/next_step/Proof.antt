@@ -6,45 +6,35 @@ use Rattle.lists.proofs.next_step.Tie as tie
 use Rattle.lists.proofs.next_step.Reads as reads
 use Rattle.lists.proofs.next_step.Lts as lts
 
--- src/lib.rt:63:26
 enum-told : tie.Need-enum-told
 enum-told c = search needs
 
--- src/lib.rt:64:23
 enum-told-2 : tie.Need-enum-told-2
 enum-told-2 c = search needs
 
--- src/lib.rt:65:29
 enum-told-3 : tie.Need-enum-told-3
 enum-told-3 c = search needs
 
--- src/lib.rt:66:25
 enum-told-4 : tie.Need-enum-told-4
 enum-told-4 c = search needs
 
--- src/lib.rt:67:30
 enum-told-5 : tie.Need-enum-told-5
 enum-told-5 c = search needs
 
--- src/lib.rt:59:1
 returns : tie.Need-returns
-returns c = let a = c .before .before .args in step-of (a .list) (a .stop) (a .k) Opaque (c .enum-told .given .1)
+returns c = let a = c .before .before .args in step-of (a .list) (a .stop) (a .behind) Opaque (c .enum-told .given .1)
 
--- src/lib.rt:59:1
 returns-2 : tie.Need-returns-2
-returns-2 c = let a = c .before .before .args in step-of (a .list) (a .stop) (a .k) End (c .enum-told2 .given .1)
+returns-2 c = let a = c .before .before .args in step-of (a .list) (a .stop) (a .behind) End (c .enum-told2 .given .1)
 
--- src/lib.rt:59:1
 returns-3 : tie.Need-returns-3
-returns-3 c = let a = c .before .before .args in step-of (a .list) (a .stop) (a .k) Container (c .enum-told3 .given .1)
+returns-3 c = let a = c .before .before .args in step-of (a .list) (a .stop) (a .behind) Container (c .enum-told3 .given .1)
 
--- src/lib.rt:59:1
 returns-4 : tie.Need-returns-4
-returns-4 c = let a = c .before .before .args in step-of (a .list) (a .stop) (a .k) Fixed (c .enum-told4 .given .1)
+returns-4 c = let a = c .before .before .args in step-of (a .list) (a .stop) (a .behind) Fixed (c .enum-told4 .given .1)
 
--- src/lib.rt:59:1
 returns-5 : tie.Need-returns-5
-returns-5 c = let a = c .before .before .args in step-of (a .list) (a .stop) (a .k) Attributes (c .enum-told5 .given .1)
+returns-5 c = let a = c .before .before .args in step-of (a .list) (a .stop) (a .behind) Attributes (c .enum-told5 .given .1)
 
 pub next-step-spec : {M : Type 1} → statement M
 next-step-spec =

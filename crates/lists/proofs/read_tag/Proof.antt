@@ -1,8 +1,9 @@
 use denote.Ref.{now}
 use mathlib.Core.Path.{refl}
+use native.Mathlib.Omega.{arith}
 use lib.ListN.{drop}
 use Rattle.headers.specs.Heads.{headBy}
-use Rattle.lists.proofs.StepLaws.{tag-none, tag-stands, tag-stop, tag-shown}
+use Rattle.lists.proofs.StepLaws.{tag-none, tag-stands, tag-stop, tag-shown, list-fits}
 use borrow.Author.Needs.{needs}
 use Rattle.lists.proofs.read_tag.Statement.{statement}
 use Rattle.lists.proofs.read_tag.Tie as tie
@@ -13,109 +14,82 @@ use Rattle.lists.proofs.next_step.Reads as next-step-reads
 use Rattle.tags.proofs.show_row.Reads as show-row-reads
 use Rattle.tags.proofs.show_tag.Reads as show-tag-reads
 
--- src/lib.rt:86:11
 read-head-requires : tie.Need-read-head-requires
 read-head-requires c κs = search needs
 
--- src/lib.rt:87:21
 enum-known-why : tie.Need-enum-known-why
 enum-known-why c = search needs
 
--- src/lib.rt:88:19
-enum-known-code : tie.Need-enum-known-code
-enum-known-code c = search needs
+enum-known-header : tie.Need-enum-known-header
+enum-known-header c = search needs
 
--- src/lib.rt:89:29
 cast-start : tie.Need-cast-start
 cast-start c = search needs
 
--- src/lib.rt:89:25
 add-start : tie.Need-add-start
 add-start c = search needs
 
--- src/lib.rt:90:32
 cast-stop : tie.Need-cast-stop
 cast-stop c = search needs
 
--- src/lib.rt:90:24
 add-stop : tie.Need-add-stop
 add-stop c = search needs
 
--- src/lib.rt:91:25
-add-place : tie.Need-add-place
-add-place c = search needs
+add-tag : tie.Need-add-tag
+add-tag c = search needs
 
--- src/lib.rt:92:28
 sub-show-row : tie.Need-sub-show-row
 sub-show-row c = search needs
 
--- src/lib.rt:92:44
-cast-show-row : tie.Need-cast-show-row
-cast-show-row c = search needs
-
--- src/lib.rt:92:13
 show-row-requires : tie.Need-show-row-requires
 show-row-requires c κs = search needs
 
--- src/lib.rt:93:47
 sub-show-tag : tie.Need-sub-show-tag
 sub-show-tag c = search needs
 
--- src/lib.rt:93:47
 part-show-tag-start : tie.Need-part-show-tag-start
 part-show-tag-start c = search needs
 
--- src/lib.rt:93:47
 part-show-tag-end : tie.Need-part-show-tag-end
-part-show-tag-end c = let a = c .before .before .before .before .before .before .before .before .before .before .before .args in tag-stands (a .class) (a .left) (a .a) (now (a .r)) (a .i) (now (a .t)) (a .k) (now (a .g)) (a .m) (headBy (a .class) (a .left) (drop (a .i) (now (a .r)))) (c .before .before .before .before .before .before .before .read-head .ensures) refl (c .before .before .before .before .before .code .given .1) (c .before .before .before .before .before .before .before .before .before .before .before .pre .1)
+part-show-tag-end c = let a = c .before .before .before .before .before .before .before .before .before .before .before .before .before .before .args in tag-stands (a .class) (a .depths) (a .at .0) (now (a .room)) (a .place .0) (now (a .table)) (a .from) (now (a .rows)) (a .row) (headBy (a .class) (a .depths) (drop (a .place .0) (now (a .room)))) (c .before .before .before .before .before .before .before .before .before .before .read-head .ensures) refl (c .before .before .before .before .before .before .before .before .header .given .1) (c .before .before .before .before .before .before .before .before .before .before .before .before .before .before .pre .1)
 
--- src/lib.rt:93:19
 show-tag-requires : tie.Need-show-tag-requires
 show-tag-requires c κs = search needs
 
--- src/lib.rt:94:27
 enum-known-why-2 : tie.Need-enum-known-why-2
 enum-known-why-2 c = search needs
 
--- src/lib.rt:95:27
 enum-known-next : tie.Need-enum-known-next
 enum-known-next c = search needs
 
--- src/lib.rt:95:56
-add-next-step : tie.Need-add-next-step
-add-next-step c = search needs
+add-list : tie.Need-add-list
+add-list c =
+    let a = c .before .before .before .before .before .before .before .before .before .before .before .before .before .before .before .before .before .before .before .before .before .before .before .args in
+    omega (arith, list-fits (a .class) (a .depths) (a .at .0) (now (a .room)) (a .place .0) (now (a .table)) (a .from) (now (a .rows)) (a .row) (headBy (a .class) (a .depths) (drop (a .place .0) (now (a .room)))) (c .before .before .before .before .before .before .before .before .before .before .before .before .before .before .before .before .before .before .before .read-head .ensures) (c .before .before .before .before .before .before .show-tag .result) (c .before .before .before .before .before .before .before .before .before .before .before .before .before .before .before .before .before .header .given .1) refl refl refl (c .before .before .before .before .before .before .before .before .before .before .before .show-row .ensures) (c .before .before .before .before .before .before .show-tag .ensures) refl (c .before .before .before .before .before .before .before .before .before .before .before .before .before .before .before .before .before .before .before .before .before .before .before .pre .1) (c .before .before .next .given .1), c .before .before .before .before .before .before .before .before .before .before .before .before .before .before .before .before .before .before .before .before .before .before .before .pre .2)
 
--- src/lib.rt:95:39
 next-step-requires : tie.Need-next-step-requires
 next-step-requires c κs = search needs
 
--- src/lib.rt:72:1
 returns : tie.Need-returns
-returns c = let a = c .before .before .before .before .before .before .before .args in tag-none (a .class) (a .left) (a .a) (now (a .r)) (a .i) (now (a .t)) (a .k) (now (a .g)) (a .m) (headBy (a .class) (a .left) (drop (a .i) (now (a .r)))) (c .before .before .before .read-head .ensures) (c .before .why .given .1)
+returns c = let a = c .before .before .before .before .before .before .before .args in tag-none (a .class) (a .depths) (a .at .0) (now (a .room)) (a .place .0) (now (a .table)) (a .from) (now (a .rows)) (a .row) (headBy (a .class) (a .depths) (drop (a .place .0) (now (a .room)))) (c .before .before .before .read-head .ensures) (c .before .why .given .1)
 
--- src/lib.rt:72:1
 same-length : tie.Need-same-length
 same-length c = search needs
 
--- src/lib.rt:72:1
 same-length-2 : tie.Need-same-length-2
 same-length-2 c = search needs
 
--- src/lib.rt:72:1
 returns-2 : tie.Need-returns-2
-returns-2 c = let a = c .before .before .before .before .before .before .before .before .before .before .before .before .before .before .before .before .before .before .before .args in tag-stop (a .class) (a .left) (a .a) (now (a .r)) (a .i) (now (a .t)) (a .k) (now (a .g)) (a .m) (headBy (a .class) (a .left) (drop (a .i) (now (a .r)))) (c .before .before .before .before .before .before .before .before .before .before .before .before .before .before .before .read-head .ensures) (c .before .before .before .before .before .show-tag .result) (c .before .before .before .before .before .before .before .before .before .before .before .before .before .code .given .1) refl refl refl (c .before .before .before .before .before .before .before .before .before .before .show-row .ensures) (c .before .before .before .before .before .show-tag .ensures) (c .before .why2 .given .1)
+returns-2 c = let a = c .before .before .before .before .before .before .before .before .before .before .before .before .before .before .before .before .before .before .before .before .before .before .args in tag-stop (a .class) (a .depths) (a .at .0) (now (a .room)) (a .place .0) (now (a .table)) (a .from) (now (a .rows)) (a .row) (headBy (a .class) (a .depths) (drop (a .place .0) (now (a .room)))) (c .before .before .before .before .before .before .before .before .before .before .before .before .before .before .before .before .before .before .read-head .ensures) (c .before .before .before .before .before .show-tag .result) (c .before .before .before .before .before .before .before .before .before .before .before .before .before .before .before .before .header .given .1) refl refl refl (c .before .before .before .before .before .before .before .before .before .before .show-row .ensures) (c .before .before .before .before .before .show-tag .ensures) (c .before .why2 .given .1)
 
--- src/lib.rt:72:1
 same-length-3 : tie.Need-same-length-3
 same-length-3 c = search needs
 
--- src/lib.rt:72:1
 same-length-4 : tie.Need-same-length-4
 same-length-4 c = search needs
 
--- src/lib.rt:72:1
 returns-3 : tie.Need-returns-3
-returns-3 c = let a = c .before .before .before .before .before .before .before .before .before .before .before .before .before .before .before .before .before .before .before .before .before .args in tag-shown (a .class) (a .left) (a .a) (now (a .r)) (a .i) (now (a .t)) (a .k) (now (a .g)) (a .m) (headBy (a .class) (a .left) (drop (a .i) (now (a .r)))) (c .before .before .before .before .before .before .before .before .before .before .before .before .before .before .before .before .before .read-head .ensures) (c .before .before .before .before .before .before .before .show-tag .result) (c .before .before .before .before .before .before .before .before .before .before .before .before .before .before .before .code .given .1) refl refl refl (c .before .before .before .before .before .before .before .before .before .before .before .before .show-row .ensures) (c .before .before .before .before .before .before .before .show-tag .ensures) (c .before .before .before .next .given .1) (c .next-step .ensures)
+returns-3 c = let a = c .before .before .before .before .before .before .before .before .before .before .before .before .before .before .before .before .before .before .before .before .before .before .before .before .args in tag-shown (a .class) (a .depths) (a .at .0) (now (a .room)) (a .place .0) (now (a .table)) (a .from) (now (a .rows)) (a .row) (headBy (a .class) (a .depths) (drop (a .place .0) (now (a .room)))) (c .before .before .before .before .before .before .before .before .before .before .before .before .before .before .before .before .before .before .before .before .read-head .ensures) (c .before .before .before .before .before .before .before .show-tag .result) (c .before .before .before .before .before .before .before .before .before .before .before .before .before .before .before .before .before .before .header .given .1) refl refl refl (c .before .before .before .before .before .before .before .before .before .before .before .before .show-row .ensures) (c .before .before .before .before .before .before .before .show-tag .ensures) (c .before .before .before .next .given .1) (c .next-step .ensures)
 
 pub read-tag-spec : {M : Type 1} → statement M
 read-tag-spec =
@@ -123,14 +97,13 @@ read-tag-spec =
     (tie.spec
     read-head-requires
     enum-known-why
-    enum-known-code
+    enum-known-header
     cast-start
     add-start
     cast-stop
     add-stop
-    add-place
+    add-tag
     sub-show-row
-    cast-show-row
     show-row-requires
     sub-show-tag
     part-show-tag-start
@@ -138,7 +111,7 @@ read-tag-spec =
     show-tag-requires
     enum-known-why-2
     enum-known-next
-    add-next-step
+    add-list
     next-step-requires
     returns
     same-length

@@ -7,19 +7,15 @@ use Rattle.pag.proofs.pag_read.Lts as lts
 use Rattle.pag.proofs.plain.Reads as plain-reads
 use Rattle.reader.proofs.read.Reads as read-reads
 
--- src/lib.rt:33:11
 read-requires : tie.Need-read-requires
 read-requires c κs = search needs
 
--- src/lib.rt:33:5
 plain-requires : tie.Need-plain-requires
 plain-requires c κs = search needs
 
--- src/lib.rt:29:1
 same-length : tie.Need-same-length
 same-length c = search needs
 
--- src/lib.rt:29:1
 returns : tie.Need-returns
 returns c = plainly _ (c .before .before .before .read .result) (c .before .before .before .read .ensures) (c .plain .ensures)
 

@@ -7,19 +7,15 @@ use Rattle.pag.proofs.pag_tags.Lts as lts
 use Rattle.pag.proofs.plain.Reads as plain-reads
 use Rattle.reader.proofs.tags.Reads as tags-reads
 
--- src/lib.rt:40:11
 tags-requires : tie.Need-tags-requires
 tags-requires c κs = search needs
 
--- src/lib.rt:40:5
 plain-requires : tie.Need-plain-requires
 plain-requires c κs = search needs
 
--- src/lib.rt:36:1
 same-length : tie.Need-same-length
 same-length c = search needs
 
--- src/lib.rt:36:1
 returns : tie.Need-returns
 returns c = plainly _ (c .before .before .before .tags .result) (c .before .before .before .tags .ensures) (c .plain .ensures)
 

@@ -6,19 +6,15 @@ use Rattle.pag.proofs.plain.Tie as tie
 use Rattle.pag.proofs.plain.Reads as reads
 use Rattle.pag.proofs.plain.Lts as lts
 
--- src/lib.rt:18:26
 enum-known-answer : tie.Need-enum-known-answer
 enum-known-answer c = search needs
 
--- src/lib.rt:22:25
 enum-known-answer-2 : tie.Need-enum-known-answer-2
 enum-known-answer-2 c = search needs
 
--- src/lib.rt:14:1
 returns : tie.Need-returns
 returns c = plain-of (Accepted _) (c .before .answer .given .1)
 
--- src/lib.rt:14:1
 returns-2 : tie.Need-returns-2
 returns-2 c = plain-of (Refused _ _) (c .before .answer2 .given .1)
 

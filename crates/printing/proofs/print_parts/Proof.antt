@@ -13,64 +13,50 @@ use Rattle.listing.proofs.put_part.Reads as put-part-reads
 use Rattle.printing.proofs.write.Reads as write-reads
 
 abbrev Inv-loop : tie.InvT-loop
-Inv-loop n table rows out₀ at₀ out at = length out ≡ length out₀
+Inv-loop len table rows out₀ cursor₀ out cursor = length out ≡ length out₀
 
 abbrev μ-loop : tie.MeasureT-loop
-μ-loop n table rows out₀ at₀ out at = length table - at .number
+μ-loop len table rows out₀ cursor₀ out cursor = length table - cursor .number
 
--- src/main.rt:85:5
 loop-holds : tie.Need-loop-holds Inv-loop μ-loop
 loop-holds c = refl
 
--- src/main.rt:86:13
 put-part-requires : tie.Need-put-part-requires Inv-loop μ-loop
 put-part-requires c κs = tt
 
--- src/main.rt:89:13
 same-length : tie.Need-same-length Inv-loop μ-loop
 same-length c = c .before .before .before .put-part .kept .1 .1 .1 .1 .0 ∙ c .before .before .before .before .before .before .before .loop .inv
 
--- src/main.rt:89:13
 returns : tie.Need-returns Inv-loop μ-loop
 returns c = tt
 
--- src/main.rt:91:19
 sub-write : tie.Need-sub-write Inv-loop μ-loop
 sub-write c = search needs
 
--- src/main.rt:91:19
 part-write-start : tie.Need-part-write-start Inv-loop μ-loop
 part-write-start c = search needs
 
--- src/main.rt:91:19
 part-write-end : tie.Need-part-write-end Inv-loop μ-loop
 part-write-end c = omega (arith, c .before .before .before .before .put-part .ensures .1, c .before .before .before .before .put-part .kept .1 .1 .1 .1 .0)
 
--- src/main.rt:91:13
 write-requires : tie.Need-write-requires Inv-loop μ-loop
 write-requires c κs = tt
 
--- src/main.rt:92:13
 same-length-2 : tie.Need-same-length-2 Inv-loop μ-loop
 same-length-2 c = c .before .before .before .before .before .before .before .put-part .kept .1 .1 .1 .1 .0 ∙ c .before .before .before .before .before .before .before .before .before .before .before .loop .inv
 
--- src/main.rt:92:13
 returns-2 : tie.Need-returns-2 Inv-loop μ-loop
 returns-2 c = tt
 
--- src/main.rt:85:5
 loop-less : tie.Need-loop-less Inv-loop μ-loop
-loop-less c = part-less (c .before .before .before .before .before .before .before .before .before .before .before .before .before .before .before .before .args .n) (now (c .before .before .before .before .before .before .before .before .before .before .before .before .before .before .before .before .args .table)) (now (c .before .before .before .before .before .before .before .before .before .before .before .before .before .before .before .before .args .rows)) (c .before .before .before .before .before .before .before .before .before .before .before .before .loop .out) (length (c .before .before .before .before .before .before .before .before .before .before .before .before .loop .out)) (c .before .before .before .before .before .before .before .before .before .before .before .before .loop .at) (c .before .before .before .before .before .before .before .before .put-part .ensures .0) (omega (arith, c .before .before .before .before .before .if2 .left))
+loop-less c = part-less (c .before .before .before .before .before .before .before .before .before .before .before .before .before .before .before .before .args .len) (now (c .before .before .before .before .before .before .before .before .before .before .before .before .before .before .before .before .args .table)) (now (c .before .before .before .before .before .before .before .before .before .before .before .before .before .before .before .before .args .rows)) (c .before .before .before .before .before .before .before .before .before .before .before .before .loop .out) (length (c .before .before .before .before .before .before .before .before .before .before .before .before .loop .out)) (c .before .before .before .before .before .before .before .before .before .before .before .before .loop .cursor) (c .before .before .before .before .before .before .before .before .put-part .ensures .0) (omega (arith, c .before .before .before .before .before .if2 .left))
 
--- src/main.rt:85:5
 loop-again : tie.Need-loop-again Inv-loop μ-loop
 loop-again c = c .before .before .before .before .before .before .before .before .put-part .kept .1 .1 .1 .1 .0 ∙ c .before .before .before .before .before .before .before .before .before .before .before .before .loop .inv
 
--- src/main.rt:83:1
 same-length-3 : tie.Need-same-length-3 Inv-loop μ-loop
 same-length-3 c = c .before .before .loop .inv
 
--- src/main.rt:83:1
 returns-3 : tie.Need-returns-3 Inv-loop μ-loop
 returns-3 c = tt
 

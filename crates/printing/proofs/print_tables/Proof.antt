@@ -14,99 +14,75 @@ use Rattle.printing.proofs.print_refusal.Reads as print-refusal-reads
 use Rattle.reader.proofs.read.Reads as read-reads
 use Rattle.reader.proofs.tags.Reads as tags-reads
 
--- src/lib.rt:110:9
 tags-requires : tie.Need-tags-requires
 tags-requires c κs = search needs
 
--- src/lib.rt:111:11
 read-requires : tie.Need-read-requires
 read-requires c κs = search needs
 
--- src/lib.rt:112:25
 enum-known-reason : tie.Need-enum-known-reason
 enum-known-reason c = search needs
 
--- src/lib.rt:112:44
 print-refusal-requires : tie.Need-print-refusal-requires
 print-refusal-requires c κs = search needs
 
--- src/lib.rt:113:26
-enum-known-k : tie.Need-enum-known-k
-enum-known-k c = search needs
+enum-known-count : tie.Need-enum-known-count
+enum-known-count c = search needs
 
--- src/lib.rt:114:29
 enum-known-tagged : tie.Need-enum-known-tagged
 enum-known-tagged c = search needs
 
--- src/lib.rt:114:48
 print-refusal-requires-2 : tie.Need-print-refusal-requires-2
 print-refusal-requires-2 c κs = search needs
 
--- src/lib.rt:115:30
 enum-known-tagged-2 : tie.Need-enum-known-tagged-2
 enum-known-tagged-2 c = search needs
 
--- src/lib.rt:118:21
 sub-print-listing : tie.Need-sub-print-listing
 sub-print-listing c = search needs
 
--- src/lib.rt:118:21
 part-print-listing-start : tie.Need-part-print-listing-start
 part-print-listing-start c = search needs
 
--- src/lib.rt:118:21
 part-print-listing-end : tie.Need-part-print-listing-end
-part-print-listing-end c = omega (arith, count-fits (now (c .before .before .before .before .before .before .before .before .before .before .before .before .before .before .before .before .before .before .args .table)) (readFile high (c .before .before .before .before .before .before .before .before .before .before .before .before .before .before .before .before .before .before .args .level) (now (c .before .before .before .before .before .before .before .before .before .before .before .before .before .before .before .before .before .before .args .file))) (c .before .before .before .before .before .before .before .before .before .read .ensures) (c .before .before .before .before .before .k .given .1), c .before .before .before .before .before .before .before .before .before .read .kept .1 .1 .0)
+part-print-listing-end c = omega (arith, count-fits (now (c .before .before .before .before .before .before .before .before .before .before .before .before .before .before .before .before .before .before .args .table)) (readFile high (c .before .before .before .before .before .before .before .before .before .before .before .before .before .before .before .before .before .before .args .level) (now (c .before .before .before .before .before .before .before .before .before .before .before .before .before .before .before .before .before .before .args .file))) (c .before .before .before .before .before .before .before .before .before .read .ensures) (c .before .before .before .before .before .count .given .1), c .before .before .before .before .before .before .before .before .before .read .kept .1 .1 .0)
 
--- src/lib.rt:119:21
 sub-print-listing-2 : tie.Need-sub-print-listing-2
 sub-print-listing-2 c = search needs
 
--- src/lib.rt:119:21
 part-print-listing-start-2 : tie.Need-part-print-listing-start-2
 part-print-listing-start-2 c = search needs
 
--- src/lib.rt:119:21
 part-print-listing-end-2 : tie.Need-part-print-listing-end-2
 part-print-listing-end-2 c = omega (arith, count-fits (now (c .before .before .before .before .before .before .before .before .before .before .before .before .before .before .before .before .before .before .before .before .args .rows)) (readTags high (c .before .before .before .before .before .before .before .before .before .before .before .before .before .before .before .before .before .before .before .before .args .level) (now (c .before .before .before .before .before .before .before .before .before .before .before .before .before .before .before .before .before .before .before .before .args .file))) (c .before .before .before .before .before .before .before .before .before .before .before .before .before .before .before .tags .ensures) (c .before .before .before .before .tagged2 .given .1), c .before .before .before .before .before .before .before .before .before .before .before .before .before .before .before .tags .kept .1 .1 .0)
 
--- src/lib.rt:116:17
 print-listing-requires : tie.Need-print-listing-requires
 print-listing-requires c κs = search needs
 
--- src/lib.rt:106:1
 same-length : tie.Need-same-length
 same-length c = search needs
 
--- src/lib.rt:106:1
 same-length-2 : tie.Need-same-length-2
 same-length-2 c = search needs
 
--- src/lib.rt:106:1
 returns : tie.Need-returns
 returns c = (ap (λ (l : Left). l .lent) (c .before .before .before .before .before .before .read .ensures), ap (λ (l : Left). l .lent) (c .before .before .before .before .before .before .before .before .before .before .tags .ensures))
 
--- src/lib.rt:106:1
 same-length-3 : tie.Need-same-length-3
 same-length-3 c = search needs
 
--- src/lib.rt:106:1
 same-length-4 : tie.Need-same-length-4
 same-length-4 c = search needs
 
--- src/lib.rt:106:1
 returns-2 : tie.Need-returns-2
 returns-2 c = (ap (λ (l : Left). l .lent) (c .before .before .before .before .before .before .before .before .before .read .ensures), ap (λ (l : Left). l .lent) (c .before .before .before .before .before .before .before .before .before .before .before .before .before .tags .ensures))
 
--- src/lib.rt:106:1
 same-length-5 : tie.Need-same-length-5
 same-length-5 c = search needs
 
--- src/lib.rt:106:1
 same-length-6 : tie.Need-same-length-6
 same-length-6 c = search needs
 
--- src/lib.rt:106:1
 returns-3 : tie.Need-returns-3
 returns-3 c = (ap (λ (l : Left). l .lent) (c .before .before .before .before .before .before .before .before .before .before .before .before .before .read .ensures), ap (λ (l : Left). l .lent) (c .before .before .before .before .before .before .before .before .before .before .before .before .before .before .before .before .before .tags .ensures))
 
@@ -118,7 +94,7 @@ print-tables-spec =
     read-requires
     enum-known-reason
     print-refusal-requires
-    enum-known-k
+    enum-known-count
     enum-known-tagged
     print-refusal-requires-2
     enum-known-tagged-2

@@ -12,56 +12,44 @@ use Rattle.printing.proofs.read_input.Lts as lts
 use Rattle.printing.proofs.read_more.Reads as read-more-reads
 
 abbrev Inv-loop : tie.InvT-loop
-Inv-loop fd file₀ n₀ file n = (length file ≡ length file₀) × (n ≤ length file₀)
+Inv-loop fd file₀ count₀ file count = (length file ≡ length file₀) × (count ≤ length file₀)
 
 abbrev μ-loop : tie.MeasureT-loop
-μ-loop fd file₀ n₀ file n = length file₀ - n
+μ-loop fd file₀ count₀ file count = length file₀ - count
 
--- src/main.rt:41:5
 loop-holds : tie.Need-loop-holds Inv-loop μ-loop
 loop-holds c = (refl, omega arith)
 
--- src/main.rt:42:13
 read-more-requires : tie.Need-read-more-requires Inv-loop μ-loop
 read-more-requires c κs = omega (arith, c .before .before .loop .inv)
 
--- src/main.rt:43:26
-enum-known-r : tie.Need-enum-known-r Inv-loop μ-loop
-enum-known-r c = search needs
+enum-known-input : tie.Need-enum-known-input Inv-loop μ-loop
+enum-known-input c = search needs
 
--- src/main.rt:44:13
 enum-told : tie.Need-enum-told Inv-loop μ-loop
 enum-told c = search needs
 
--- src/main.rt:44:13
 same-length : tie.Need-same-length Inv-loop μ-loop
 same-length c = c .before .before .before .before .read-more .kept .1 .0 ∙ c .before .before .before .before .before .before .before .loop .inv .0
 
--- src/main.rt:44:13
 returns : tie.Need-returns Inv-loop μ-loop
 returns c = within-failed (length (c .before .before .before .before .before .before .before .before .before .args .file .now)) (c .enum-told .given .1)
 
--- src/main.rt:47:13
 same-length-2 : tie.Need-same-length-2 Inv-loop μ-loop
 same-length-2 c = c .before .before .before .before .before .before .read-more .kept .1 .0 ∙ c .before .before .before .before .before .before .before .before .before .loop .inv .0
 
--- src/main.rt:47:13
 returns-2 : tie.Need-returns-2 Inv-loop μ-loop
-returns-2 c = omega (arith, within-bytes (length (c .before .before .before .before .before .before .before .before .before .loop .file)) (c .before .before .before .before .before .before .read-more .ensures) (c .before .before .r .given .1), c .before .before .before .before .before .before .before .before .before .loop .inv)
+returns-2 c = omega (arith, within-bytes (length (c .before .before .before .before .before .before .before .before .before .loop .file)) (c .before .before .before .before .before .before .read-more .ensures) (c .before .before .input .given .1), c .before .before .before .before .before .before .before .before .before .loop .inv)
 
--- src/main.rt:41:5
 loop-less : tie.Need-loop-less Inv-loop μ-loop
 loop-less c = omega (arith, c .before .before .before .before .before .before .before .before .before .loop .inv, leb-false, c .if1 .left, c .before .before .before .before .before .before .before .before .loop-test .taken)
 
--- src/main.rt:41:5
 loop-again : tie.Need-loop-again Inv-loop μ-loop
-loop-again c = (c .before .before .before .before .before .before .read-more .kept .1 .0 ∙ c .before .before .before .before .before .before .before .before .before .loop .inv .0, omega (arith, within-bytes (length (c .before .before .before .before .before .before .before .before .before .loop .file)) (c .before .before .before .before .before .before .read-more .ensures) (c .before .before .r .given .1), c .before .before .before .before .before .before .before .before .before .loop .inv))
+loop-again c = (c .before .before .before .before .before .before .read-more .kept .1 .0 ∙ c .before .before .before .before .before .before .before .before .before .loop .inv .0, omega (arith, within-bytes (length (c .before .before .before .before .before .before .before .before .before .loop .file)) (c .before .before .before .before .before .before .read-more .ensures) (c .before .before .input .given .1), c .before .before .before .before .before .before .before .before .before .loop .inv))
 
--- src/main.rt:37:1
 same-length-3 : tie.Need-same-length-3 Inv-loop μ-loop
 same-length-3 c = c .before .loop .inv .0
 
--- src/main.rt:37:1
 returns-3 : tie.Need-returns-3 Inv-loop μ-loop
 returns-3 c = c .before .loop .inv .1
 
@@ -73,7 +61,7 @@ read-input-spec =
     μ-loop
     loop-holds
     read-more-requires
-    enum-known-r
+    enum-known-input
     enum-told
     same-length
     returns

@@ -7,41 +7,34 @@ use Rattle.reader.proofs.read_tags.Reads as reads
 use Rattle.reader.proofs.read_tags.Lts as lts
 use Rattle.lists.proofs.read_list.Reads as read-list-reads
 
--- src/lib.rt:47:48
-sub-read-list : tie.Need-sub-read-list
-sub-read-list c = search needs
+sub-room : tie.Need-sub-room
+sub-room c = search needs
 
--- src/lib.rt:47:48
-part-read-list-start : tie.Need-part-read-list-start
-part-read-list-start c = search needs
+part-room-start : tie.Need-part-room-start
+part-room-start c = search needs
 
--- src/lib.rt:47:48
-part-read-list-end : tie.Need-part-read-list-end
-part-read-list-end c = search needs
+part-room-end : tie.Need-part-room-end
+part-room-end c = search needs
 
--- src/lib.rt:47:5
 read-list-requires : tie.Need-read-list-requires
 read-list-requires c κs = let a = c .before .before .before .before .before .before .args in tags-bounds (a .level) (now (a .file)) (c .before .before .before .before .before .before .pre .0) (c .before .before .before .before .before .before .pre .1)
 
--- src/lib.rt:43:1
 same-length : tie.Need-same-length
 same-length c = search needs
 
--- src/lib.rt:43:1
 same-length-2 : tie.Need-same-length-2
 same-length-2 c = search needs
 
--- src/lib.rt:43:1
 returns : tie.Need-returns
-returns c = let a = c .before .before .before .before .before .before .before .before .before .before .before .args in tags-read (a .level) (now (a .file)) (a .reads) (now (a .t)) (now (a .g)) (c .before .before .before .before .read-list .ensures)
+returns c = let a = c .before .before .before .before .before .before .before .before .before .before .before .args in tags-read (a .level) (now (a .file)) (a .scope) (now (a .table)) (now (a .rows)) (c .before .before .before .before .read-list .ensures)
 
 pub read-tags-spec : {M : Type 1} → statement M
 read-tags-spec =
     tie.close
     (tie.spec
-    sub-read-list
-    part-read-list-start
-    part-read-list-end
+    sub-room
+    part-room-start
+    part-room-end
     read-list-requires
     same-length
     same-length-2

@@ -9,35 +9,27 @@ use Rattle.reader.proofs.survey.Lts as lts
 use Rattle.reader.proofs.read_tags.Reads as read-tags-reads
 use Rattle.reader.proofs.start_fault.Reads as start-fault-reads
 
--- src/lib.rt:54:9
 start-fault-requires : tie.Need-start-fault-requires
 start-fault-requires c κs = search needs
 
--- src/lib.rt:56:9
 returns : tie.Need-returns
 returns c = let a = c .before .before .before .args in survey-start (a .level) (now (a .file)) (c .before .start-fault .ensures) (c .if1 .taken)
 
--- src/lib.rt:60:28
-array-borrow-prefix-t : tie.Need-array-borrow-prefix-t
-array-borrow-prefix-t c = search needs
+array-borrow-prefix-table : tie.Need-array-borrow-prefix-table
+array-borrow-prefix-table c = search needs
 
--- src/lib.rt:60:28
 slice-aggregate-read-tags : tie.Need-slice-aggregate-read-tags
 slice-aggregate-read-tags c = search needs
 
--- src/lib.rt:60:41
-array-borrow-prefix-g : tie.Need-array-borrow-prefix-g
-array-borrow-prefix-g c = search needs
+array-borrow-prefix-rows : tie.Need-array-borrow-prefix-rows
+array-borrow-prefix-rows c = search needs
 
--- src/lib.rt:60:41
 slice-aggregate-read-tags-2 : tie.Need-slice-aggregate-read-tags-2
 slice-aggregate-read-tags-2 c = search needs
 
--- src/lib.rt:60:5
 read-tags-requires : tie.Need-read-tags-requires
 read-tags-requires c κs = let a = c .before .before .before .before .before .args in fair-file (a .level) (now (a .file)) (sym (c .before .before .before .start-fault .ensures) ∙ c .before .before .if1 .left)
 
--- src/lib.rt:51:1
 returns-2 : tie.Need-returns-2
 returns-2 c = let a = c .before .before .before .before .before .before .before .before .args in survey-walk (a .level) (now (a .file)) _ _ (sym (c .before .before .before .before .before .before .start-fault .ensures) ∙ c .before .before .before .before .before .if1 .left) (c .before .before .read-tags .ensures)
 
@@ -47,9 +39,9 @@ survey-spec =
     (tie.spec
     start-fault-requires
     returns
-    array-borrow-prefix-t
+    array-borrow-prefix-table
     slice-aggregate-read-tags
-    array-borrow-prefix-g
+    array-borrow-prefix-rows
     slice-aggregate-read-tags-2
     read-tags-requires
     returns-2)

@@ -9,45 +9,35 @@ use Rattle.reader.proofs.tags.Lts as lts
 use Rattle.reader.proofs.read_tags.Reads as read-tags-reads
 use Rattle.reader.proofs.survey.Reads as survey-reads
 
--- src/lib.rt:85:11
 survey-requires : tie.Need-survey-requires
 survey-requires c κs = search needs
 
--- src/lib.rt:86:23
 enum-known-why : tie.Need-enum-known-why
 enum-known-why c = search needs
 
--- src/lib.rt:87:25
-enum-known-m : tie.Need-enum-known-m
-enum-known-m c = search needs
+enum-known-in-rows : tie.Need-enum-known-in-rows
+enum-known-in-rows c = search needs
 
--- src/lib.rt:89:17
 returns : tie.Need-returns
-returns c = let a = c .before .before .before .before .before .before .before .args in tags-short (a .level) (now (a .file)) (now (a .tags)) (sym (c .before .before .m .given .1) ∙ c .before .before .before .before .survey .ensures) (c .if1 .taken)
+returns c = let a = c .before .before .before .before .before .before .before .args in tags-short (a .level) (now (a .file)) (now (a .tags)) (sym (c .before .before .in-rows .given .1) ∙ c .before .before .before .before .survey .ensures) (c .if1 .taken)
 
--- src/lib.rt:92:36
 array-borrow-prefix-none : tie.Need-array-borrow-prefix-none
 array-borrow-prefix-none c = search needs
 
--- src/lib.rt:92:36
 slice-aggregate-read-tags : tie.Need-slice-aggregate-read-tags
 slice-aggregate-read-tags c = search needs
 
--- src/lib.rt:92:13
 read-tags-requires : tie.Need-read-tags-requires
-read-tags-requires c κs = let a = c .before .before .before .before .before .before .before .before .before .args in fair-file (a .level) (now (a .file)) (survey-found (a .level) (now (a .file)) (sym (c .before .before .before .before .m .given .1) ∙ c .before .before .before .before .before .before .survey .ensures) .start)
+read-tags-requires c κs = let a = c .before .before .before .before .before .before .before .before .before .args in fair-file (a .level) (now (a .file)) (survey-found (a .level) (now (a .file)) (sym (c .before .before .before .before .in-rows .given .1) ∙ c .before .before .before .before .before .before .survey .ensures) .start)
 
--- src/lib.rt:82:1
 returns-2 : tie.Need-returns-2
 returns-2 c = let a = c .before .before .before .before .before .before .args in tags-refused (a .level) (now (a .file)) (now (a .tags)) (sym (c .before .why .given .1) ∙ c .before .before .before .survey .ensures)
 
--- src/lib.rt:82:1
 same-length : tie.Need-same-length
 same-length c = search needs
 
--- src/lib.rt:82:1
 returns-3 : tie.Need-returns-3
-returns-3 c = let a = c .before .before .before .before .before .before .before .before .before .before .before .before .before .args in tags-done (a .level) (now (a .file)) (now (a .tags)) _ (sym (c .before .before .before .before .before .before .before .before .m .given .1) ∙ c .before .before .before .before .before .before .before .before .before .before .survey .ensures) (c .before .before .before .before .before .before .if1 .left) (c .before .before .before .read-tags .ensures)
+returns-3 c = let a = c .before .before .before .before .before .before .before .before .before .before .before .before .before .args in tags-done (a .level) (now (a .file)) (now (a .tags)) _ (sym (c .before .before .before .before .before .before .before .before .in-rows .given .1) ∙ c .before .before .before .before .before .before .before .before .before .before .survey .ensures) (c .before .before .before .before .before .before .if1 .left) (c .before .before .before .read-tags .ensures)
 
 pub tags-spec : {M : Type 1} → statement M
 tags-spec =
@@ -55,7 +45,7 @@ tags-spec =
     (tie.spec
     survey-requires
     enum-known-why
-    enum-known-m
+    enum-known-in-rows
     returns
     array-borrow-prefix-none
     slice-aggregate-read-tags

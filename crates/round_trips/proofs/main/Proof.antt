@@ -12,31 +12,24 @@ Inv-loop left₀ left = left ≤ 65536
 abbrev μ-loop : tie.MeasureT-loop
 μ-loop left₀ left = left
 
--- src/main.rt:273:5
 loop-holds : tie.Need-loop-holds Inv-loop μ-loop
 loop-holds c = search needs
 
--- src/main.rt:273:23
 try-next-requires : tie.Need-try-next-requires Inv-loop μ-loop
 try-next-requires c κs = search needs
 
--- src/main.rt:274:9
 sub-left : tie.Need-sub-left Inv-loop μ-loop
 sub-left c = search needs
 
--- src/main.rt:273:5
 loop-less : tie.Need-loop-less Inv-loop μ-loop
 loop-less c = search needs
 
--- src/main.rt:273:5
 loop-again : tie.Need-loop-again Inv-loop μ-loop
 loop-again c = search needs
 
--- src/main.rt:271:1
 returns : tie.Need-returns Inv-loop μ-loop
 returns c = search needs
 
--- src/main.rt:271:1
 returns-2 : tie.Need-returns-2 Inv-loop μ-loop
 returns-2 c = search needs
 

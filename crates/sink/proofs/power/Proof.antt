@@ -12,8 +12,8 @@ shl-result c = search needs
 
 returns : tie.Need-returns
 returns c =
-    let e : 1 * 2 ^ c .args .n % 2 ^ 64 ≡ 2 ^ c .args .n = rw one-mul (mod-eq-of-lt (pow-lt (c .pre))) in
-    rw e (refl, pow-pos (c .args .n))
+    let e : 1 * 2 ^ c .args .exponent % 2 ^ 64 ≡ 2 ^ c .args .exponent = rw one-mul (mod-eq-of-lt (pow-lt (c .pre))) in
+    rw e (refl, pow-pos (c .args .exponent))
 
 pub power-spec : {M : Type 1} → statement M
 power-spec = tie.close (tie.spec shl-result returns)

@@ -16,90 +16,72 @@ use Rattle.sink.proofs.power.Reads as power-reads
 use Rattle.sink.proofs.put_byte.Reads as put-byte-reads
 
 abbrev Inv-loop : tie.InvT-loop
-Inv-loop out₀ v w p a i₀ n₀ x₀ place out i n x = (length out ≡ length out₀) × (n ≤ 39) × (x < 2 ^ n) × (i * 8 + n ≡ p + w) × (lay (mk out₀ (i₀ * 8) 0) (dig high n₀ x₀) ≡ lay (mk out (i * 8) 0) (dig high n x))
+Inv-loop out₀ value width at begun i₀ count₀ waiting₀ place out i count waiting = (length out ≡ length out₀) × (count ≤ 39) × (waiting < 2 ^ count) × (i * 8 + count ≡ at + width) × (lay (mk out₀ (i₀ * 8) 0) (dig high count₀ waiting₀) ≡ lay (mk out (i * 8) 0) (dig high count waiting))
 
 abbrev μ-loop : tie.MeasureT-loop
-μ-loop out₀ v w p a i₀ n₀ x₀ place out i n x = n
+μ-loop out₀ value width at begun i₀ count₀ waiting₀ place out i count waiting = count
 
--- src/lib.rt:56:17
-add-n : tie.Need-add-n Inv-loop μ-loop
-add-n c = omega arith
+add-count : tie.Need-add-count Inv-loop μ-loop
+add-count c = omega arith
 
--- src/lib.rt:57:21
 power-requires : tie.Need-power-requires Inv-loop μ-loop
 power-requires c κs = omega arith
 
--- src/lib.rt:57:17
-mul-x : tie.Need-mul-x Inv-loop μ-loop
-mul-x c = omega (arith, gather-lt (c .before .before .args .s .place .0 % 8) (c .before .before .args .w) (c .before .before .args .s .part) (c .before .before .args .v) (c .power .result) (omega arith) (c .before .before .pre .2) (c .before .before .pre .0) (c .before .before .pre .3) (c .power .ensures .0))
+mul-waiting : tie.Need-mul-waiting Inv-loop μ-loop
+mul-waiting c = omega (arith, gather-lt (c .before .before .args .sink .place .0 % 8) (c .before .before .args .width) (c .before .before .args .sink .part) (c .before .before .args .value) (c .power .result) (omega arith) (c .before .before .pre .2) (c .before .before .pre .0) (c .before .before .pre .3) (c .power .ensures .0))
 
--- src/lib.rt:57:17
-add-x : tie.Need-add-x Inv-loop μ-loop
-add-x c = omega (arith, gather-lt (c .before .before .args .s .place .0 % 8) (c .before .before .args .w) (c .before .before .args .s .part) (c .before .before .args .v) (c .power .result) (omega arith) (c .before .before .pre .2) (c .before .before .pre .0) (c .before .before .pre .3) (c .power .ensures .0))
+add-waiting : tie.Need-add-waiting Inv-loop μ-loop
+add-waiting c = omega (arith, gather-lt (c .before .before .args .sink .place .0 % 8) (c .before .before .args .width) (c .before .before .args .sink .part) (c .before .before .args .value) (c .power .result) (omega arith) (c .before .before .pre .2) (c .before .before .pre .0) (c .before .before .pre .3) (c .power .ensures .0))
 
--- src/lib.rt:58:26
 add-if1 : tie.Need-add-if1 Inv-loop μ-loop
 add-if1 c = omega arith
 
--- src/lib.rt:61:24
 power-requires-2 : tie.Need-power-requires-2 Inv-loop μ-loop
 power-requires-2 c κs = omega arith
 
--- src/lib.rt:61:20
 rem-part : tie.Need-rem-part Inv-loop μ-loop
 rem-part c = omega arith
 
--- src/lib.rt:62:9
 returns : tie.Need-returns Inv-loop μ-loop
-returns c = flow-done (now (c .before .before .before .before .args .out)) (c .before .before .before .before .args .s .place .0) (c .before .before .before .before .args .s .part) (c .before .before .before .before .args .w) (c .before .before .before .before .args .v) (c .before .before .power .result) (c .before .before .before .before .pre .0) (c .before .before .before .before .pre .3) (c .before .before .power .ensures .0)
-    (flow-out (now (c .before .before .before .before .args .out)) (c .before .before .before .before .args .s .place .0 / 8) (c .before .before .before .before .args .s .place .0 % 8 + c .before .before .before .before .args .w) (c .before .before .before .before .args .s .part * c .before .before .power .result + c .before .before .before .before .args .v) (c .power2 .result) (c .before .if1 .taken) (gather-lt (c .before .before .before .before .args .s .place .0 % 8) (c .before .before .before .before .args .w) (c .before .before .before .before .args .s .part) (c .before .before .before .before .args .v) (c .before .before .power .result) (omega arith) (c .before .before .before .before .pre .2) (c .before .before .before .before .pre .0) (c .before .before .before .before .pre .3) (c .before .before .power .ensures .0) .0) (c .power2 .ensures .0) (omega arith))
+returns c = flow-done (now (c .before .before .before .before .args .out)) (c .before .before .before .before .args .sink .place .0) (c .before .before .before .before .args .sink .part) (c .before .before .before .before .args .width) (c .before .before .before .before .args .value) (c .before .before .power .result) (c .before .before .before .before .pre .0) (c .before .before .before .before .pre .3) (c .before .before .power .ensures .0)
+    (flow-out (now (c .before .before .before .before .args .out)) (c .before .before .before .before .args .sink .place .0 / 8) (c .before .before .before .before .args .sink .place .0 % 8 + c .before .before .before .before .args .width) (c .before .before .before .before .args .sink .part * c .before .before .power .result + c .before .before .before .before .args .value) (c .power2 .result) (c .before .if1 .taken) (gather-lt (c .before .before .before .before .args .sink .place .0 % 8) (c .before .before .before .before .args .width) (c .before .before .before .before .args .sink .part) (c .before .before .before .before .args .value) (c .before .before .power .result) (omega arith) (c .before .before .before .before .pre .2) (c .before .before .before .before .pre .0) (c .before .before .before .before .pre .3) (c .before .before .power .ensures .0) .0) (c .power2 .ensures .0) (omega arith))
 
--- src/lib.rt:64:5
 loop-holds : tie.Need-loop-holds Inv-loop μ-loop
-loop-holds c = (refl, omega arith, gather-lt (c .before .before .before .args .s .place .0 % 8) (c .before .before .before .args .w) (c .before .before .before .args .s .part) (c .before .before .before .args .v) (c .before .power .result) (omega arith) (c .before .before .before .pre .2) (c .before .before .before .pre .0) (c .before .before .before .pre .3) (c .before .power .ensures .0) .0, omega arith, refl)
+loop-holds c = (refl, omega arith, gather-lt (c .before .before .before .args .sink .place .0 % 8) (c .before .before .before .args .width) (c .before .before .before .args .sink .part) (c .before .before .before .args .value) (c .before .power .result) (omega arith) (c .before .before .before .pre .2) (c .before .before .before .pre .0) (c .before .before .before .pre .3) (c .before .power .ensures .0) .0, omega arith, refl)
 
--- src/lib.rt:66:13
 power-requires-3 : tie.Need-power-requires-3 Inv-loop μ-loop
 power-requires-3 c κs = omega arith
 
--- src/lib.rt:67:26
 div-put-byte : tie.Need-div-put-byte Inv-loop μ-loop
 div-put-byte c = omega arith
 
--- src/lib.rt:67:9
 put-byte-requires : tie.Need-put-byte-requires Inv-loop μ-loop
-put-byte-requires c κs = byte-lt (c .before .before .before .loop .n) (c .before .before .before .loop .x) (c .before .power3 .result) (omega (arith, c .before .before .loop-test .taken)) (c .before .before .before .loop .inv .2) (c .before .power3 .ensures .0)
+put-byte-requires c κs = byte-lt (c .before .before .before .loop .count) (c .before .before .before .loop .waiting) (c .before .power3 .result) (omega (arith, c .before .before .loop-test .taken)) (c .before .before .before .loop .inv .2) (c .before .power3 .ensures .0)
 
--- src/lib.rt:68:9
-rem-x : tie.Need-rem-x Inv-loop μ-loop
-rem-x c = omega arith
+rem-waiting : tie.Need-rem-waiting Inv-loop μ-loop
+rem-waiting c = omega arith
 
--- src/lib.rt:69:9
 add-i : tie.Need-add-i Inv-loop μ-loop
 add-i c = omega arith
 
--- src/lib.rt:64:5
 loop-less : tie.Need-loop-less Inv-loop μ-loop
 loop-less c = omega arith
 
--- src/lib.rt:64:5
 loop-again : tie.Need-loop-again Inv-loop μ-loop
 loop-again c = (
   c .before .before .put-byte .kept .0 ∙ c .before .before .before .before .before .before .loop .inv .0,
   omega (arith, c .before .before .before .before .before .before .loop .inv .1),
-  rest-small (c .before .before .before .before .before .before .loop .n - 8) (c .before .before .before .before .before .before .loop .x) (c .before .before .before .before .power3 .result) (c .before .before .before .before .power3 .ensures .0),
+  rest-small (c .before .before .before .before .before .before .loop .count - 8) (c .before .before .before .before .before .before .loop .waiting) (c .before .before .before .before .power3 .result) (c .before .before .before .before .power3 .ensures .0),
   omega (arith, c .before .before .before .before .before .before .loop .inv .3, c .before .before .before .before .before .loop-test .taken),
-  c .before .before .before .before .before .before .loop .inv .4 ∙ flow-next (c .before .before .before .before .before .before .loop .out) (c .before .before .before .before .before .before .loop .i) (c .before .before .before .before .before .before .loop .n) (c .before .before .before .before .before .before .loop .x) (c .before .before .before .before .power3 .result) (omega (arith, c .before .before .before .before .before .loop-test .taken)) (c .before .before .before .before .before .before .loop .inv .2) (c .before .before .before .before .power3 .ensures .0) (c .before .before .put-byte .ensures),
+  c .before .before .before .before .before .before .loop .inv .4 ∙ flow-next (c .before .before .before .before .before .before .loop .out) (c .before .before .before .before .before .before .loop .i) (c .before .before .before .before .before .before .loop .count) (c .before .before .before .before .before .before .loop .waiting) (c .before .before .before .before .power3 .result) (omega (arith, c .before .before .before .before .before .loop-test .taken)) (c .before .before .before .before .before .before .loop .inv .2) (c .before .before .before .before .power3 .ensures .0) (c .before .before .put-byte .ensures),
 )
 
--- src/lib.rt:49:1
 same-length : tie.Need-same-length Inv-loop μ-loop
 same-length c = c .before .loop .inv .0
 
--- src/lib.rt:49:1
 returns-2 : tie.Need-returns-2 Inv-loop μ-loop
-returns-2 c = flow-done (now (c .before .before .before .before .before .args .out)) (c .before .before .before .before .before .args .s .place .0) (c .before .before .before .before .before .args .s .part) (c .before .before .before .before .before .args .w) (c .before .before .before .before .before .args .v) (c .before .before .before .power .result) (c .before .before .before .before .before .pre .0) (c .before .before .before .before .before .pre .3) (c .before .before .before .power .ensures .0)
-    (c .before .loop .inv .4 ∙ flow-few (c .before .loop .out) (c .before .loop .i) (c .before .loop .n) (c .before .loop .x) (omega (arith, c .loop-test .left)) (c .before .loop .inv .2) (c .before .loop .inv .3))
+returns-2 c = flow-done (now (c .before .before .before .before .before .args .out)) (c .before .before .before .before .before .args .sink .place .0) (c .before .before .before .before .before .args .sink .part) (c .before .before .before .before .before .args .width) (c .before .before .before .before .before .args .value) (c .before .before .before .power .result) (c .before .before .before .before .before .pre .0) (c .before .before .before .before .before .pre .3) (c .before .before .before .power .ensures .0)
+    (c .before .loop .inv .4 ∙ flow-few (c .before .loop .out) (c .before .loop .i) (c .before .loop .count) (c .before .loop .waiting) (omega (arith, c .loop-test .left)) (c .before .loop .inv .2) (c .before .loop .inv .3))
 
 pub put-bits-spec : {M : Type 1} → statement M
 put-bits-spec =
@@ -107,10 +89,10 @@ put-bits-spec =
     (tie.spec
     Inv-loop
     μ-loop
-    add-n
+    add-count
     power-requires
-    mul-x
-    add-x
+    mul-waiting
+    add-waiting
     add-if1
     power-requires-2
     rem-part
@@ -119,7 +101,7 @@ put-bits-spec =
     power-requires-3
     div-put-byte
     put-byte-requires
-    rem-x
+    rem-waiting
     add-i
     loop-less
     loop-again

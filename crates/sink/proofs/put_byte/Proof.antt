@@ -19,7 +19,7 @@ returns : tie.Need-returns
 returns c = search needs
 
 returns-2 : tie.Need-returns-2
-returns-2 c = sym (set-out (now (c .before .args .out)) (c .before .args .i) (c .before .args .v) (c .if1 .left))
+returns-2 c = sym (set-out (now (c .before .args .out)) (c .before .args .i) (c .before .args .value) (c .if1 .left))
 
 pub put-byte-spec : {M : Type 1} → statement M
 put-byte-spec = tie.close (tie.spec cast-out slice-write-out same-length returns returns-2)

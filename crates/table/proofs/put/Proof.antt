@@ -6,25 +6,20 @@ use Rattle.table.proofs.put.Tie as tie
 use Rattle.table.proofs.put.Reads as reads
 use Rattle.table.proofs.put.Lts as lts
 
--- src/lib.rt:21:9
-mul-t : tie.Need-mul-t
-mul-t c = search needs
+mul-table : tie.Need-mul-table
+mul-table c = search needs
 
--- src/lib.rt:21:9
-slice-write-t : tie.Need-slice-write-t
-slice-write-t c = search needs
+slice-write-table : tie.Need-slice-write-table
+slice-write-table c = search needs
 
--- src/lib.rt:17:1
 same-length : tie.Need-same-length
 same-length c = search needs
 
--- src/lib.rt:17:1
 returns : tie.Need-returns
 returns c = search needs
 
--- src/lib.rt:17:1
 returns-2 : tie.Need-returns-2
 returns-2 c = sym (set-out _ _ _ (c .if1 .left))
 
 pub put-spec : {M : Type 1} → statement M
-put-spec = tie.close (tie.spec mul-t slice-write-t same-length returns returns-2)
+put-spec = tie.close (tie.spec mul-table slice-write-table same-length returns returns-2)

@@ -14,19 +14,19 @@ use Rattle.bits.proofs.wide.Reads as wide-reads
 use Rattle.table.proofs.room_for.Reads as room-for-reads
 
 abbrev Inv-loop : tie.InvT-loop
-Inv-loop body t₀ k n m i₀ t i = Storing t₀ body k t i
+Inv-loop body t₀ from count stored i₀ t i = Storing t₀ body from t i
 
 abbrev μ-loop : tie.MeasureT-loop
-μ-loop body t₀ k n m i₀ t i = m - i
+μ-loop body t₀ from count stored i₀ t i = stored - i
 
 room-for-requires : tie.Need-room-for-requires Inv-loop μ-loop
 room-for-requires c κs = tt
 
 loop-holds : tie.Need-loop-holds Inv-loop μ-loop
-loop-holds c = let a = c .before .before .before .args in storing-start (now (a .t)) (now (a .body)) (a .k)
+loop-holds c = let a = c .before .before .before .args in storing-start (now (a .table)) (now (a .body)) (a .from)
 
-add-j : tie.Need-add-j Inv-loop μ-loop
-add-j c = omega (arith, c .before .loop .inv .upto, c .before .before .before .before .before .pre)
+add-index : tie.Need-add-index Inv-loop μ-loop
+add-index c = omega (arith, c .before .loop .inv .upto, c .before .before .before .before .before .pre)
 
 shared-slice-read-wide : tie.Need-shared-slice-read-wide Inv-loop μ-loop
 shared-slice-read-wide c = omega (arith, c .before .loop-test .taken, c .before .before .before .room-for .ensures)
@@ -34,11 +34,11 @@ shared-slice-read-wide c = omega (arith, c .before .loop-test .taken, c .before 
 wide-requires : tie.Need-wide-requires Inv-loop μ-loop
 wide-requires c κs = tt
 
-mul-t : tie.Need-mul-t Inv-loop μ-loop
-mul-t c = search needs
+mul-table : tie.Need-mul-table Inv-loop μ-loop
+mul-table c = search needs
 
-slice-write-t : tie.Need-slice-write-t Inv-loop μ-loop
-slice-write-t c = omega (arith, c .before .before .before .loop .inv .size, c .before .before .loop-test .taken, c .before .before .before .before .room-for .ensures)
+slice-write-table : tie.Need-slice-write-table Inv-loop μ-loop
+slice-write-table c = omega (arith, c .before .before .before .loop .inv .size, c .before .before .loop-test .taken, c .before .before .before .before .room-for .ensures)
 
 add-i : tie.Need-add-i Inv-loop μ-loop
 add-i c = omega (arith, c .before .before .before .loop .inv .upto, c .before .before .before .before .before .before .before .pre)
@@ -47,7 +47,7 @@ loop-less : tie.Need-loop-less Inv-loop μ-loop
 loop-less c = omega (arith, c .before .before .loop-test .taken)
 
 loop-again : tie.Need-loop-again Inv-loop μ-loop
-loop-again c = let a = c .before .before .before .before .before .before .before .args in storing-next (now (a .t)) (now (a .body)) (a .k) (c .before .before .before .loop .inv) (omega (arith, c .before .before .loop-test .taken, c .before .before .before .before .room-for .ensures)) (c .wide .ensures .0)
+loop-again c = let a = c .before .before .before .before .before .before .before .args in storing-next (now (a .table)) (now (a .body)) (a .from) (c .before .before .before .loop .inv) (omega (arith, c .before .before .loop-test .taken, c .before .before .before .before .room-for .ensures)) (c .wide .ensures .0)
 
 add-t8 : tie.Need-add-t8 Inv-loop μ-loop
 add-t8 c = omega (arith, c .before .before .before .before .before .pre)
@@ -56,7 +56,7 @@ same-length : tie.Need-same-length Inv-loop μ-loop
 same-length c = c .before .loop .inv .size
 
 returns : tie.Need-returns Inv-loop μ-loop
-returns c = let a = c .before .before .before .before .before .args in copied (now (a .t)) (now (a .body)) (a .k) {m = c .before .before .room-for .result} (c .before .loop .inv) (rw (c .before .loop .inv .size) (c .before .before .room-for .ensures)) (omega (arith, c .loop-test .left))
+returns c = let a = c .before .before .before .before .before .args in copied (now (a .table)) (now (a .body)) (a .from) {m = c .before .before .room-for .result} (c .before .loop .inv) (rw (c .before .loop .inv .size) (c .before .before .room-for .ensures)) (omega (arith, c .loop-test .left))
 
 pub copy-bytes-spec : {M : Type 1} → statement M
 copy-bytes-spec =
@@ -66,11 +66,11 @@ copy-bytes-spec =
     μ-loop
     room-for-requires
     loop-holds
-    add-j
+    add-index
     shared-slice-read-wide
     wide-requires
-    mul-t
-    slice-write-t
+    mul-table
+    slice-write-table
     add-i
     loop-less
     loop-again

@@ -6,25 +6,20 @@ use Rattle.tags.proofs.put_row.Tie as tie
 use Rattle.tags.proofs.put_row.Reads as reads
 use Rattle.tags.proofs.put_row.Lts as lts
 
--- src/lib.rt:104:9
-mul-g : tie.Need-mul-g
-mul-g c = search needs
+mul-rows : tie.Need-mul-rows
+mul-rows c = search needs
 
--- src/lib.rt:104:9
-slice-write-g : tie.Need-slice-write-g
-slice-write-g c = search needs
+slice-write-rows : tie.Need-slice-write-rows
+slice-write-rows c = search needs
 
--- src/lib.rt:100:1
 same-length : tie.Need-same-length
 same-length c = search needs
 
--- src/lib.rt:100:1
 returns : tie.Need-returns
 returns c = search needs
 
--- src/lib.rt:100:1
 returns-2 : tie.Need-returns-2
 returns-2 c = sym (set-out _ _ _ (c .if1 .left))
 
 pub put-row-spec : {M : Type 1} → statement M
-put-row-spec = tie.close (tie.spec mul-g slice-write-g same-length returns returns-2)
+put-row-spec = tie.close (tie.spec mul-rows slice-write-rows same-length returns returns-2)

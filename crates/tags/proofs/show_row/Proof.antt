@@ -11,53 +11,44 @@ use Rattle.tags.proofs.show_row.Reads as reads
 use Rattle.tags.proofs.show_row.Lts as lts
 use Rattle.tags.proofs.put_row.Reads as put-row-reads
 
--- src/lib.rt:119:9
 returns : tie.Need-returns
-returns c = let a = c .before .before .args in sym (sets-out (now (a .g)) (a .m) (a .depth ∷ a .code ∷ a .place ∷ a .size ∷ a .len ∷ []) (c .if1 .taken))
+returns c = let a = c .before .before .args in sym (sets-out (now (a .rows)) (a .row) (a .depth ∷ a .code ∷ a .place .0 ∷ a .size ∷ a .len ∷ []) (c .if1 .taken))
 
--- src/lib.rt:121:5
 put-row-requires : tie.Need-put-row-requires
 put-row-requires c κs = search needs
 
--- src/lib.rt:122:16
 add-put-row : tie.Need-add-put-row
 add-put-row c = search needs
 
--- src/lib.rt:122:5
 put-row-requires-2 : tie.Need-put-row-requires-2
 put-row-requires-2 c κs = search needs
 
--- src/lib.rt:123:16
 add-put-row-2 : tie.Need-add-put-row-2
 add-put-row-2 c = search needs
 
--- src/lib.rt:123:5
+cast-put-row : tie.Need-cast-put-row
+cast-put-row c = search needs
+
 put-row-requires-3 : tie.Need-put-row-requires-3
 put-row-requires-3 c κs = search needs
 
--- src/lib.rt:124:16
 add-put-row-3 : tie.Need-add-put-row-3
 add-put-row-3 c = search needs
 
--- src/lib.rt:124:5
 put-row-requires-4 : tie.Need-put-row-requires-4
 put-row-requires-4 c κs = search needs
 
--- src/lib.rt:125:16
 add-put-row-4 : tie.Need-add-put-row-4
 add-put-row-4 c = search needs
 
--- src/lib.rt:125:5
 put-row-requires-5 : tie.Need-put-row-requires-5
 put-row-requires-5 c κs = search needs
 
--- src/lib.rt:114:1
 same-length : tie.Need-same-length
 same-length c = search needs
 
--- src/lib.rt:114:1
 returns-2 : tie.Need-returns-2
-returns-2 c = let a = c .before .before .before .before .before .before .before .before .before .before .before .before .before .before .before .before .before .before .before .before .before .before .args in row-stored (now (a .g)) (a .m) (a .depth) (a .code) (a .place) (a .size) (a .len) (c .before .before .before .before .before .before .before .before .before .before .before .before .before .before .before .before .before .before .put-row .ensures) (c .before .before .before .before .before .before .before .before .before .before .before .before .before .before .put-row2 .ensures) (c .before .before .before .before .before .before .before .before .before .before .put-row3 .ensures) (c .before .before .before .before .before .before .put-row4 .ensures) (c .before .before .put-row5 .ensures)
+returns-2 c = let a = c .before .before .before .before .before .before .before .before .before .before .before .before .before .before .before .before .before .before .before .before .before .before .before .args in row-stored (now (a .rows)) (a .row) (a .depth) (a .code) (a .place .0) (a .size) (a .len) (c .before .before .before .before .before .before .before .before .before .before .before .before .before .before .before .before .before .before .before .put-row .ensures) (c .before .before .before .before .before .before .before .before .before .before .before .before .before .before .before .put-row2 .ensures) (c .before .before .before .before .before .before .before .before .before .before .put-row3 .ensures) (c .before .before .before .before .before .before .put-row4 .ensures) (c .before .before .put-row5 .ensures)
 
 pub show-row-spec : {M : Type 1} → statement M
 show-row-spec =
@@ -68,6 +59,7 @@ show-row-spec =
     add-put-row
     put-row-requires-2
     add-put-row-2
+    cast-put-row
     put-row-requires-3
     add-put-row-3
     put-row-requires-4

@@ -1,5 +1,5 @@
 use Prim.Native.Nat.{ℕ, _+_, _-_}
-use Rattle.table.specs.State.{after}
+use Rattle.table.specs.State.{shownOver}
 use denote.Ref.{now}
 use mathlib.Core.Path.{ap, _∙_}
 use native.Mathlib.Omega.{arith}
@@ -11,79 +11,64 @@ use Rattle.tags.proofs.show_tag.Tie as tie
 use Rattle.tags.proofs.show_tag.Reads as reads
 use Rattle.tags.proofs.show_tag.Lts as lts
 use Rattle.table.proofs.put.Reads as put-reads
-use Rattle.tags.proofs.index.Reads as index-reads
-use Rattle.tags.proofs.read_values.Reads as read-values-reads
+use Rattle.tags.proofs.index_behind.Reads as index-behind-reads
+use Rattle.tags.proofs.read_tag_values.Reads as read-tag-values-reads
 use Rattle.tags.proofs.state.Reads as state-reads
 
--- src/lib.rt:94:47
-add-read-values : tie.Need-add-read-values
-add-read-values c = search needs
+add-read-tag-values : tie.Need-add-read-tag-values
+add-read-tag-values c = search needs
 
--- src/lib.rt:94:9
-read-values-requires : tie.Need-read-values-requires
-read-values-requires c κs = search needs
+read-tag-values-requires : tie.Need-read-tag-values-requires
+read-tag-values-requires c κs = search needs
 
--- src/lib.rt:96:9
 same-length : tie.Need-same-length
 same-length c = search needs
 
--- src/lib.rt:96:9
 returns : tie.Need-returns
 returns c = let a = c .before .before .before .before .before .before .before .args in
-    headed-out (now (a .t)) (a .k) (a .code) (stateOf (a .class)) (valuesOf (a .class) (a .code) (now (a .body))) (c .before .before .before .read-values .result) (c .before .before .before .read-values .ensures) (c .if1 .taken)
+    headed-out (now (a .table)) (a .from) (a .code) (stateOf (a .class)) (valuesOf (a .class) (a .code) (now (a .body))) (c .before .before .before .read-tag-values .result) (c .before .before .before .read-tag-values .ensures) (c .if1 .taken)
 
--- src/lib.rt:98:5
 put-requires : tie.Need-put-requires
 put-requires c κs = search needs
 
--- src/lib.rt:99:19
 add-put : tie.Need-add-put
 add-put c = search needs
 
--- src/lib.rt:99:26
 state-requires : tie.Need-state-requires
 state-requires c κs = search needs
 
--- src/lib.rt:99:5
 put-requires-2 : tie.Need-put-requires-2
 put-requires-2 c κs = search needs
 
--- src/lib.rt:100:19
 add-put-2 : tie.Need-add-put-2
 add-put-2 c = search needs
 
--- src/lib.rt:100:27
-index-requires : tie.Need-index-requires
-index-requires c κs = search needs
+index-behind-requires : tie.Need-index-behind-requires
+index-behind-requires c κs = search needs
 
--- src/lib.rt:100:39
 add-put-3 : tie.Need-add-put-3
 add-put-3 c = search needs
 
--- src/lib.rt:100:27
 sub-put : tie.Need-sub-put
-sub-put c = let a = c .before .before .before .before .before .before .before .before .before .before .before .before .before .before .before .before .before .before .args in omega (arith, c .index .ensures, index-le (now (a .t)) (a .k + 3) (valuesOf (a .class) (a .code) (now (a .body))) (c .before .before .before .before .before .before .before .before .before .before .before .before .before .before .read-values .result) (c .before .before .before .before .before .before .before .before .before .before .before .before .before .before .read-values .ensures))
+sub-put c = let a = c .before .before .before .before .before .before .before .before .before .before .before .before .before .before .before .before .before .before .args in omega (arith, c .index-behind .ensures, index-le (now (a .table)) (a .from + 3) (valuesOf (a .class) (a .code) (now (a .body))) (c .before .before .before .before .before .before .before .before .before .before .before .before .before .before .read-tag-values .result) (c .before .before .before .before .before .before .before .before .before .before .before .before .before .before .read-tag-values .ensures))
 
--- src/lib.rt:100:5
 put-requires-3 : tie.Need-put-requires-3
 put-requires-3 c κs = search needs
 
--- src/lib.rt:90:1
 same-length-2 : tie.Need-same-length-2
 same-length-2 c = search needs
 
--- src/lib.rt:90:1
 returns-2 : tie.Need-returns-2
 returns-2 c = let a = c .before .before .before .before .before .before .before .before .before .before .before .before .before .before .before .before .before .before .before .before .before .args in let v = valuesOf (a .class) (a .code) (now (a .body)) in
-    headed-stored (now (a .t)) (a .k) (a .code) (c .before .before .before .before .before .before .before .before .state .result) v (c .before .before .before .before .before .before .before .before .before .before .before .before .before .before .before .before .before .read-values .result) (c .before .before .before .before .before .before .before .before .before .before .before .before .before .before .before .before .before .read-values .ensures) (c .before .before .before .before .before .before .before .before .before .before .before .before .put .ensures) (c .before .before .before .before .before .before .before .put2 .ensures) (ap (λ (z : ℕ). z - (a .k + 3)) (c .before .before .before .index .ensures)) (c .before .before .put3 .ensures)
-    ∙ ap (λ (s : ℕ). after (now (a .t)) (a .k) (headed (a .code) s v)) (c .before .before .before .before .before .before .before .before .state .ensures)
+    headed-stored (now (a .table)) (a .from) (a .code) (c .before .before .before .before .before .before .before .before .state .result) v (c .before .before .before .before .before .before .before .before .before .before .before .before .before .before .before .before .before .read-tag-values .result) (c .before .before .before .before .before .before .before .before .before .before .before .before .before .before .before .before .before .read-tag-values .ensures) (c .before .before .before .before .before .before .before .before .before .before .before .before .put .ensures) (c .before .before .before .before .before .before .before .put2 .ensures) (ap (λ (z : ℕ). z - (a .from + 3)) (c .before .before .before .index-behind .ensures)) (c .before .before .put3 .ensures)
+    ∙ ap (λ (s : ℕ). shownOver (now (a .table)) (a .from) (headed (a .code) s v)) (c .before .before .before .before .before .before .before .before .state .ensures)
 
 pub show-tag-spec : {M : Type 1} → statement M
 show-tag-spec =
     tie.close
     (tie.spec
-    add-read-values
-    read-values-requires
+    add-read-tag-values
+    read-tag-values-requires
     same-length
     returns
     put-requires
@@ -91,7 +76,7 @@ show-tag-spec =
     state-requires
     put-requires-2
     add-put-2
-    index-requires
+    index-behind-requires
     add-put-3
     sub-put
     put-requires-3

@@ -15,52 +15,41 @@ use Rattle.values.proofs.read_in_turn.Lts as lts
 use Rattle.values.proofs.read_value.Reads as read-value-reads
 
 abbrev Inv-loop : tie.InvT-loop
-Inv-loop what n s t₀ k place₀ j₀ left₀ t place j left = Going s t₀ k (times n (value (typeOf what))) (place₀ .0) t (place .0) j (times left (value (typeOf what)))
+Inv-loop what count body table₀ from place₀ index₀ left₀ table place index left = Going body table₀ from (times count (value (typeOf what))) (place₀ .0) table (place .0) index (times left (value (typeOf what)))
 
 abbrev μ-loop : tie.MeasureT-loop
-μ-loop what n s t₀ k place₀ j₀ left₀ t place j left = left
+μ-loop what count body table₀ from place₀ index₀ left₀ table place index left = left
 
--- src/lib.rt:91:5
 loop-holds : tie.Need-loop-holds Inv-loop μ-loop
 loop-holds c = record { size = refl; same = refl; fits = c .before .before .pre }
 
--- src/lib.rt:92:13
 read-value-requires : tie.Need-read-value-requires Inv-loop μ-loop
 read-value-requires c κs = c .before .before .loop .inv .fits
 
--- src/lib.rt:93:23
 enum-known-r : tie.Need-enum-known-r Inv-loop μ-loop
 enum-known-r c = search needs
 
--- src/lib.rt:94:13
 enum-told : tie.Need-enum-told Inv-loop μ-loop
 enum-told c = search needs
 
--- src/lib.rt:94:13
 same-length : tie.Need-same-length Inv-loop μ-loop
 same-length c = going-size (c .before .before .before .before .before .before .before .loop .inv) (times-more (c .before .before .before .before .before .before .before .loop .left) (value (typeOf (c .before .before .before .before .before .before .before .before .before .before .args .what))) (c .before .before .before .before .before .before .loop-test .taken)) (c .before .before .before .before .read-value .ensures)
 
--- src/lib.rt:94:13
 returns : tie.Need-returns Inv-loop μ-loop
 returns c = going-stop (c .before .before .before .before .before .before .before .loop .inv) (times-more (c .before .before .before .before .before .before .before .loop .left) (value (typeOf (c .before .before .before .before .before .before .before .before .before .before .args .what))) (c .before .before .before .before .before .before .loop-test .taken)) (c .enum-told .given .1) (c .before .before .before .before .read-value .ensures)
 
--- src/lib.rt:98:9
 sub-left : tie.Need-sub-left Inv-loop μ-loop
 sub-left c = omega arith
 
--- src/lib.rt:91:5
 loop-less : tie.Need-loop-less Inv-loop μ-loop
 loop-less c = omega arith
 
--- src/lib.rt:91:5
 loop-again : tie.Need-loop-again Inv-loop μ-loop
 loop-again c = going-next (c .before .before .before .before .before .before .before .before .loop .inv) (times-more (c .before .before .before .before .before .before .before .before .loop .left) (value (typeOf (c .before .before .before .before .before .before .before .before .before .before .before .args .what))) (c .before .before .before .before .before .before .before .loop-test .taken)) (fair-value high (typeOf (c .before .before .before .before .before .before .before .before .before .before .before .args .what))) (c .before .r .given .1) (c .before .before .before .before .before .read-value .ensures)
 
--- src/lib.rt:84:1
 same-length-2 : tie.Need-same-length-2 Inv-loop μ-loop
 same-length-2 c = c .before .loop .inv .size
 
--- src/lib.rt:84:1
 returns-2 : tie.Need-returns-2 Inv-loop μ-loop
 returns-2 c = going-done (c .before .loop .inv) (times-zero (c .before .loop .left) (value (typeOf (c .before .before .before .before .args .what))) (omega arith))
 

@@ -11,37 +11,29 @@ use Rattle.values.proofs.read_ratio.Reads as reads
 use Rattle.values.proofs.read_ratio.Lts as lts
 use Rattle.table.proofs.read_one.Reads as read-one-reads
 
--- src/lib.rt:28:9
 read-one-requires : tie.Need-read-one-requires
 read-one-requires c κs = search needs
 
--- src/lib.rt:29:19
 enum-known-r : tie.Need-enum-known-r
 enum-known-r c = search needs
 
--- src/lib.rt:30:9
 enum-told : tie.Need-enum-told
 enum-told c = search needs
 
--- src/lib.rt:30:9
 same-length : tie.Need-same-length
 same-length c = search needs
 
--- src/lib.rt:30:9
 returns : tie.Need-returns
-returns c = let a = c .before .before .before .before .before .before .before .before .args in run-stop (now (a .s)) (now (a .t)) (a .k) i32 (a .at .0) (c .before .before .before .before .read-one .ensures) (λ xs. u32) (c .enum-told .given .1)
+returns c = let a = c .before .before .before .before .before .before .before .before .args in run-stop (now (a .body)) (now (a .table)) (a .from) i32 (a .at .0) (c .before .before .before .before .read-one .ensures) (λ xs. u32) (c .enum-told .given .1)
 
--- src/lib.rt:32:5
 read-one-requires-2 : tie.Need-read-one-requires-2
-read-one-requires-2 c κs = let a = c .before .before .before .before .before .before .before .before .before .before .args in run-fits (now (a .s)) (now (a .t)) (a .k) i32 (a .at .0) (c .before .before .before .before .before .before .read-one .ensures) (c .before .before .r .given .1) (fair-byte high Item.I32 tt) (c .before .before .before .before .before .before .before .before .before .before .pre)
+read-one-requires-2 c κs = let a = c .before .before .before .before .before .before .before .before .before .before .args in run-fits (now (a .body)) (now (a .table)) (a .from) i32 (a .at .0) (c .before .before .before .before .before .before .read-one .ensures) (c .before .before .r .given .1) (fair-byte high Item.I32 tt) (c .before .before .before .before .before .before .before .before .before .before .pre)
 
--- src/lib.rt:24:1
 same-length-2 : tie.Need-same-length-2
 same-length-2 c = search needs
 
--- src/lib.rt:24:1
 returns-2 : tie.Need-returns-2
-returns-2 c = let a = c .before .before .before .before .before .before .before .before .before .before .before .before .before .args in run-done (now (a .s)) (now (a .t)) (a .k) i32 (a .at .0) (c .before .before .before .before .before .before .before .before .before .read-one .ensures) (λ xs. u32) (c .before .before .before .before .before .r .given .1) (c .before .before .read-one2 .ensures)
+returns-2 c = let a = c .before .before .before .before .before .before .before .before .before .before .before .before .before .args in run-done (now (a .body)) (now (a .table)) (a .from) i32 (a .at .0) (c .before .before .before .before .before .before .before .before .before .read-one .ensures) (λ xs. u32) (c .before .before .before .before .before .r .given .1) (c .before .before .read-one2 .ensures)
 
 pub read-ratio-spec : {M : Type 1} → statement M
 read-ratio-spec =

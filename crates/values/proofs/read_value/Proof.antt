@@ -10,165 +10,125 @@ use Rattle.table.proofs.read_one.Reads as read-one-reads
 use Rattle.values.proofs.read_path.Reads as read-path-reads
 use Rattle.values.proofs.read_ratio.Reads as read-ratio-reads
 
--- src/lib.rt:70:42
 enum-told : tie.Need-enum-told
 enum-told c = search needs
 
--- src/lib.rt:70:26
 read-one-requires : tie.Need-read-one-requires
 read-one-requires c κs = search needs
 
--- src/lib.rt:71:43
 enum-told-2 : tie.Need-enum-told-2
 enum-told-2 c = search needs
 
--- src/lib.rt:71:27
 read-one-requires-2 : tie.Need-read-one-requires-2
 read-one-requires-2 c κs = search needs
 
--- src/lib.rt:72:44
 enum-told-3 : tie.Need-enum-told-3
 enum-told-3 c = search needs
 
--- src/lib.rt:72:28
 read-one-requires-3 : tie.Need-read-one-requires-3
 read-one-requires-3 c κs = search needs
 
--- src/lib.rt:73:46
 enum-told-4 : tie.Need-enum-told-4
 enum-told-4 c = search needs
 
--- src/lib.rt:73:28
 read-ratio-requires : tie.Need-read-ratio-requires
 read-ratio-requires c κs = search needs
 
--- src/lib.rt:74:43
 enum-told-5 : tie.Need-enum-told-5
 enum-told-5 c = search needs
 
--- src/lib.rt:74:27
 read-one-requires-4 : tie.Need-read-one-requires-4
 read-one-requires-4 c κs = search needs
 
--- src/lib.rt:75:43
 enum-told-6 : tie.Need-enum-told-6
 enum-told-6 c = search needs
 
--- src/lib.rt:75:27
 read-one-requires-5 : tie.Need-read-one-requires-5
 read-one-requires-5 c κs = search needs
 
--- src/lib.rt:76:48
 enum-told-7 : tie.Need-enum-told-7
 enum-told-7 c = search needs
 
--- src/lib.rt:76:32
 read-one-requires-6 : tie.Need-read-one-requires-6
 read-one-requires-6 c κs = search needs
 
--- src/lib.rt:77:53
 enum-told-8 : tie.Need-enum-told-8
 enum-told-8 c = search needs
 
--- src/lib.rt:77:37
 read-one-requires-7 : tie.Need-read-one-requires-7
 read-one-requires-7 c κs = search needs
 
--- src/lib.rt:78:47
 enum-told-9 : tie.Need-enum-told-9
 enum-told-9 c = search needs
 
--- src/lib.rt:78:31
 read-one-requires-8 : tie.Need-read-one-requires-8
 read-one-requires-8 c κs = search needs
 
--- src/lib.rt:79:44
 enum-told-10 : tie.Need-enum-told-10
 enum-told-10 c = search needs
 
--- src/lib.rt:79:27
 read-path-requires : tie.Need-read-path-requires
 read-path-requires c κs = search needs
 
--- src/lib.rt:65:1
 same-length : tie.Need-same-length
 same-length c = search needs
 
--- src/lib.rt:65:1
 returns : tie.Need-returns
-returns c = let a = c .before .before .before .before .before .before .before .before .args in value-of (now (a .s)) (now (a .t)) (a .k) (a .at .0) U32 (c .before .before .before .before .enum-told .given .1) (c .before .before .read-one .ensures)
+returns c = let a = c .before .before .before .before .before .before .before .before .args in value-of (now (a .body)) (now (a .table)) (a .from) (a .at .0) U32 (c .before .before .before .before .enum-told .given .1) (c .before .before .read-one .ensures)
 
--- src/lib.rt:65:1
 same-length-2 : tie.Need-same-length-2
 same-length-2 c = search needs
 
--- src/lib.rt:65:1
 returns-2 : tie.Need-returns-2
-returns-2 c = let a = c .before .before .before .before .before .before .before .before .args in value-of (now (a .s)) (now (a .t)) (a .k) (a .at .0) Time (c .before .before .before .before .enum-told2 .given .1) (c .before .before .read-one2 .ensures)
+returns-2 c = let a = c .before .before .before .before .before .before .before .before .args in value-of (now (a .body)) (now (a .table)) (a .from) (a .at .0) Time (c .before .before .before .before .enum-told2 .given .1) (c .before .before .read-one2 .ensures)
 
--- src/lib.rt:65:1
 same-length-3 : tie.Need-same-length-3
 same-length-3 c = search needs
 
--- src/lib.rt:65:1
 returns-3 : tie.Need-returns-3
-returns-3 c = let a = c .before .before .before .before .before .before .before .before .args in value-of (now (a .s)) (now (a .t)) (a .k) (a .at .0) Float (c .before .before .before .before .enum-told3 .given .1) (c .before .before .read-one3 .ensures)
+returns-3 c = let a = c .before .before .before .before .before .before .before .before .args in value-of (now (a .body)) (now (a .table)) (a .from) (a .at .0) Float (c .before .before .before .before .enum-told3 .given .1) (c .before .before .read-one3 .ensures)
 
--- src/lib.rt:65:1
 same-length-4 : tie.Need-same-length-4
 same-length-4 c = search needs
 
--- src/lib.rt:65:1
 returns-4 : tie.Need-returns-4
-returns-4 c = let a = c .before .before .before .before .before .before .before .before .args in value-of (now (a .s)) (now (a .t)) (a .k) (a .at .0) Ratio (c .before .before .before .before .enum-told4 .given .1) (c .before .before .read-ratio .ensures)
+returns-4 c = let a = c .before .before .before .before .before .before .before .before .args in value-of (now (a .body)) (now (a .table)) (a .from) (a .at .0) Ratio (c .before .before .before .before .enum-told4 .given .1) (c .before .before .read-ratio .ensures)
 
--- src/lib.rt:65:1
 same-length-5 : tie.Need-same-length-5
 same-length-5 c = search needs
 
--- src/lib.rt:65:1
 returns-5 : tie.Need-returns-5
-returns-5 c = let a = c .before .before .before .before .before .before .before .before .args in value-of (now (a .s)) (now (a .t)) (a .k) (a .at .0) Bool (c .before .before .before .before .enum-told5 .given .1) (c .before .before .read-one4 .ensures)
+returns-5 c = let a = c .before .before .before .before .before .before .before .before .args in value-of (now (a .body)) (now (a .table)) (a .from) (a .at .0) Bool (c .before .before .before .before .enum-told5 .given .1) (c .before .before .read-one4 .ensures)
 
--- src/lib.rt:65:1
 same-length-6 : tie.Need-same-length-6
 same-length-6 c = search needs
 
--- src/lib.rt:65:1
 returns-6 : tie.Need-returns-6
-returns-6 c = let a = c .before .before .before .before .before .before .before .before .args in value-of (now (a .s)) (now (a .t)) (a .k) (a .at .0) Byte (c .before .before .before .before .enum-told6 .given .1) (c .before .before .read-one5 .ensures)
+returns-6 c = let a = c .before .before .before .before .before .before .before .before .args in value-of (now (a .body)) (now (a .table)) (a .from) (a .at .0) Byte (c .before .before .before .before .enum-told6 .given .1) (c .before .before .read-one5 .ensures)
 
--- src/lib.rt:65:1
 same-length-7 : tie.Need-same-length-7
 same-length-7 c = search needs
 
--- src/lib.rt:65:1
 returns-7 : tie.Need-returns-7
-returns-7 c = let a = c .before .before .before .before .before .before .before .before .args in value-of (now (a .s)) (now (a .t)) (a .k) (a .at .0) BlendMode (c .before .before .before .before .enum-told7 .given .1) (c .before .before .read-one6 .ensures)
+returns-7 c = let a = c .before .before .before .before .before .before .before .before .args in value-of (now (a .body)) (now (a .table)) (a .from) (a .at .0) BlendMode (c .before .before .before .before .enum-told7 .given .1) (c .before .before .read-one6 .ensures)
 
--- src/lib.rt:65:1
 same-length-8 : tie.Need-same-length-8
 same-length-8 c = search needs
 
--- src/lib.rt:65:1
 returns-8 : tie.Need-returns-8
-returns-8 c = let a = c .before .before .before .before .before .before .before .before .args in value-of (now (a .s)) (now (a .t)) (a .k) (a .at .0) TrackMatteType (c .before .before .before .before .enum-told8 .given .1) (c .before .before .read-one7 .ensures)
+returns-8 c = let a = c .before .before .before .before .before .before .before .before .args in value-of (now (a .body)) (now (a .table)) (a .from) (a .at .0) TrackMatteType (c .before .before .before .before .enum-told8 .given .1) (c .before .before .read-one7 .ensures)
 
--- src/lib.rt:65:1
 same-length-9 : tie.Need-same-length-9
 same-length-9 c = search needs
 
--- src/lib.rt:65:1
 returns-9 : tie.Need-returns-9
-returns-9 c = let a = c .before .before .before .before .before .before .before .before .args in value-of (now (a .s)) (now (a .t)) (a .k) (a .at .0) MaskMode (c .before .before .before .before .enum-told9 .given .1) (c .before .before .read-one8 .ensures)
+returns-9 c = let a = c .before .before .before .before .before .before .before .before .args in value-of (now (a .body)) (now (a .table)) (a .from) (a .at .0) MaskMode (c .before .before .before .before .enum-told9 .given .1) (c .before .before .read-one8 .ensures)
 
--- src/lib.rt:65:1
 same-length-10 : tie.Need-same-length-10
 same-length-10 c = search needs
 
--- src/lib.rt:65:1
 returns-10 : tie.Need-returns-10
-returns-10 c = let a = c .before .before .before .before .before .before .before .before .args in value-of (now (a .s)) (now (a .t)) (a .k) (a .at .0) Path (c .before .before .before .before .enum-told10 .given .1) (c .before .before .read-path .ensures)
+returns-10 c = let a = c .before .before .before .before .before .before .before .before .args in value-of (now (a .body)) (now (a .table)) (a .from) (a .at .0) Path (c .before .before .before .before .enum-told10 .given .1) (c .before .before .read-path .ensures)
 
 pub read-value-spec : {M : Type 1} → statement M
 read-value-spec =

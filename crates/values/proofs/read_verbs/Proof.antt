@@ -15,38 +15,30 @@ use Rattle.values.proofs.read_verbs.Lts as lts
 use Rattle.table.proofs.fields.read_fields.Reads as read-fields-reads
 use Rattle.table.proofs.fields.read_scaled.Reads as read-scaled-reads
 
--- src/lib.rt:40:9
 read-fields-requires : tie.Need-read-fields-requires
 read-fields-requires c κs = search needs
 
--- src/lib.rt:43:19
 enum-known-r : tie.Need-enum-known-r
 enum-known-r c = search needs
 
--- src/lib.rt:44:9
 enum-told : tie.Need-enum-told
 enum-told c = search needs
 
--- src/lib.rt:44:9
 same-length : tie.Need-same-length
 same-length c = search needs
 
--- src/lib.rt:44:9
 returns : tie.Need-returns
-returns c = let a = c .before .before .before .before .before .before .before .before .args in run-stop (now (a .s)) (now (a .t)) (a .k) (times (a .n) (item (Item.UB 3))) (a .at .0) (c .before .before .before .before .read-fields .ensures .0) (λ verbs. scaled (coordinates verbs)) (c .enum-told .given .1)
+returns c = let a = c .before .before .before .before .before .before .before .before .args in run-stop (now (a .body)) (now (a .table)) (a .from) (times (a .count) (item (Item.UB 3))) (a .at .0) (c .before .before .before .before .read-fields .ensures .0) (λ verbs. scaled (coordinates verbs)) (c .enum-told .given .1)
 
--- src/lib.rt:46:5
 read-scaled-requires : tie.Need-read-scaled-requires
-read-scaled-requires c κs = let a = c .before .before .before .before .before .before .before .before .before .before .args in (run-fits (now (a .s)) (now (a .t)) (a .k) (times (a .n) (item (Item.UB 3))) (a .at .0) (c .before .before .before .before .before .before .read-fields .ensures .0) (c .before .before .r .given .1) (fair-times high (a .n) (item (Item.UB 3)) (fair-item high (Item.UB 3) (omega arith))) (c .before .before .before .before .before .before .before .before .before .before .pre .0), omega (arith, c .before .before .before .before .before .before .read-fields .ensures .1 .1, c .before .before .before .before .before .before .before .before .before .before .pre .1))
+read-scaled-requires c κs = let a = c .before .before .before .before .before .before .before .before .before .before .args in (run-fits (now (a .body)) (now (a .table)) (a .from) (times (a .count) (item (Item.UB 3))) (a .at .0) (c .before .before .before .before .before .before .read-fields .ensures .0) (c .before .before .r .given .1) (fair-times high (a .count) (item (Item.UB 3)) (fair-item high (Item.UB 3) (omega arith))) (c .before .before .before .before .before .before .before .before .before .before .pre .0), omega (arith, c .before .before .before .before .before .before .read-fields .ensures .1 .1, c .before .before .before .before .before .before .before .before .before .before .pre .1))
 
--- src/lib.rt:36:1
 same-length-2 : tie.Need-same-length-2
 same-length-2 c = search needs
 
--- src/lib.rt:36:1
 returns-2 : tie.Need-returns-2
-returns-2 c = let a = c .before .before .before .before .before .before .before .before .before .before .before .before .before .args in run-done (now (a .s)) (now (a .t)) (a .k) (times (a .n) (item (Item.UB 3))) (a .at .0) (c .before .before .before .before .before .before .before .before .before .read-fields .ensures .0) (λ verbs. scaled (coordinates verbs)) (c .before .before .before .before .before .r .given .1)
-    (coordinates-of (now (a .s)) _ _ (a .n) (a .at .0) _ (c .before .before .before .before .before .before .before .before .before .read-fields .ensures .1 .0) (c .before .before .read-scaled .ensures))
+returns-2 c = let a = c .before .before .before .before .before .before .before .before .before .before .before .before .before .args in run-done (now (a .body)) (now (a .table)) (a .from) (times (a .count) (item (Item.UB 3))) (a .at .0) (c .before .before .before .before .before .before .before .before .before .read-fields .ensures .0) (λ verbs. scaled (coordinates verbs)) (c .before .before .before .before .before .r .given .1)
+    (coordinates-of (now (a .body)) _ _ (a .count) (a .at .0) _ (c .before .before .before .before .before .before .before .before .before .read-fields .ensures .1 .0) (c .before .before .read-scaled .ensures))
 
 pub read-verbs-spec : {M : Type 1} → statement M
 read-verbs-spec =

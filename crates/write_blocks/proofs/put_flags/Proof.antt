@@ -22,7 +22,7 @@ add-end : tie.Need-add-end
 add-end c = search needs
 
 returns : tie.Need-returns
-returns c = let a = c .before .before .args in put-over (now (a .out)) (a .at) (a .flags) (c .before .before .pre .1) (a .stop - (a .at + 1)) ((a .flags .width + 7) / 8 - 1) (a .stop + ((a .flags .width + 7) / 8 - 1)) refl (omega (arith, c .before .before .pre .3)) (omega (arith, c .if1 .taken))
+returns c = let a = c .before .before .before .before .args in put-over (now (a .out)) (a .at .0) (a .flags) (c .before .before .before .before .pre .1) (a .stop .0 - (a .at .0 + 1)) ((a .flags .width + 7) / 8 - 1) (a .stop .0 + ((a .flags .width + 7) / 8 - 1)) refl (omega (arith, c .before .before .before .before .pre .3)) (omega (arith, c .if1 .taken))
 
 sub-move-up : tie.Need-sub-move-up
 sub-move-up c = search needs
@@ -30,20 +30,20 @@ sub-move-up c = search needs
 move-up-requires : tie.Need-move-up-requires
 move-up-requires c κs = search needs
 
-mul-t12 : tie.Need-mul-t12
-mul-t12 c = search needs
+first-bit-requires : tie.Need-first-bit-requires
+first-bit-requires c κs = search needs
 
 put-bits-requires : tie.Need-put-bits-requires
-put-bits-requires c κs = (pow-pos _, omega (arith, c .before .before .before .before .before .before .before .pre .3, c .before .before .before .before .before .before .before .pre .4), omega (arith, c .before .before .before .before .before .before .before .pre .2), c .before .before .before .before .before .before .before .pre .0)
+put-bits-requires c κs = (pow-pos _, omega (arith, c .before .first-bit .ensures, c .before .before .before .before .before .before .before .before .before .before .before .pre .3, c .before .before .before .before .before .before .before .before .before .before .before .pre .4), omega (arith, c .before .before .before .before .before .before .before .before .before .before .before .pre .2), c .before .before .before .before .before .before .before .before .before .before .before .pre .0)
 
 align-requires : tie.Need-align-requires
-align-requires c κs = let a = c .before .before .before .before .before .before .before .before .before .before .before .args in put-fine (now (a .out)) (a .at) (a .flags) (c .before .before .before .before .before .before .before .before .before .before .before .pre .1) (c .before .before .before .before .before .before .before .move-up .last .0) (c .before .before .before .put-bits .last .0) (c .before .before .before .put-bits .result) (omega (arith, c .before .before .before .before .before .before .before .before .before .before .before .pre .3, c .before .before .before .before .before .before .before .before .before .before .before .pre .4)) (c .before .before .before .before .before .before .before .before .before .before .before .pre .2) (c .before .before .before .put-bits .ensures)
+align-requires c κs = let a = c .before .before .before .before .before .before .before .before .before .before .before .before .before .before .before .args in put-fine (now (a .out)) (a .at .0) (a .flags) (c .before .before .before .before .before .before .before .before .before .before .before .before .before .before .before .pre .1) (c .before .before .before .before .before .before .before .before .move-up .last .0) (c .before .before .before .put-bits .last .0) (c .before .before .before .put-bits .result) (c .before .before .before .before .before .first-bit .ensures) (omega (arith, c .before .before .before .before .before .before .before .before .before .before .before .before .before .before .before .pre .3, c .before .before .before .before .before .before .before .before .before .before .before .before .before .before .before .pre .4)) (c .before .before .before .before .before .before .before .before .before .before .before .before .before .before .before .pre .2) (c .before .before .before .put-bits .ensures)
 
 same-length : tie.Need-same-length
 same-length c = search needs
 
 returns-2 : tie.Need-returns-2
-returns-2 c = let a = c .before .before .before .before .before .before .before .before .before .before .before .before .before .before .args in put-done (now (a .out)) (a .at) (a .flags) (c .before .before .before .before .before .before .before .before .before .before .before .before .before .before .pre .1) (a .stop - (a .at + 1)) ((a .flags .width + 7) / 8 - 1) (a .stop + ((a .flags .width + 7) / 8 - 1)) (c .before .before .before .before .before .before .before .before .before .before .move-up .last .0) (c .before .before .before .before .before .before .put-bits .last .0) (c .before .before .align .last .0) (c .before .before .before .before .before .before .put-bits .result) (c .before .before .align .result .byte .0) (c .before .before .align .result .bit .0) refl (omega (arith, c .before .before .before .before .before .before .before .before .before .before .before .before .before .before .pre .3)) (omega (arith, c .before .before .before .before .before .before .before .before .before .before .before .before .if1 .left)) (c .before .before .before .before .before .before .before .before .before .before .move-up .ensures) (c .before .before .before .before .before .before .put-bits .ensures) (c .before .before .align .ensures)
+returns-2 c = let a = c .before .before .before .before .before .before .before .before .before .before .before .before .before .before .before .before .before .before .args in put-done (now (a .out)) (a .at .0) (a .flags) (c .before .before .before .before .before .before .before .before .before .before .before .before .before .before .before .before .before .before .pre .1) (a .stop .0 - (a .at .0 + 1)) ((a .flags .width + 7) / 8 - 1) (a .stop .0 + ((a .flags .width + 7) / 8 - 1)) (c .before .before .before .before .before .before .before .before .before .before .before .move-up .last .0) (c .before .before .before .before .before .before .put-bits .last .0) (c .before .before .align .last .0) (c .before .before .before .before .before .before .put-bits .result) (c .before .before .align .result .byte .0) (c .before .before .align .result .bit .0) (c .before .before .before .before .before .before .before .before .first-bit .ensures) refl (omega (arith, c .before .before .before .before .before .before .before .before .before .before .before .before .before .before .before .before .before .before .pre .3)) (omega (arith, c .before .before .before .before .before .before .before .before .before .before .before .before .before .before .if1 .left)) (c .before .before .before .before .before .before .before .before .before .before .before .move-up .ensures) (c .before .before .before .before .before .before .put-bits .ensures) (c .before .before .align .ensures)
 
 pub put-flags-spec : {M : Type 1} → statement M
 put-flags-spec =
@@ -56,7 +56,7 @@ put-flags-spec =
     returns
     sub-move-up
     move-up-requires
-    mul-t12
+    first-bit-requires
     put-bits-requires
     align-requires
     same-length

@@ -10,16 +10,16 @@ use Rattle.write_blocks.proofs.write_block.Statement.{statement}
 use Rattle.write_blocks.proofs.write_block.Tie as tie
 
 returns : tie.Need-returns
-returns c = let a = c .before .before .before .args in block-over (rowsFrom (a .rows .start) (a .rows .end)) (now (a .values)) (c .before .before .before .pre .1) (now (a .out)) (a .at) (omega (arith, c .if1 .taken))
+returns c = let a = c .before .before .before .before .args in block-over (rowsFrom (a .rows .start) (a .rows .end)) (now (a .values)) (c .before .before .before .before .pre .1) (now (a .out)) (a .at .0) (omega (arith, c .if1 .taken))
 
-add-t13 : tie.Need-add-t13
-add-t13 c = search needs
+add-from : tie.Need-add-from
+add-from c = search needs
 
-mul-t14 : tie.Need-mul-t14
-mul-t14 c = search needs
+first-bit-requires : tie.Need-first-bit-requires
+first-bit-requires c κs = search needs
 
 write-contents-requires : tie.Need-write-contents-requires
-write-contents-requires c κs = (c .before .before .before .before .pre .0, start-fine (c .before .before .before .before .args .at + 1) (omega (arith, c .before .if1 .left)))
+write-contents-requires c κs = (c .before .before .before .before .before .before .before .pre .0, start-fine (c .before .before .before .before .before .before .before .args .at .0 + 1) _ (c .before .first-bit .ensures) (omega (arith, c .before .before .before .if1 .left)))
 
 enum-known-r : tie.Need-enum-known-r
 enum-known-r c = search needs
@@ -31,16 +31,16 @@ same-length : tie.Need-same-length
 same-length c = search needs
 
 returns-2 : tie.Need-returns-2
-returns-2 c = let a = c .before .before .before .before .before .before .before .before .before .args in block-gone (rowsFrom (a .rows .start) (a .rows .end)) (now (a .values)) (c .before .before .before .before .before .before .before .before .before .pre .1) (now (a .out)) (a .at) (c .before .before .before .before .write-contents .last .1 .1 .0) (c .before .before .before .before .write-contents .result) (c .before .before .before .before .write-contents .ensures) (c .enum-told .given .1)
+returns-2 c = let a = c .before .before .before .before .before .before .before .before .before .before .before .before .args in block-gone (rowsFrom (a .rows .start) (a .rows .end)) (now (a .values)) (c .before .before .before .before .before .before .before .before .before .before .before .before .pre .1) (now (a .out)) (a .at .0) (c .before .before .before .before .write-contents .last .1 .1 .0) (c .before .before .before .before .write-contents .result) (c .before .before .before .before .before .before .first-bit .ensures) (c .before .before .before .before .write-contents .ensures) (c .enum-told .given .1)
 
 conclude-requires : tie.Need-conclude-requires
-conclude-requires c κs = let a = c .before .before .before .before .before .before .before .before .before .before .before .args in block-fine (rowsFrom (a .rows .start) (a .rows .end)) (now (a .values)) (c .before .before .before .before .before .before .before .before .before .before .before .pre .1) (now (a .out)) (a .at) (c .before .before .before .before .before .before .write-contents .last .1 .1 .0) (c .before .before .before .before .before .before .write-contents .result) (c .before .before .before .before .before .before .write-contents .ensures) (c .before .before .r .given .0 .0) (c .before .before .r .given .0 .1 .0) (c .before .before .r .given .0 .1 .1 .0) (c .before .before .r .given .1)
+conclude-requires c κs = let a = c .before .before .before .before .before .before .before .before .before .before .before .before .before .before .args in block-fine (rowsFrom (a .rows .start) (a .rows .end)) (now (a .values)) (c .before .before .before .before .before .before .before .before .before .before .before .before .before .before .pre .1) (now (a .out)) (a .at .0) (c .before .before .before .before .before .before .write-contents .last .1 .1 .0) (c .before .before .before .before .before .before .write-contents .result) (c .before .before .before .before .before .before .before .before .first-bit .ensures) (c .before .before .before .before .before .before .write-contents .ensures) (c .before .before .r .given .0 .0) (c .before .before .r .given .0 .1 .0) (c .before .before .r .given .0 .1 .1 .0) (c .before .before .r .given .1)
 
-enum-known-c : tie.Need-enum-known-c
-enum-known-c c = search needs
+enum-known-concluded : tie.Need-enum-known-concluded
+enum-known-concluded c = search needs
 
 put-flags-requires : tie.Need-put-flags-requires
-put-flags-requires c κs = let a = c .before .before .before .before .before .before .before .before .before .before .before .before .before .before .before .before .before .before .args in block-room (rowsFrom (a .rows .start) (a .rows .end)) (now (a .values)) (c .before .before .before .before .before .before .before .before .before .before .before .before .before .before .before .before .before .before .pre .1) (now (a .out)) (a .at) (c .before .before .before .before .before .before .before .before .before .before .before .before .before .write-contents .last .1 .1 .0) (c .before .before .before .before .before .before .before .before .before .before .before .before .before .write-contents .result) (c .before .before .before .before .before .before .before .before .before .before .before .before .before .write-contents .ensures) (c .before .before .before .before .before .before .before .before .before .r .given .0 .0) (c .before .before .before .before .before .before .before .before .before .r .given .0 .1 .0) (c .before .before .before .before .before .before .before .before .before .r .given .0 .1 .1 .0) (c .before .before .before .before .before .before .before .before .before .r .given .1) (c .before .before .before .before .before .before .conclude .last .1 .1 .0) (c .before .before .before .before .before .before .conclude .result) (c .before .before .before .before .before .before .conclude .ensures) (c .before .before .c .given .0 .0) (c .before .before .c .given .1)
+put-flags-requires c κs = let a = c .before .before .before .before .before .before .before .before .before .before .before .before .before .before .before .before .before .before .before .before .before .args in block-room (rowsFrom (a .rows .start) (a .rows .end)) (now (a .values)) (c .before .before .before .before .before .before .before .before .before .before .before .before .before .before .before .before .before .before .before .before .before .pre .1) (now (a .out)) (a .at .0) (c .before .before .before .before .before .before .before .before .before .before .before .before .before .write-contents .last .1 .1 .0) (c .before .before .before .before .before .before .before .before .before .before .before .before .before .write-contents .result) (c .before .before .before .before .before .before .before .before .before .before .before .before .before .before .before .first-bit .ensures) (c .before .before .before .before .before .before .before .before .before .before .before .before .before .write-contents .ensures) (c .before .before .before .before .before .before .before .before .before .r .given .0 .0) (c .before .before .before .before .before .before .before .before .before .r .given .0 .1 .0) (c .before .before .before .before .before .before .before .before .before .r .given .0 .1 .1 .0) (c .before .before .before .before .before .before .before .before .before .r .given .1) (c .before .before .before .before .before .before .conclude .last .1 .1 .0) (c .before .before .before .before .before .before .conclude .result) (c .before .before .before .before .before .before .conclude .ensures) (c .before .before .concluded .given .0 .0) (c .before .before .concluded .given .1)
 
 enum-told-2 : tie.Need-enum-told-2
 enum-told-2 c = search needs
@@ -49,28 +49,28 @@ same-length-2 : tie.Need-same-length-2
 same-length-2 c = search needs
 
 returns-3 : tie.Need-returns-3
-returns-3 c = let a = c .before .before .before .before .before .before .before .before .before .before .before .before .before .before .before .before .before .before .before .before .before .args in block-done (rowsFrom (a .rows .start) (a .rows .end)) (now (a .values)) (c .before .before .before .before .before .before .before .before .before .before .before .before .before .before .before .before .before .before .before .before .before .pre .1) (now (a .out)) (a .at) (c .before .before .before .before .before .before .before .before .before .before .before .before .before .before .before .before .write-contents .last .1 .1 .0) (c .before .before .before .before .before .before .before .before .before .before .before .before .before .before .before .before .write-contents .result) (c .before .before .before .before .before .before .before .before .before .before .before .before .before .before .before .before .write-contents .ensures) (c .before .before .before .before .before .before .before .before .before .before .before .before .r .given .0 .0) (c .before .before .before .before .before .before .before .before .before .before .before .before .r .given .0 .1 .0) (c .before .before .before .before .before .before .before .before .before .before .before .before .r .given .0 .1 .1 .0) (c .before .before .before .before .before .before .before .before .before .before .before .before .r .given .1) (c .before .before .before .before .before .before .before .before .before .conclude .last .1 .1 .0) (c .before .before .before .before .before .before .before .before .before .conclude .result) (c .before .before .before .before .before .before .before .before .before .conclude .ensures) (c .before .before .before .before .before .c .given .0 .0) (c .before .before .before .before .before .c .given .1) (c .before .before .put-flags .ensures)
+returns-3 c = let a = c .before .before .before .before .before .before .before .before .before .before .before .before .before .before .before .before .before .before .before .before .before .before .before .before .args in block-done (rowsFrom (a .rows .start) (a .rows .end)) (now (a .values)) (c .before .before .before .before .before .before .before .before .before .before .before .before .before .before .before .before .before .before .before .before .before .before .before .before .pre .1) (now (a .out)) (a .at .0) (c .before .before .before .before .before .before .before .before .before .before .before .before .before .before .before .before .write-contents .last .1 .1 .0) (c .before .before .before .before .before .before .before .before .before .before .before .before .before .before .before .before .write-contents .result) (c .before .before .before .before .before .before .before .before .before .before .before .before .before .before .before .before .before .before .first-bit .ensures) (c .before .before .before .before .before .before .before .before .before .before .before .before .before .before .before .before .write-contents .ensures) (c .before .before .before .before .before .before .before .before .before .before .before .before .r .given .0 .0) (c .before .before .before .before .before .before .before .before .before .before .before .before .r .given .0 .1 .0) (c .before .before .before .before .before .before .before .before .before .before .before .before .r .given .0 .1 .1 .0) (c .before .before .before .before .before .before .before .before .before .before .before .before .r .given .1) (c .before .before .before .before .before .before .before .before .before .conclude .last .1 .1 .0) (c .before .before .before .before .before .before .before .before .before .conclude .result) (c .before .before .before .before .before .before .before .before .before .conclude .ensures) (c .before .before .before .before .before .concluded .given .0 .0) (c .before .before .before .before .before .concluded .given .1) (c .before .before .put-flags .ensures)
 
 same-length-3 : tie.Need-same-length-3
 same-length-3 c = search needs
 
 returns-4 : tie.Need-returns-4
-returns-4 c = let a = c .before .before .before .before .before .before .before .before .before .before .before .before .before .before .before .before .args in block-stop (rowsFrom (a .rows .start) (a .rows .end)) (now (a .values)) (c .before .before .before .before .before .before .before .before .before .before .before .before .before .before .before .before .pre .1) (now (a .out)) (a .at) (c .before .before .before .before .before .before .before .before .before .before .before .write-contents .last .1 .1 .0) (c .before .before .before .before .before .before .before .before .before .before .before .write-contents .result) (c .before .before .before .before .before .before .before .before .before .before .before .write-contents .ensures) (c .before .before .before .before .before .before .before .r .given .0 .0) (c .before .before .before .before .before .before .before .r .given .0 .1 .0) (c .before .before .before .before .before .before .before .r .given .0 .1 .1 .0) (c .before .before .before .before .before .before .before .r .given .1) (c .before .before .before .before .conclude .last .1 .1 .0) (c .before .before .before .before .conclude .result) (c .before .before .before .before .conclude .ensures) (c .enum-told2 .given .1)
+returns-4 c = let a = c .before .before .before .before .before .before .before .before .before .before .before .before .before .before .before .before .before .before .before .args in block-stop (rowsFrom (a .rows .start) (a .rows .end)) (now (a .values)) (c .before .before .before .before .before .before .before .before .before .before .before .before .before .before .before .before .before .before .before .pre .1) (now (a .out)) (a .at .0) (c .before .before .before .before .before .before .before .before .before .before .before .write-contents .last .1 .1 .0) (c .before .before .before .before .before .before .before .before .before .before .before .write-contents .result) (c .before .before .before .before .before .before .before .before .before .before .before .before .before .first-bit .ensures) (c .before .before .before .before .before .before .before .before .before .before .before .write-contents .ensures) (c .before .before .before .before .before .before .before .r .given .0 .0) (c .before .before .before .before .before .before .before .r .given .0 .1 .0) (c .before .before .before .before .before .before .before .r .given .0 .1 .1 .0) (c .before .before .before .before .before .before .before .r .given .1) (c .before .before .before .before .conclude .last .1 .1 .0) (c .before .before .before .before .conclude .result) (c .before .before .before .before .conclude .ensures) (c .enum-told2 .given .1)
 
 pub write-block-spec : {M : Type 1} → statement M
 write-block-spec =
     tie.close
     (tie.spec
     returns
-    add-t13
-    mul-t14
+    add-from
+    first-bit-requires
     write-contents-requires
     enum-known-r
     enum-told
     same-length
     returns-2
     conclude-requires
-    enum-known-c
+    enum-known-concluded
     put-flags-requires
     enum-told-2
     same-length-2

@@ -15,49 +15,38 @@ use Rattle.attributes.proofs.content_of.Reads as content-of-reads
 use Rattle.write_values.proofs.keyframes.write_keyframed.Reads as write-keyframed-reads
 use Rattle.write_values.proofs.write_value.Reads as write-value-reads
 
--- src/lib.rt:115:11
 content-of-requires : tie.Need-content-of-requires
 content-of-requires c κs = search needs
 
--- src/lib.rt:116:29
 enum-told : tie.Need-enum-told
 enum-told c = search needs
 
--- src/lib.rt:117:57
 enum-told-2 : tie.Need-enum-told-2
 enum-told-2 c = search needs
 
--- src/lib.rt:117:25
 write-value-requires : tie.Need-write-value-requires
 write-value-requires c κs = search needs
 
--- src/lib.rt:118:81
 enum-told-3 : tie.Need-enum-told-3
 enum-told-3 c = search needs
 
--- src/lib.rt:118:28
 write-keyframed-requires : tie.Need-write-keyframed-requires
 write-keyframed-requires c κs = search needs
 
--- src/lib.rt:102:1
 returns : tie.Need-returns
-returns c = let a = c .before .before .before .before .before .args in content-none (now (a .t)) (at (now (a .out)) (a .s)) (a .k) (contentOf (kindOf (a .attribute .kind)) (typeOf (a .attribute .data_type)) (a .flag)) (content-told (kindOf (a .attribute .kind)) (typeOf (a .attribute .data_type)) (a .flag) Nothing (c .before .before .content-of .ensures) (c .enum-told .given .1)) (c .before .before .before .before .before .pre .1)
+returns c = let a = c .before .before .before .before .before .args in content-none (now (a .values)) (at (now (a .out)) (a .sink)) (a .from) (contentOf (kindOf (a .attribute .kind)) (typeOf (a .attribute .data_type)) (a .flag)) (content-told (kindOf (a .attribute .kind)) (typeOf (a .attribute .data_type)) (a .flag) Nothing (c .before .before .content-of .ensures) (c .enum-told .given .1)) (c .before .before .before .before .before .pre .1)
 
--- src/lib.rt:102:1
 same-length : tie.Need-same-length
 same-length c = search needs
 
--- src/lib.rt:102:1
 returns-2 : tie.Need-returns-2
-returns-2 c = let a = c .before .before .before .before .before .before .before .before .before .args in content-is (now (a .t)) (at (now (a .out)) (a .s)) (a .k) (value (typeOf (a .attribute .data_type))) (contentOf (kindOf (a .attribute .kind)) (typeOf (a .attribute .data_type)) (a .flag)) (content-told (kindOf (a .attribute .kind)) (typeOf (a .attribute .data_type)) (a .flag) One (c .before .before .before .before .before .before .content-of .ensures) (c .before .before .before .before .enum-told2 .given .1)) (c .before .before .write-value .ensures)
+returns-2 c = let a = c .before .before .before .before .before .before .before .before .before .args in content-is (now (a .values)) (at (now (a .out)) (a .sink)) (a .from) (value (typeOf (a .attribute .data_type))) (contentOf (kindOf (a .attribute .kind)) (typeOf (a .attribute .data_type)) (a .flag)) (content-told (kindOf (a .attribute .kind)) (typeOf (a .attribute .data_type)) (a .flag) One (c .before .before .before .before .before .before .content-of .ensures) (c .before .before .before .before .enum-told2 .given .1)) (c .before .before .write-value .ensures)
 
--- src/lib.rt:102:1
 same-length-2 : tie.Need-same-length-2
 same-length-2 c = search needs
 
--- src/lib.rt:102:1
 returns-3 : tie.Need-returns-3
-returns-3 c = let a = c .before .before .before .before .before .before .before .before .before .args in content-is (now (a .t)) (at (now (a .out)) (a .s)) (a .k) (keyframed (kindOf (a .attribute .kind)) (typeOf (a .attribute .data_type))) (contentOf (kindOf (a .attribute .kind)) (typeOf (a .attribute .data_type)) (a .flag)) (content-told (kindOf (a .attribute .kind)) (typeOf (a .attribute .data_type)) (a .flag) Frames (c .before .before .before .before .before .before .content-of .ensures) (c .before .before .before .before .enum-told3 .given .1)) (c .before .before .write-keyframed .ensures)
+returns-3 c = let a = c .before .before .before .before .before .before .before .before .before .args in content-is (now (a .values)) (at (now (a .out)) (a .sink)) (a .from) (keyframed (kindOf (a .attribute .kind)) (typeOf (a .attribute .data_type))) (contentOf (kindOf (a .attribute .kind)) (typeOf (a .attribute .data_type)) (a .flag)) (content-told (kindOf (a .attribute .kind)) (typeOf (a .attribute .data_type)) (a .flag) Frames (c .before .before .before .before .before .before .content-of .ensures) (c .before .before .before .before .enum-told3 .given .1)) (c .before .before .write-keyframed .ensures)
 
 pub write-content-spec : {M : Type 1} → statement M
 write-content-spec =

@@ -11,13 +11,13 @@ use Rattle.write_blocks.proofs.write_contents.Statement.{statement}
 use Rattle.write_blocks.proofs.write_contents.Tie as tie
 
 abbrev Inv-loop : tie.InvT-loop
-Inv-loop t out₀ attributes end flags₀ cur₀ k₀ row₀ out flags cur k row = (row₀ ≤ row) × (row ≤ end) × Filling (rowsFrom row₀ end) t out₀ cur₀ out flags cur (row - row₀) k (rowsFrom row end)
+Inv-loop values out₀ attributes end flags₀ cur₀ index₀ row₀ out flags cur index row = (row₀ ≤ row) × (row ≤ end) × Filling (rowsFrom row₀ end) values out₀ cur₀ out flags cur (row - row₀) index (rowsFrom row end)
 
 abbrev μ-loop : tie.MeasureT-loop
-μ-loop t out₀ attributes end flags₀ cur₀ k₀ row₀ out flags cur k row = end - row
+μ-loop values out₀ attributes end flags₀ cur₀ index₀ row₀ out flags cur index row = end - row
 
 loop-holds : tie.Need-loop-holds Inv-loop μ-loop
-loop-holds c = let a = c .before .before .args in (omega arith, c .before .before .pre .0 .up, fill-start (rowsFrom (a .rows .start) (a .rows .end)) (now (a .t)) (now (a .out)) (a .s) (a .rows .start - a .rows .start) (c .before .before .pre .1))
+loop-holds c = let a = c .before .before .args in (omega arith, c .before .before .pre .0 .up, fill-start (rowsFrom (a .rows .start) (a .rows .end)) (now (a .values)) (now (a .out)) (a .sink) (a .rows .start - a .rows .start) (c .before .before .pre .1))
 
 same-length : tie.Need-same-length Inv-loop μ-loop
 same-length c = c .before .before .loop .inv .2 .size
@@ -25,11 +25,11 @@ same-length c = c .before .before .loop .inv .2 .size
 returns : tie.Need-returns Inv-loop μ-loop
 returns c = (fill-short (c .before .before .loop .inv .2) (attributeOf (rowAt (c .before .before .loop .row))) (rowsFrom (c .before .before .loop .row + 1) (c .before .before .before .before .before .args .rows .end)) (rows-next (c .before .loop-test .taken) (c .before .before .before .before .before .pre .0 .inside)) (omega (arith, c .if1 .taken)), tt)
 
-mul-v : tie.Need-mul-v Inv-loop μ-loop
-mul-v c = search needs
+mul-number : tie.Need-mul-number Inv-loop μ-loop
+mul-number c = search needs
 
-shared-slice-read-v : tie.Need-shared-slice-read-v Inv-loop μ-loop
-shared-slice-read-v c = search needs
+shared-slice-read-number : tie.Need-shared-slice-read-number Inv-loop μ-loop
+shared-slice-read-number c = search needs
 
 mul-attribute : tie.Need-mul-attribute Inv-loop μ-loop
 mul-attribute c = search needs
@@ -40,8 +40,8 @@ array-copy-out-attribute c = omega (arith, c .before .before .before .before .be
 add-flags-requires : tie.Need-add-flags-requires Inv-loop μ-loop
 add-flags-requires c κs = (c .before .before .before .before .loop .inv .2 .held, omega (arith, c .before .before .before .before .loop .inv .2 .few, c .before .before .before .before .loop .inv .0, c .before .before .before .loop-test .taken, c .before .before .before .before .before .before .before .pre .0 .few))
 
-enum-known-f : tie.Need-enum-known-f Inv-loop μ-loop
-enum-known-f c = search needs
+enum-known-flagged : tie.Need-enum-known-flagged Inv-loop μ-loop
+enum-known-flagged c = search needs
 
 enum-told : tie.Need-enum-told Inv-loop μ-loop
 enum-told c = search needs
@@ -77,7 +77,7 @@ loop-less : tie.Need-loop-less Inv-loop μ-loop
 loop-less c = omega (arith, c .before .before .before .before .before .before .before .before .before .before .before .before .before .before .loop-test .taken)
 
 loop-again : tie.Need-loop-again Inv-loop μ-loop
-loop-again c = (omega (arith, c .before .before .before .before .before .before .before .before .before .before .before .before .before .before .before .loop .inv .0), omega (arith, c .before .before .before .before .before .before .before .before .before .before .before .before .before .before .loop-test .taken), fill-next (c .before .before .before .before .before .before .before .before .before .before .before .before .before .before .before .loop .inv .2) (attributeOf (rowAt (c .before .before .before .before .before .before .before .before .before .before .before .before .before .before .before .loop .row))) (rowsFrom (c .before .before .before .before .before .before .before .before .before .before .before .before .before .before .before .loop .row + 1) (c .before .before .before .before .before .before .before .before .before .before .before .before .before .before .before .before .before .before .args .rows .end)) (rows-next (c .before .before .before .before .before .before .before .before .before .before .before .before .before .before .loop-test .taken) (c .before .before .before .before .before .before .before .before .before .before .before .before .before .before .before .before .before .before .pre .0 .inside)) (omega (arith, c .before .before .before .before .before .before .before .before .before .before .before .before .before .if1 .left)) (c .before .before .before .before .before .before .before .before .before .before .add-flags .result) (c .before .before .before .before .before .before .before .before .before .before .add-flags .ensures) (c .before .before .before .before .before .write-content .last .1 .1 .0) (c .before .before .before .before .before .write-content .result) (c .before .before .before .before .before .write-content .ensures) (c .before .before .before .before .before .before .before .before .f .given .0 .0) (c .before .r .given .0 .0) (c .before .r .given .0 .1 .0) (c .before .before .before .before .before .before .before .before .before .before .before .before .before .before .before .loop .row + 1 - c .before .before .before .before .before .before .before .before .before .before .before .before .before .before .before .before .before .before .args .rows .start) (c .before .before .before .before .before .before .before .before .f .given .1) (c .before .r .given .1) (c .before .before .before .before .before .write-content .kept .1 .1 .0) (omega (arith, c .before .before .before .before .before .before .before .before .before .before .before .before .before .before .before .loop .inv .0)))
+loop-again c = (omega (arith, c .before .before .before .before .before .before .before .before .before .before .before .before .before .before .before .loop .inv .0), omega (arith, c .before .before .before .before .before .before .before .before .before .before .before .before .before .before .loop-test .taken), fill-next (c .before .before .before .before .before .before .before .before .before .before .before .before .before .before .before .loop .inv .2) (attributeOf (rowAt (c .before .before .before .before .before .before .before .before .before .before .before .before .before .before .before .loop .row))) (rowsFrom (c .before .before .before .before .before .before .before .before .before .before .before .before .before .before .before .loop .row + 1) (c .before .before .before .before .before .before .before .before .before .before .before .before .before .before .before .before .before .before .args .rows .end)) (rows-next (c .before .before .before .before .before .before .before .before .before .before .before .before .before .before .loop-test .taken) (c .before .before .before .before .before .before .before .before .before .before .before .before .before .before .before .before .before .before .pre .0 .inside)) (omega (arith, c .before .before .before .before .before .before .before .before .before .before .before .before .before .if1 .left)) (c .before .before .before .before .before .before .before .before .before .before .add-flags .result) (c .before .before .before .before .before .before .before .before .before .before .add-flags .ensures) (c .before .before .before .before .before .write-content .last .1 .1 .0) (c .before .before .before .before .before .write-content .result) (c .before .before .before .before .before .write-content .ensures) (c .before .before .before .before .before .before .before .before .flagged .given .0 .0) (c .before .r .given .0 .0) (c .before .r .given .0 .1 .0) (c .before .before .before .before .before .before .before .before .before .before .before .before .before .before .before .loop .row + 1 - c .before .before .before .before .before .before .before .before .before .before .before .before .before .before .before .before .before .before .args .rows .start) (c .before .before .before .before .before .before .before .before .flagged .given .1) (c .before .r .given .1) (c .before .before .before .before .before .write-content .kept .1 .1 .0) (omega (arith, c .before .before .before .before .before .before .before .before .before .before .before .before .before .before .before .loop .inv .0)))
 
 same-length-4 : tie.Need-same-length-4 Inv-loop μ-loop
 same-length-4 c = c .before .loop .inv .2 .size
@@ -94,12 +94,12 @@ write-contents-spec =
     loop-holds
     same-length
     returns
-    mul-v
-    shared-slice-read-v
+    mul-number
+    shared-slice-read-number
     mul-attribute
     array-copy-out-attribute
     add-flags-requires
-    enum-known-f
+    enum-known-flagged
     enum-told
     same-length-2
     returns-2

@@ -14,53 +14,41 @@ use Rattle.bodies.proofs.is_block.Reads as is-block-reads
 use Rattle.write_blocks.proofs.write_block.Reads as write-block-reads
 use Rattle.write_bodies.proofs.write_front.Reads as write-front-reads
 
--- src/lib.rt:36:8
 is-block-requires : tie.Need-is-block-requires
 is-block-requires c κs = search needs
 
--- src/lib.rt:37:42
 rows-of-requires : tie.Need-rows-of-requires
 rows-of-requires c κs = search needs
 
--- src/lib.rt:37:9
 write-block-requires : tie.Need-write-block-requires
 write-block-requires c κs = let r = rows-are (c .before .before .before .before .before .before .args .code) (c .before .rows-of .result) (c .before .rows-of .ensures) in (r .0, block-flags (c .before .before .before .before .before .before .args .code) (sym (c .before .before .before .is-block .ensures) ∙ c .before .before .if1 .taken) (r .1))
 
--- src/lib.rt:37:9
 same-length : tie.Need-same-length
 same-length c = search needs
 
--- src/lib.rt:37:9
 returns : tie.Need-returns
-returns c = let a = c .before .before .before .before .before .before .before .before .before .args in body-block (now (a .values)) (now (a .out)) (a .at) (a .code) (sym (c .before .before .before .before .before .before .is-block .ensures) ∙ c .before .before .before .before .before .if1 .taken) (rows-are (a .code) (c .before .before .before .before .rows-of .result) (c .before .before .before .before .rows-of .ensures) .1) (c .before .before .write-block .ensures)
+returns c = let a = c .before .before .before .before .before .before .before .before .before .args in body-block (now (a .values)) (now (a .out)) (a .at .0) (a .code) (sym (c .before .before .before .before .before .before .is-block .ensures) ∙ c .before .before .before .before .before .if1 .taken) (rows-are (a .code) (c .before .before .before .before .rows-of .result) (c .before .before .before .before .rows-of .ensures) .1) (c .before .before .write-block .ensures)
 
--- src/lib.rt:40:9
 write-front-requires : tie.Need-write-front-requires
 write-front-requires c κs = search needs
 
--- src/lib.rt:42:18
 enum-known-r : tie.Need-enum-known-r
 enum-known-r c = search needs
 
--- src/lib.rt:43:21
 enum-told : tie.Need-enum-told
 enum-told c = search needs
 
--- src/lib.rt:32:1
 same-length-2 : tie.Need-same-length-2
 same-length-2 c = search needs
 
--- src/lib.rt:32:1
 returns-2 : tie.Need-returns-2
-returns-2 c = let a = c .before .before .before .before .before .before .before .before .before .before .before .args in ap (lainAs (c .before .before .before .before .before .write-front .last .1 .1 .0)) (sym (c .before .r .given .1)) ∙ body-fixed (now (a .values)) (now (a .out)) (a .at) (a .code) (sym (c .before .before .before .before .before .before .before .before .is-block .ensures) ∙ c .before .before .before .before .before .before .before .if1 .left) (c .before .before .before .before .before .write-front .ensures)
+returns-2 c = let a = c .before .before .before .before .before .before .before .before .before .before .before .args in ap (lainAs (c .before .before .before .before .before .write-front .last .1 .1 .0)) (sym (c .before .r .given .1)) ∙ body-fixed (now (a .values)) (now (a .out)) (a .at .0) (a .code) (sym (c .before .before .before .before .before .before .before .before .is-block .ensures) ∙ c .before .before .before .before .before .before .before .if1 .left) (c .before .before .before .before .before .write-front .ensures)
 
--- src/lib.rt:32:1
 same-length-3 : tie.Need-same-length-3
 same-length-3 c = search needs
 
--- src/lib.rt:32:1
 returns-3 : tie.Need-returns-3
-returns-3 c = let a = c .before .before .before .before .before .before .before .before .before .before .args in ap (lainAs (c .before .before .before .before .write-front .last .1 .1 .0)) (sym (c .enum-told .given .1)) ∙ body-fixed (now (a .values)) (now (a .out)) (a .at) (a .code) (sym (c .before .before .before .before .before .before .before .is-block .ensures) ∙ c .before .before .before .before .before .before .if1 .left) (c .before .before .before .before .write-front .ensures)
+returns-3 c = let a = c .before .before .before .before .before .before .before .before .before .before .args in ap (lainAs (c .before .before .before .before .write-front .last .1 .1 .0)) (sym (c .enum-told .given .1)) ∙ body-fixed (now (a .values)) (now (a .out)) (a .at .0) (a .code) (sym (c .before .before .before .before .before .before .before .is-block .ensures) ∙ c .before .before .before .before .before .before .if1 .left) (c .before .before .before .before .write-front .ensures)
 
 pub write-body-spec : {M : Type 1} → statement M
 write-body-spec =

@@ -15,13 +15,13 @@ use Rattle.write_fixed.proofs.write_items.Statement.{statement}
 use Rattle.write_fixed.proofs.write_items.Tie as tie
 
 abbrev Inv-loop : tie.InvT-loop
-Inv-loop start end out₀ t k rows cur₀ j₀ row₀ out cur j row = (row ≤ end) × Going t out₀ cur₀ k (inOrder (itemsFrom start end)) out cur j (inOrder (itemsFrom row end))
+Inv-loop start end out₀ values from rows cur₀ index₀ row₀ out cur index row = (row ≤ end) × Going values out₀ cur₀ from (inOrder (itemsFrom start end)) out cur index (inOrder (itemsFrom row end))
 
 abbrev μ-loop : tie.MeasureT-loop
-μ-loop start end out₀ t k rows cur₀ j₀ row₀ out cur j row = end - row
+μ-loop start end out₀ values from rows cur₀ index₀ row₀ out cur index row = end - row
 
 loop-holds : tie.Need-loop-holds Inv-loop μ-loop
-loop-holds c = (c .before .before .pre .0, going-none (now (c .before .before .args .t)) (now (c .before .before .args .out)) (c .before .before .args .s) (c .before .before .args .k) (inOrder (itemsFrom (c .before .before .args .start) (c .before .before .args .end))) (c .before .before .pre .2))
+loop-holds c = (c .before .before .pre .0, going-none (now (c .before .before .args .values)) (now (c .before .before .args .out)) (c .before .before .args .sink) (c .before .before .args .from) (inOrder (itemsFrom (c .before .before .args .start) (c .before .before .args .end))) (c .before .before .pre .2))
 
 mul-kind : tie.Need-mul-kind Inv-loop μ-loop
 mul-kind c = search needs

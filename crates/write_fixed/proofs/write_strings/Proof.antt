@@ -11,13 +11,13 @@ use Rattle.write_fixed.proofs.write_strings.Statement.{statement}
 use Rattle.write_fixed.proofs.write_strings.Tie as tie
 
 abbrev Inv-loop : tie.InvT-loop
-Inv-loop n out₀ t k cur₀ j₀ left₀ out cur j left = Going t out₀ cur₀ k (times n string) out cur j (times left string)
+Inv-loop count out₀ values from cur₀ index₀ left₀ out cur index left = Going values out₀ cur₀ from (times count string) out cur index (times left string)
 
 abbrev μ-loop : tie.MeasureT-loop
-μ-loop n out₀ t k cur₀ j₀ left₀ out cur j left = left
+μ-loop count out₀ values from cur₀ index₀ left₀ out cur index left = left
 
 loop-holds : tie.Need-loop-holds Inv-loop μ-loop
-loop-holds c = going-none (now (c .before .before .args .t)) (now (c .before .before .args .out)) (c .before .before .args .s) (c .before .before .args .k) (times (c .before .before .args .n) string) (c .before .before .pre)
+loop-holds c = going-none (now (c .before .before .args .values)) (now (c .before .before .args .out)) (c .before .before .args .sink) (c .before .before .args .from) (times (c .before .before .args .count) string) (c .before .before .pre)
 
 write-string-requires : tie.Need-write-string-requires Inv-loop μ-loop
 write-string-requires c κs = c .before .before .loop .inv .fine

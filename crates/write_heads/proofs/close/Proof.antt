@@ -11,87 +11,63 @@ use Rattle.write_heads.proofs.move_up.Reads as move-up-reads
 use Rattle.write_heads.proofs.put16.Reads as put16-reads
 use Rattle.write_heads.proofs.put32.Reads as put32-reads
 
--- src/lib.rt:62:21
-add-n : tie.Need-add-n
-add-n c = search needs
+add-from : tie.Need-add-from
+add-from c = search needs
 
--- src/lib.rt:62:13
-sub-n : tie.Need-sub-n
-sub-n c = search needs
+sub-length : tie.Need-sub-length
+sub-length c = search needs
 
--- src/lib.rt:63:18
 mul-number : tie.Need-mul-number
 mul-number c = search needs
 
--- src/lib.rt:65:27
 add-put16 : tie.Need-add-put16
 add-put16 c = search needs
 
--- src/lib.rt:65:9
 put16-requires : tie.Need-put16-requires
 put16-requires c κs = search needs
 
--- src/lib.rt:66:9
 same-length : tie.Need-same-length
 same-length c = search needs
 
--- src/lib.rt:66:9
 returns : tie.Need-returns
-returns c = close-short (now (c .before .before .before .before .before .before .args .out)) (c .before .before .before .before .before .before .args .place) (c .before .before .before .before .before .before .args .code) (c .before .before .before .before .before .before .args .stop - (c .before .before .before .before .before .before .args .place + 2)) (omega (arith, c .before .before .before .before .before .before .pre .0)) (omega (arith, c .before .before .before .before .if1 .taken)) (c .before .before .put16 .ensures)
+returns c = close-short (now (c .before .before .before .before .before .before .before .before .args .out)) (c .before .before .before .before .before .before .before .before .args .place .0) (c .before .before .before .before .before .before .before .before .args .code) (c .before .before .before .before .before .before .before .before .args .stop .0 - (c .before .before .before .before .before .before .before .before .args .place .0 + 2)) (omega (arith, c .before .before .before .before .before .before .before .before .pre .0)) (omega (arith, c .before .before .before .before .if1 .taken)) (c .before .before .put16 .ensures)
 
--- src/lib.rt:68:18
-add-move-up : tie.Need-add-move-up
-add-move-up c = search needs
-
--- src/lib.rt:68:5
 move-up-requires : tie.Need-move-up-requires
 move-up-requires c κs = search needs
 
--- src/lib.rt:69:23
 add-put16-2 : tie.Need-add-put16-2
 add-put16-2 c = search needs
 
--- src/lib.rt:69:5
 put16-requires-2 : tie.Need-put16-requires-2
 put16-requires-2 c κs = search needs
 
--- src/lib.rt:70:16
-add-put32 : tie.Need-add-put32
-add-put32 c = search needs
-
--- src/lib.rt:70:5
 put32-requires : tie.Need-put32-requires
 put32-requires c κs = search needs
 
--- src/lib.rt:71:5
-add-result : tie.Need-add-result
-add-result c = search needs
+add-next : tie.Need-add-next
+add-next c = search needs
 
--- src/lib.rt:58:1
 same-length-2 : tie.Need-same-length-2
 same-length-2 c = search needs
 
--- src/lib.rt:58:1
 returns-2 : tie.Need-returns-2
-returns-2 c = close-long (now (c .before .before .before .before .before .before .before .before .before .before .before .before .before .before .args .out)) (c .before .before .before .before .before .before .before .before .before .before .before .before .before .before .args .place) (c .before .before .before .before .before .before .before .before .before .before .before .before .before .before .args .code) (c .before .before .before .before .before .before .before .before .before .before .before .before .before .before .args .stop - (c .before .before .before .before .before .before .before .before .before .before .before .before .before .before .args .place + 2)) (omega (arith, c .before .before .before .before .before .before .before .before .before .before .before .before .before .before .pre .0)) (omega (arith, c .before .before .before .before .before .before .before .before .before .before .before .before .if1 .left)) (c .before .before .before .before .before .before .before .before .before .before .move-up .ensures) (c .before .before .before .before .before .before .put162 .ensures) (c .before .before .put32 .ensures)
+returns-2 c = close-long (now (c .before .before .before .before .before .before .before .before .before .before .before .before .before .before .before .before .before .args .out)) (c .before .before .before .before .before .before .before .before .before .before .before .before .before .before .before .before .before .args .place .0) (c .before .before .before .before .before .before .before .before .before .before .before .before .before .before .before .before .before .args .code) (c .before .before .before .before .before .before .before .before .before .before .before .before .before .before .before .before .before .args .stop .0 - (c .before .before .before .before .before .before .before .before .before .before .before .before .before .before .before .before .before .args .place .0 + 2)) (omega (arith, c .before .before .before .before .before .before .before .before .before .before .before .before .before .before .before .before .before .pre .0)) (omega (arith, c .before .before .before .before .before .before .before .before .before .before .before .before .before .if1 .left)) (c .before .before .before .before .before .before .before .before .before .before .before .move-up .ensures) (c .before .before .before .before .before .before .before .put162 .ensures) (c .before .before .before .put32 .ensures)
 
 pub close-spec : {M : Type 1} → statement M
 close-spec =
     tie.close
     (tie.spec
-    add-n
-    sub-n
+    add-from
+    sub-length
     mul-number
     add-put16
     put16-requires
     same-length
     returns
-    add-move-up
     move-up-requires
     add-put16-2
     put16-requires-2
-    add-put32
     put32-requires
-    add-result
+    add-next
     same-length-2
     returns-2)

@@ -7,6 +7,7 @@ use borrow.Author.Needs.{needs}
 use lib.ListN.{length, getD, drop}
 use Rattle.classes.specs.Classes.{contains}
 use Rattle.classes.proofs.ClassLaws.{class-at}
+use Rattle.format.specs.Possible.{this}
 use Rattle.sink.specs.Lain.{longest}
 use Rattle.write_lists.specs.Stood.{stood, over, stoodAs}
 use Rattle.write_lists.specs.Tags.{begun, shut}
@@ -45,16 +46,16 @@ abbrev calls : ℕ → write-list-lts.Claims
 calls t = (all-reads.Asked, all-reads.Learnt, at-level-reads.Asked, at-level-reads.Learnt, holds-list-reads.Asked, holds-list-reads.Learnt, begin-tag-reads.Asked, begin-tag-reads.Learnt, write-list-below t, write-list.Post, shut-reads.Asked, shut-reads.Learnt, write-leaf-reads.Asked, write-leaf-reads.Learnt, ends-list-reads.Asked, ends-list-reads.Learnt)
 
 abbrev write-list-Inv-loop : write-list-lts.InvT-loop
-write-list-Inv-loop level left out₀ at t from classes place₀ k₀ out place k = (length out ≡ length out₀) × (place ≤ longest) × (k ≤ length t) × (rest level t left out₀ place₀ k₀ ≡ rest level t left out place k)
+write-list-Inv-loop level depths out₀ table from classes place₀ index₀ out place index = (length out ≡ length out₀) × (place .0 ≤ longest) × (index ≤ length table) × (rest level table depths out₀ (place₀ .0) index₀ ≡ rest level table depths out (place .0) index)
 
 abbrev write-list-μ-loop : write-list-lts.MeasureT-loop
-write-list-μ-loop level left out₀ at t from classes place₀ k₀ out place k = longest - place
+write-list-μ-loop level depths out₀ table from classes place₀ index₀ out place index = longest - place .0
 
 -- ---- what is known at the places of a turn
 
 -- the tag of this turn
 tag-at : (t : ℕ) (c : write-list-lts.After-at-level (calls t) (write-list-at t) write-list.Post write-list-Inv-loop write-list-μ-loop)
-    → Tag (c .before .before .before .before .before .before .before .before .before .args .level) (now (c .before .before .before .before .before .before .before .before .before .args .t)) (c .before .before .before .before .before .loop .k) (getD (now (c .before .before .before .before .before .before .before .before .before .args .t)) (c .before .before .before .before .before .loop .k) 0) (c .at-level .result)
+    → Tag (c .before .before .before .before .before .before .before .before .before .args .level) (now (c .before .before .before .before .before .before .before .before .before .args .table)) (c .before .before .before .before .before .loop .index) (getD (now (c .before .before .before .before .before .before .before .before .before .args .table)) (c .before .before .before .before .before .loop .index) 0) (c .at-level .result)
 tag-at t c = record { there = c .before .before .before .before .loop-test .taken; is = refl; low = omega (arith, c .before .before .if1 .left); classed = c .at-level .ensures ∙ class-at _ (c .before .before .before .before .before .before .all .ensures) _ _ _ _ _ refl refl (omega (arith, c .before .before .if1 .left)) }
 
 -- it is a container
@@ -64,28 +65,28 @@ holds-at t c = sym (c .before .holds-list .ensures) ∙ c .if2 .taken
 
 -- and a depth is left
 some-at : (t : ℕ) (c : write-list-lts.Else3 (calls t) (write-list-at t) write-list.Post write-list-Inv-loop write-list-μ-loop)
-    → (c .before .before .before .before .before .before .before .before .before .before .before .before .args .left) ≡ 0 → ⊥
+    → (c .before .before .before .before .before .before .before .before .before .before .before .before .args .depths) ≡ 0 → ⊥
 some-at t c = λ e. omega (arith, c .if3 .left)
 
 -- its own values stand
-begun-at : (t : ℕ) (c : write-list-lts.After-b (calls t) (write-list-at t) write-list.Post write-list-Inv-loop write-list-μ-loop)
-    → stood (c .before .before .before .before .begin-tag .last .1 .1 .0) (c .b .given .0 .0) (c .b .given .0 .1 .0) ≡ over (c .before .before .before .before .before .before .before .before .before .before .before .before .before .before .loop .out) ((c .before .before .before .before .before .before .before .before .before .before .before .before .before .before .loop .place) + 2) (c .before .before .before .before .before .before .before .before .before .before .before .before .before .before .loop .k) (begun (c .before .before .before .before .before .before .before .before .before .at-level .result) (drop (c .before .before .before .before .before .before .before .before .before .before .before .before .before .before .loop .k) (now (c .before .before .before .before .before .before .before .before .before .before .before .before .before .before .before .before .before .before .args .t))))
-begun-at t c = ap (stoodAs (c .before .before .before .before .begin-tag .last .1 .1 .0)) (sym (c .b .given .1)) ∙ c .before .before .before .before .begin-tag .ensures
+begun-at : (t : ℕ) (c : write-list-lts.After-begun (calls t) (write-list-at t) write-list.Post write-list-Inv-loop write-list-μ-loop)
+    → this (stood (c .before .before .before .before .begin-tag .last .1 .1 .0) (c .begun .given .0 .0 .0) (c .begun .given .0 .1 .0)) ≡ over (c .before .before .before .before .before .before .before .before .before .before .before .before .before .before .loop .out) ((c .before .before .before .before .before .before .before .before .before .before .before .before .before .before .loop .place .0) + 2) (c .before .before .before .before .before .before .before .before .before .before .before .before .before .before .loop .index) (begun (c .before .before .before .before .before .before .before .before .before .at-level .result) (drop (c .before .before .before .before .before .before .before .before .before .before .before .before .before .before .loop .index) (now (c .before .before .before .before .before .before .before .before .before .before .before .before .before .before .before .before .before .before .args .table))))
+begun-at t c = ap (stoodAs (c .before .before .before .before .begin-tag .last .1 .1 .0)) (sym (c .begun .given .1)) ∙ c .before .before .before .before .begin-tag .ensures
 
 -- and its list
 listed-at : (t : ℕ) (c : write-list-lts.After-write-list (calls t) (write-list-at t) write-list.Post write-list-Inv-loop write-list-μ-loop)
-    → stoodAs (c .write-list .last .1 .1 .0) (c .write-list .result) ≡ over (c .before .before .before .before .before .before .before .before .before .before .before .before .before .before .before .before .before .loop .out) ((c .before .before .before .before .before .before .before .before .before .before .before .before .before .before .before .before .before .loop .place) + 2) (c .before .before .before .before .before .before .before .before .before .before .before .before .before .before .before .before .before .loop .k) (inner (c .before .before .before .before .before .before .before .before .before .before .before .before .before .before .before .before .before .before .before .before .before .args .level) (c .before .before .before .before .before .before .before .before .before .before .before .before .at-level .result) (c .before .before .before .before .before .before .before .before .before .before .before .before .before .before .before .before .before .before .before .before .before .args .left) (drop (c .before .before .before .before .before .before .before .before .before .before .before .before .before .before .before .before .before .loop .k) (now (c .before .before .before .before .before .before .before .before .before .before .before .before .before .before .before .before .before .before .before .before .before .args .t))))
-listed-at t c = held-list (tag-at t (c .before .before .before .before .before .before .before .before .before .before .before .before)) (c .before .before .before .before .before .before .before .before .before .before .before .before .before .before .before .before .before .loop .out) (c .before .before .before .before .before .before .before .before .before .before .before .before .before .before .before .before .before .before .before .before .before .args .left) (c .before .before .before .before .before .before .before .before .before .before .before .before .before .before .before .before .before .loop .place) (holds-at t (c .before .before .before .before .before .before .before .before .before .before)) (some-at t (c .before .before .before .before .before .before .before .before .before)) (begun-at t (c .before .before .before)) (c .write-list .ensures)
+    → stoodAs (c .write-list .last .1 .1 .0) (c .write-list .result) ≡ over (c .before .before .before .before .before .before .before .before .before .before .before .before .before .before .before .before .before .loop .out) ((c .before .before .before .before .before .before .before .before .before .before .before .before .before .before .before .before .before .loop .place .0) + 2) (c .before .before .before .before .before .before .before .before .before .before .before .before .before .before .before .before .before .loop .index) (inner (c .before .before .before .before .before .before .before .before .before .before .before .before .before .before .before .before .before .before .before .before .before .args .level) (c .before .before .before .before .before .before .before .before .before .before .before .before .at-level .result) (c .before .before .before .before .before .before .before .before .before .before .before .before .before .before .before .before .before .before .before .before .before .args .depths) (drop (c .before .before .before .before .before .before .before .before .before .before .before .before .before .before .before .before .before .loop .index) (now (c .before .before .before .before .before .before .before .before .before .before .before .before .before .before .before .before .before .before .before .before .before .args .table))))
+listed-at t c = held-list (tag-at t (c .before .before .before .before .before .before .before .before .before .before .before .before)) (c .before .before .before .before .before .before .before .before .before .before .before .before .before .before .before .before .before .loop .out) (c .before .before .before .before .before .before .before .before .before .before .before .before .before .before .before .before .before .before .before .before .before .args .depths) (c .before .before .before .before .before .before .before .before .before .before .before .before .before .before .before .before .before .loop .place .0) (holds-at t (c .before .before .before .before .before .before .before .before .before .before)) (some-at t (c .before .before .before .before .before .before .before .before .before)) (begun-at t (c .before .before .before)) (c .write-list .ensures)
 
 -- and its header
 shut-at : (t : ℕ) (c : write-list-lts.After-shut (calls t) (write-list-at t) write-list.Post write-list-Inv-loop write-list-μ-loop)
-    → stoodAs (c .shut .last .0) (c .shut .result) ≡ over (c .before .before .before .before .before .before .before .before .before .before .before .before .before .before .before .before .before .before .before .before .before .loop .out) (c .before .before .before .before .before .before .before .before .before .before .before .before .before .before .before .before .before .before .before .before .before .loop .place) (c .before .before .before .before .before .before .before .before .before .before .before .before .before .before .before .before .before .before .before .before .before .loop .k) (shut (getD (now (c .before .before .before .before .before .before .before .before .before .before .before .before .before .before .before .before .before .before .before .before .before .before .before .before .before .args .t)) (c .before .before .before .before .before .before .before .before .before .before .before .before .before .before .before .before .before .before .before .before .before .loop .k) 0) (inner (c .before .before .before .before .before .before .before .before .before .before .before .before .before .before .before .before .before .before .before .before .before .before .before .before .before .args .level) (c .before .before .before .before .before .before .before .before .before .before .before .before .before .before .before .before .at-level .result) (c .before .before .before .before .before .before .before .before .before .before .before .before .before .before .before .before .before .before .before .before .before .before .before .before .before .args .left) (drop (c .before .before .before .before .before .before .before .before .before .before .before .before .before .before .before .before .before .before .before .before .before .loop .k) (now (c .before .before .before .before .before .before .before .before .before .before .before .before .before .before .before .before .before .before .before .before .before .before .before .before .before .args .t)))))
-shut-at t c = c .shut .ensures ∙ held-shut (tag-at t (c .before .before .before .before .before .before .before .before .before .before .before .before .before .before .before .before)) (c .before .before .before .before .before .before .before .before .before .before .before .before .before .before .before .before .before .before .before .before .before .loop .out) (c .before .before .before .before .before .before .before .before .before .before .before .before .before .before .before .before .before .before .before .before .before .before .before .before .before .args .left) (c .before .before .before .before .before .before .before .before .before .before .before .before .before .before .before .before .before .before .before .before .before .loop .place) (holds-at t (c .before .before .before .before .before .before .before .before .before .before .before .before .before .before)) (some-at t (c .before .before .before .before .before .before .before .before .before .before .before .before .before)) (c .before .before .before .before .write-list .last .1 .1 .0) (c .before .before .before .before .write-list .result) (listed-at t (c .before .before .before .before))
+    → stoodAs (c .shut .last .0) (c .shut .result) ≡ over (c .before .before .before .before .before .before .before .before .before .before .before .before .before .before .before .before .before .before .before .before .before .loop .out) (c .before .before .before .before .before .before .before .before .before .before .before .before .before .before .before .before .before .before .before .before .before .loop .place .0) (c .before .before .before .before .before .before .before .before .before .before .before .before .before .before .before .before .before .before .before .before .before .loop .index) (shut (getD (now (c .before .before .before .before .before .before .before .before .before .before .before .before .before .before .before .before .before .before .before .before .before .before .before .before .before .args .table)) (c .before .before .before .before .before .before .before .before .before .before .before .before .before .before .before .before .before .before .before .before .before .loop .index) 0) (inner (c .before .before .before .before .before .before .before .before .before .before .before .before .before .before .before .before .before .before .before .before .before .before .before .before .before .args .level) (c .before .before .before .before .before .before .before .before .before .before .before .before .before .before .before .before .at-level .result) (c .before .before .before .before .before .before .before .before .before .before .before .before .before .before .before .before .before .before .before .before .before .before .before .before .before .args .depths) (drop (c .before .before .before .before .before .before .before .before .before .before .before .before .before .before .before .before .before .before .before .before .before .loop .index) (now (c .before .before .before .before .before .before .before .before .before .before .before .before .before .before .before .before .before .before .before .before .before .before .before .before .before .args .table)))))
+shut-at t c = c .shut .ensures ∙ held-shut (tag-at t (c .before .before .before .before .before .before .before .before .before .before .before .before .before .before .before .before)) (c .before .before .before .before .before .before .before .before .before .before .before .before .before .before .before .before .before .before .before .before .before .loop .out) (c .before .before .before .before .before .before .before .before .before .before .before .before .before .before .before .before .before .before .before .before .before .before .before .before .before .args .depths) (c .before .before .before .before .before .before .before .before .before .before .before .before .before .before .before .before .before .before .before .before .before .loop .place .0) (holds-at t (c .before .before .before .before .before .before .before .before .before .before .before .before .before .before)) (some-at t (c .before .before .before .before .before .before .before .before .before .before .before .before .before)) (c .before .before .before .before .write-list .last .1 .1 .0) (c .before .before .before .before .write-list .result) (listed-at t (c .before .before .before .before))
 
 -- the next place and index
-held-at : (t : ℕ) (c : write-list-lts.After-w (calls t) (write-list-at t) write-list.Post write-list-Inv-loop write-list-μ-loop)
-    → stood (c .before .before .before .before .shut .last .0) (c .w .given .0 .0) (c .w .given .0 .1 .0) ≡ over (c .before .before .before .before .before .before .before .before .before .before .before .before .before .before .before .before .before .before .before .before .before .before .before .before .before .loop .out) (c .before .before .before .before .before .before .before .before .before .before .before .before .before .before .before .before .before .before .before .before .before .before .before .before .before .loop .place) (c .before .before .before .before .before .before .before .before .before .before .before .before .before .before .before .before .before .before .before .before .before .before .before .before .before .loop .k) (shut (getD (now (c .before .before .before .before .before .before .before .before .before .before .before .before .before .before .before .before .before .before .before .before .before .before .before .before .before .before .before .before .before .args .t)) (c .before .before .before .before .before .before .before .before .before .before .before .before .before .before .before .before .before .before .before .before .before .before .before .before .before .loop .k) 0) (inner (c .before .before .before .before .before .before .before .before .before .before .before .before .before .before .before .before .before .before .before .before .before .before .before .before .before .before .before .before .before .args .level) (c .before .before .before .before .before .before .before .before .before .before .before .before .before .before .before .before .before .before .before .before .at-level .result) (c .before .before .before .before .before .before .before .before .before .before .before .before .before .before .before .before .before .before .before .before .before .before .before .before .before .before .before .before .before .args .left) (drop (c .before .before .before .before .before .before .before .before .before .before .before .before .before .before .before .before .before .before .before .before .before .before .before .before .before .loop .k) (now (c .before .before .before .before .before .before .before .before .before .before .before .before .before .before .before .before .before .before .before .before .before .before .before .before .before .before .before .before .before .args .t)))))
-held-at t c = ap (stoodAs (c .before .before .before .before .shut .last .0)) (sym (c .w .given .1)) ∙ shut-at t (c .before .before .before .before)
+held-at : (t : ℕ) (c : write-list-lts.After-wrote (calls t) (write-list-at t) write-list.Post write-list-Inv-loop write-list-μ-loop)
+    → this (stood (c .before .before .before .before .shut .last .0) (c .wrote .given .0 .0 .0) (c .wrote .given .0 .1 .0)) ≡ over (c .before .before .before .before .before .before .before .before .before .before .before .before .before .before .before .before .before .before .before .before .before .before .before .before .before .loop .out) (c .before .before .before .before .before .before .before .before .before .before .before .before .before .before .before .before .before .before .before .before .before .before .before .before .before .loop .place .0) (c .before .before .before .before .before .before .before .before .before .before .before .before .before .before .before .before .before .before .before .before .before .before .before .before .before .loop .index) (shut (getD (now (c .before .before .before .before .before .before .before .before .before .before .before .before .before .before .before .before .before .before .before .before .before .before .before .before .before .before .before .before .before .args .table)) (c .before .before .before .before .before .before .before .before .before .before .before .before .before .before .before .before .before .before .before .before .before .before .before .before .before .loop .index) 0) (inner (c .before .before .before .before .before .before .before .before .before .before .before .before .before .before .before .before .before .before .before .before .before .before .before .before .before .before .before .before .before .args .level) (c .before .before .before .before .before .before .before .before .before .before .before .before .before .before .before .before .before .before .before .before .at-level .result) (c .before .before .before .before .before .before .before .before .before .before .before .before .before .before .before .before .before .before .before .before .before .before .before .before .before .before .before .before .before .args .depths) (drop (c .before .before .before .before .before .before .before .before .before .before .before .before .before .before .before .before .before .before .before .before .before .before .before .before .before .loop .index) (now (c .before .before .before .before .before .before .before .before .before .before .before .before .before .before .before .before .before .before .before .before .before .before .before .before .before .before .before .before .before .args .table)))))
+held-at t c = ap (stoodAs (c .before .before .before .before .shut .last .0)) (sym (c .wrote .given .1)) ∙ shut-at t (c .before .before .before .before)
 
 -- the tag is no container
 leaf-at : (t : ℕ) (c : write-list-lts.Else2 (calls t) (write-list-at t) write-list.Post write-list-Inv-loop write-list-μ-loop)
@@ -93,185 +94,140 @@ leaf-at : (t : ℕ) (c : write-list-lts.Else2 (calls t) (write-list-at t) write-
 leaf-at t c = sym (c .before .holds-list .ensures) ∙ c .if2 .left
 
 -- it stands whole
-whole-at : (t : ℕ) (c : write-list-lts.After-w2 (calls t) (write-list-at t) write-list.Post write-list-Inv-loop write-list-μ-loop)
-    → stood (c .before .before .before .before .write-leaf .last .1 .1 .0) (c .w2 .given .0 .0) (c .w2 .given .0 .1 .0) ≡ over (c .before .before .before .before .before .before .before .before .before .before .before .before .before .loop .out) (c .before .before .before .before .before .before .before .before .before .before .before .before .before .loop .place) (c .before .before .before .before .before .before .before .before .before .before .before .before .before .loop .k) (shut (getD (now (c .before .before .before .before .before .before .before .before .before .before .before .before .before .before .before .before .before .args .t)) (c .before .before .before .before .before .before .before .before .before .before .before .before .before .loop .k) 0) (begun (c .before .before .before .before .before .before .before .before .at-level .result) (drop (c .before .before .before .before .before .before .before .before .before .before .before .before .before .loop .k) (now (c .before .before .before .before .before .before .before .before .before .before .before .before .before .before .before .before .before .args .t)))))
-whole-at t c = ap (stoodAs (c .before .before .before .before .write-leaf .last .1 .1 .0)) (sym (c .w2 .given .1)) ∙ c .before .before .before .before .write-leaf .ensures
+whole-at : (t : ℕ) (c : write-list-lts.After-wrote2 (calls t) (write-list-at t) write-list.Post write-list-Inv-loop write-list-μ-loop)
+    → this (stood (c .before .before .before .before .write-leaf .last .1 .1 .0) (c .wrote2 .given .0 .0 .0) (c .wrote2 .given .0 .1 .0)) ≡ over (c .before .before .before .before .before .before .before .before .before .before .before .before .before .loop .out) (c .before .before .before .before .before .before .before .before .before .before .before .before .before .loop .place .0) (c .before .before .before .before .before .before .before .before .before .before .before .before .before .loop .index) (shut (getD (now (c .before .before .before .before .before .before .before .before .before .before .before .before .before .before .before .before .before .args .table)) (c .before .before .before .before .before .before .before .before .before .before .before .before .before .loop .index) 0) (begun (c .before .before .before .before .before .before .before .before .at-level .result) (drop (c .before .before .before .before .before .before .before .before .before .before .before .before .before .loop .index) (now (c .before .before .before .before .before .before .before .before .before .before .before .before .before .before .before .before .before .args .table)))))
+whole-at t c = ap (stoodAs (c .before .before .before .before .write-leaf .last .1 .1 .0)) (sym (c .wrote2 .given .1)) ∙ c .before .before .before .before .write-leaf .ensures
 
 -- ---- what the code leaves to be shown
 
 write-list-all-requires : (t : ℕ) → write-list-lts.Need-all-requires (calls t) (write-list-at t) write-list.Post write-list-Inv-loop write-list-μ-loop
 write-list-all-requires t c κs = tt
 
--- src/lib.rt:148:5
 write-list-loop-holds : (t : ℕ) → write-list-lts.Need-loop-holds (calls t) (write-list-at t) write-list.Post write-list-Inv-loop write-list-μ-loop
 write-list-loop-holds t c = (refl, c .before .before .before .pre .1 .0, c .before .before .before .pre .1 .1, refl)
 
--- src/lib.rt:149:22
 write-list-mul-number : (t : ℕ) → write-list-lts.Need-mul-number (calls t) (write-list-at t) write-list.Post write-list-Inv-loop write-list-μ-loop
 write-list-mul-number t c = search needs
 
--- src/lib.rt:149:22
 write-list-shared-slice-read-number : (t : ℕ) → write-list-lts.Need-shared-slice-read-number (calls t) (write-list-at t) write-list.Post write-list-Inv-loop write-list-μ-loop
 write-list-shared-slice-read-number t c = omega (arith, c .before .loop-test .taken)
 
--- src/lib.rt:151:13
 write-list-same-length : (t : ℕ) → write-list-lts.Need-same-length (calls t) (write-list-at t) write-list.Post write-list-Inv-loop write-list-μ-loop
 write-list-same-length t c = c .before .before .before .loop .inv .0
 
--- src/lib.rt:151:13
 write-list-returns : (t : ℕ) → write-list-lts.Need-returns (calls t) (write-list-at t) write-list.Post write-list-Inv-loop write-list-μ-loop
-write-list-returns t c = turn-high (c .before .before .before .before .before .before .before .args .level) (now (c .before .before .before .before .before .before .before .args .t)) (c .before .before .before .loop .out) (c .before .before .before .before .before .before .before .args .left) (c .before .before .before .loop .place) (c .before .before .before .loop .k) (c .before .before .loop-test .taken) (omega (arith, c .if1 .taken)) ∙ sym (c .before .before .before .loop .inv .3)
+write-list-returns t c = turn-high (c .before .before .before .before .before .before .before .args .level) (now (c .before .before .before .before .before .before .before .args .table)) (c .before .before .before .loop .out) (c .before .before .before .before .before .before .before .args .depths) (c .before .before .before .loop .place .0) (c .before .before .before .loop .index) (c .before .before .loop-test .taken) (omega (arith, c .if1 .taken)) ∙ sym (c .before .before .before .loop .inv .3)
 
--- src/lib.rt:153:20
 write-list-cast-code : (t : ℕ) → write-list-lts.Need-cast-code (calls t) (write-list-at t) write-list.Post write-list-Inv-loop write-list-μ-loop
 write-list-cast-code t c = omega (arith, c .if1 .left)
 
--- src/lib.rt:154:30
 write-list-cast-listed : (t : ℕ) → write-list-lts.Need-cast-listed (calls t) (write-list-at t) write-list.Post write-list-Inv-loop write-list-μ-loop
 write-list-cast-listed t c = search needs
 
--- src/lib.rt:154:52
 write-list-cast-listed-2 : (t : ℕ) → write-list-lts.Need-cast-listed-2 (calls t) (write-list-at t) write-list.Post write-list-Inv-loop write-list-μ-loop
 write-list-cast-listed-2 t c = search needs
 
--- src/lib.rt:154:22
 write-list-mul-listed : (t : ℕ) → write-list-lts.Need-mul-listed (calls t) (write-list-at t) write-list.Post write-list-Inv-loop write-list-μ-loop
 write-list-mul-listed t c = search needs
 
--- src/lib.rt:154:22
 write-list-index-1-listed : (t : ℕ) → write-list-lts.Need-index-1-listed (calls t) (write-list-at t) write-list.Post write-list-Inv-loop write-list-μ-loop
 write-list-index-1-listed t c = omega (arith, c .if1 .left)
 
--- src/lib.rt:154:22
 write-list-index-2-listed : (t : ℕ) → write-list-lts.Need-index-2-listed (calls t) (write-list-at t) write-list.Post write-list-Inv-loop write-list-μ-loop
 write-list-index-2-listed t c = omega arith
 
--- src/lib.rt:155:13
 write-list-at-level-requires : (t : ℕ) → write-list-lts.Need-at-level-requires (calls t) (write-list-at t) write-list.Post write-list-Inv-loop write-list-μ-loop
 write-list-at-level-requires t c κs = tt
 
--- src/lib.rt:156:12
 write-list-holds-list-requires : (t : ℕ) → write-list-lts.Need-holds-list-requires (calls t) (write-list-at t) write-list.Post write-list-Inv-loop write-list-μ-loop
 write-list-holds-list-requires t c κs = tt
 
--- src/lib.rt:158:17
 write-list-same-length-2 : (t : ℕ) → write-list-lts.Need-same-length-2 (calls t) (write-list-at t) write-list.Post write-list-Inv-loop write-list-μ-loop
 write-list-same-length-2 t c = c .before .before .before .before .before .before .before .before .loop .inv .0
 
--- src/lib.rt:158:17
 write-list-returns-2 : (t : ℕ) → write-list-lts.Need-returns-2 (calls t) (write-list-at t) write-list.Post write-list-Inv-loop write-list-μ-loop
-write-list-returns-2 t c = held-deep (tag-at t (c .before .before .before)) (c .before .before .before .before .before .before .before .before .loop .out) (c .before .before .before .before .before .before .before .before .before .before .before .before .args .left) (c .before .before .before .before .before .before .before .before .loop .place) (holds-at t (c .before)) (omega (arith, c .if3 .taken)) ∙ sym (c .before .before .before .before .before .before .before .before .loop .inv .3)
+write-list-returns-2 t c = held-deep (tag-at t (c .before .before .before)) (c .before .before .before .before .before .before .before .before .loop .out) (c .before .before .before .before .before .before .before .before .before .before .before .before .args .depths) (c .before .before .before .before .before .before .before .before .loop .place .0) (holds-at t (c .before)) (omega (arith, c .if3 .taken)) ∙ sym (c .before .before .before .before .before .before .before .before .loop .inv .3)
 
--- src/lib.rt:160:49
-write-list-add-begin-tag : (t : ℕ) → write-list-lts.Need-add-begin-tag (calls t) (write-list-at t) write-list.Post write-list-Inv-loop write-list-μ-loop
-write-list-add-begin-tag t c = omega (arith, c .before .before .before .before .before .before .before .before .before .loop .inv .1)
-
--- src/lib.rt:160:17
 write-list-begin-tag-requires : (t : ℕ) → write-list-lts.Need-begin-tag-requires (calls t) (write-list-at t) write-list.Post write-list-Inv-loop write-list-μ-loop
 write-list-begin-tag-requires t c κs = (omega (arith, c .before .before .before .before .before .before .before .before .before .loop .inv .1), c .before .before .before .before .before .before .before .before .loop-test .taken, refl)
 
--- src/lib.rt:161:29
-write-list-enum-known-b : (t : ℕ) → write-list-lts.Need-enum-known-b (calls t) (write-list-at t) write-list.Post write-list-Inv-loop write-list-μ-loop
+write-list-enum-known-b : (t : ℕ) → write-list-lts.Need-enum-known-begun (calls t) (write-list-at t) write-list.Post write-list-Inv-loop write-list-μ-loop
 write-list-enum-known-b t c = search needs
 
--- src/lib.rt:162:17
 write-list-enum-told : (t : ℕ) → write-list-lts.Need-enum-told (calls t) (write-list-at t) write-list.Post write-list-Inv-loop write-list-μ-loop
 write-list-enum-told t c = search needs
 
--- src/lib.rt:162:17
 write-list-same-length-3 : (t : ℕ) → write-list-lts.Need-same-length-3 (calls t) (write-list-at t) write-list.Post write-list-Inv-loop write-list-μ-loop
 write-list-same-length-3 t c = c .before .before .before .before .begin-tag .kept .1 .1 .0 ∙ c .before .before .before .before .before .before .before .before .before .before .before .before .before .before .loop .inv .0
 
--- src/lib.rt:162:17
 write-list-returns-3 : (t : ℕ) → write-list-lts.Need-returns-3 (calls t) (write-list-at t) write-list.Post write-list-Inv-loop write-list-μ-loop
-write-list-returns-3 t c = ap (stoodAs (c .before .before .before .before .begin-tag .last .1 .1 .0)) (c .enum-told .given .1) ∙ held-fell (tag-at t (c .before .before .before .before .before .before .before .before .before)) (c .before .before .before .before .before .before .before .before .before .before .before .before .before .before .loop .out) (c .before .before .before .before .before .before .before .before .before .before .before .before .before .before .before .before .before .before .args .left) (c .before .before .before .before .before .before .before .before .before .before .before .before .before .before .loop .place) (holds-at t (c .before .before .before .before .before .before .before)) (some-at t (c .before .before .before .before .before .before)) (ap (stoodAs (c .before .before .before .before .begin-tag .last .1 .1 .0)) (sym (c .enum-told .given .1)) ∙ c .before .before .before .before .begin-tag .ensures) ∙ sym (c .before .before .before .before .before .before .before .before .before .before .before .before .before .before .loop .inv .3)
+write-list-returns-3 t c = ap (stoodAs (c .before .before .before .before .begin-tag .last .1 .1 .0)) (c .enum-told .given .1) ∙ held-fell (tag-at t (c .before .before .before .before .before .before .before .before .before)) (c .before .before .before .before .before .before .before .before .before .before .before .before .before .before .loop .out) (c .before .before .before .before .before .before .before .before .before .before .before .before .before .before .before .before .before .before .args .depths) (c .before .before .before .before .before .before .before .before .before .before .before .before .before .before .loop .place .0) (holds-at t (c .before .before .before .before .before .before .before)) (some-at t (c .before .before .before .before .before .before)) (ap (stoodAs (c .before .before .before .before .begin-tag .last .1 .1 .0)) (sym (c .enum-told .given .1)) ∙ c .before .before .before .before .begin-tag .ensures) ∙ sym (c .before .before .before .before .before .before .before .before .before .before .before .before .before .before .loop .inv .3)
 
--- src/lib.rt:164:42
 write-list-sub-write-list : (t : ℕ) → write-list-lts.Need-sub-write-list (calls t) (write-list-at t) write-list.Post write-list-Inv-loop write-list-μ-loop
 write-list-sub-write-list t c = omega (arith, c .before .before .before .before .before .before .before .if3 .left)
 
--- src/lib.rt:164:17
 write-list-write-list-requires : (t : ℕ) → write-list-lts.Need-write-list-requires (calls t) (write-list-at t) write-list.Post write-list-Inv-loop write-list-μ-loop
-write-list-write-list-requires t c κs = let h = stood-index (now (c .before .before .before .before .before .before .before .before .before .before .before .before .before .before .before .before .before .before .before .before .args .t)) (c .before .before .before .before .before .before .before .before .before .before .before .before .before .before .before .before .loop .out) ((c .before .before .before .before .before .before .before .before .before .before .before .before .before .before .before .before .loop .place) + 2) (c .before .before .before .before .before .before .before .before .before .before .before .before .before .before .before .before .loop .k) (c .before .before .before .before .before .before .begin-tag .last .1 .1 .0) _ _ (begun (c .before .before .before .before .before .before .before .before .before .before .before .at-level .result) (drop (c .before .before .before .before .before .before .before .before .before .before .before .before .before .before .before .before .loop .k) (now (c .before .before .before .before .before .before .before .before .before .before .before .before .before .before .before .before .before .before .before .before .args .t)))) (omega (arith, c .before .before .before .before .before .before .before .before .before .before .before .before .before .before .before .loop-test .taken)) (parts-begun (c .before .before .before .before .before .before .before .before .before .before .before .at-level .result) (drop (c .before .before .before .before .before .before .before .before .before .before .before .before .before .before .before .before .loop .k) (now (c .before .before .before .before .before .before .before .before .before .before .before .before .before .before .before .before .before .before .before .before .args .t)))) (begun-at t (c .before .before)) in
+write-list-write-list-requires t c κs = let h = stood-index (now (c .before .before .before .before .before .before .before .before .before .before .before .before .before .before .before .before .before .before .before .before .args .table)) (c .before .before .before .before .before .before .before .before .before .before .before .before .before .before .before .before .loop .out) ((c .before .before .before .before .before .before .before .before .before .before .before .before .before .before .before .before .loop .place .0) + 2) (c .before .before .before .before .before .before .before .before .before .before .before .before .before .before .before .before .loop .index) (c .before .before .before .before .before .before .begin-tag .last .1 .1 .0) _ _ (begun (c .before .before .before .before .before .before .before .before .before .before .before .at-level .result) (drop (c .before .before .before .before .before .before .before .before .before .before .before .before .before .before .before .before .loop .index) (now (c .before .before .before .before .before .before .before .before .before .before .before .before .before .before .before .before .before .before .before .before .args .table)))) (omega (arith, c .before .before .before .before .before .before .before .before .before .before .before .before .before .before .before .loop-test .taken)) (parts-begun (c .before .before .before .before .before .before .before .before .before .before .before .at-level .result) (drop (c .before .before .before .before .before .before .before .before .before .before .before .before .before .before .before .before .loop .index) (now (c .before .before .before .before .before .before .before .before .before .before .before .before .before .before .before .before .before .before .before .before .args .table)))) (begun-at t (c .before .before)) in
     (omega (arith, c .before .before .before .before .before .before .before .before .before .before .before .before .before .before .before .before .before .before .before .before .pre .0, c .before .before .before .before .before .before .before .before .if3 .left), (h .3, h .1))
 
--- src/lib.rt:165:17
 write-list-shut-requires : (t : ℕ) → write-list-lts.Need-shut-requires (calls t) (write-list-at t) write-list.Post write-list-Inv-loop write-list-μ-loop
-write-list-shut-requires t c κs = (shut-after (c .before .before .before .before .before .before .before .before .before .before .before .before .before .before .before .before .before .before .before .before .loop .out) (c .before .before .before .write-list .last .1 .1 .0) (c .before .before .before .before .before .before .before .before .before .before .before .before .before .before .before .before .before .before .before .before .loop .place) (c .before .before .before .before .before .before .before .before .before .before .before .before .before .before .before .before .before .before .before .before .loop .k) (c .before .before .before .write-list .result) (inner (c .before .before .before .before .before .before .before .before .before .before .before .before .before .before .before .before .before .before .before .before .before .before .before .before .args .level) (c .before .before .before .before .before .before .before .before .before .before .before .before .before .before .before .at-level .result) (c .before .before .before .before .before .before .before .before .before .before .before .before .before .before .before .before .before .before .before .before .before .before .before .before .args .left) (drop (c .before .before .before .before .before .before .before .before .before .before .before .before .before .before .before .before .before .before .before .before .loop .k) (now (c .before .before .before .before .before .before .before .before .before .before .before .before .before .before .before .before .before .before .before .before .before .before .before .before .args .t)))) (listed-at t (c .before .before .before)), omega (arith, c .before .before .before .before .before .before .before .before .before .before .before .before .before .before .before .before .before .if1 .left))
+write-list-shut-requires t c κs = (shut-after (c .before .before .before .before .before .before .before .before .before .before .before .before .before .before .before .before .before .before .before .before .loop .out) (c .before .before .before .write-list .last .1 .1 .0) (c .before .before .before .before .before .before .before .before .before .before .before .before .before .before .before .before .before .before .before .before .loop .place .0) (c .before .before .before .before .before .before .before .before .before .before .before .before .before .before .before .before .before .before .before .before .loop .index) (c .before .before .before .write-list .result) (inner (c .before .before .before .before .before .before .before .before .before .before .before .before .before .before .before .before .before .before .before .before .before .before .before .before .args .level) (c .before .before .before .before .before .before .before .before .before .before .before .before .before .before .before .at-level .result) (c .before .before .before .before .before .before .before .before .before .before .before .before .before .before .before .before .before .before .before .before .before .before .before .before .args .depths) (drop (c .before .before .before .before .before .before .before .before .before .before .before .before .before .before .before .before .before .before .before .before .loop .index) (now (c .before .before .before .before .before .before .before .before .before .before .before .before .before .before .before .before .before .before .before .before .before .before .before .before .args .table)))) (listed-at t (c .before .before .before)), omega (arith, c .before .before .before .before .before .before .before .before .before .before .before .before .before .before .before .before .before .if1 .left))
 
--- src/lib.rt:166:29
-write-list-enum-known-w : (t : ℕ) → write-list-lts.Need-enum-known-w (calls t) (write-list-at t) write-list.Post write-list-Inv-loop write-list-μ-loop
+write-list-enum-known-w : (t : ℕ) → write-list-lts.Need-enum-known-wrote (calls t) (write-list-at t) write-list.Post write-list-Inv-loop write-list-μ-loop
 write-list-enum-known-w t c = search needs
 
--- src/lib.rt:167:17
 write-list-enum-told-2 : (t : ℕ) → write-list-lts.Need-enum-told-2 (calls t) (write-list-at t) write-list.Post write-list-Inv-loop write-list-μ-loop
 write-list-enum-told-2 t c = search needs
 
--- src/lib.rt:167:17
 write-list-same-length-4 : (t : ℕ) → write-list-lts.Need-same-length-4 (calls t) (write-list-at t) write-list.Post write-list-Inv-loop write-list-μ-loop
 write-list-same-length-4 t c = c .before .before .before .before .shut .kept .0 ∙ c .before .before .before .before .before .before .before .before .write-list .kept .1 .1 .0 ∙ c .before .before .before .before .before .before .before .before .before .before .before .before .before .before .before .begin-tag .kept .1 .1 .0 ∙ c .before .before .before .before .before .before .before .before .before .before .before .before .before .before .before .before .before .before .before .before .before .before .before .before .before .loop .inv .0
 
--- src/lib.rt:167:17
 write-list-returns-4 : (t : ℕ) → write-list-lts.Need-returns-4 (calls t) (write-list-at t) write-list.Post write-list-Inv-loop write-list-μ-loop
-write-list-returns-4 t c = ap (stoodAs (c .before .before .before .before .shut .last .0)) (c .enum-told2 .given .1) ∙ sym (held-more (tag-at t (c .before .before .before .before .before .before .before .before .before .before .before .before .before .before .before .before .before .before .before .before)) (c .before .before .before .before .before .before .before .before .before .before .before .before .before .before .before .before .before .before .before .before .before .before .before .before .before .loop .out) (c .before .before .before .before .before .before .before .before .before .before .before .before .before .before .before .before .before .before .before .before .before .before .before .before .before .before .before .before .before .args .left) (c .before .before .before .before .before .before .before .before .before .before .before .before .before .before .before .before .before .before .before .before .before .before .before .before .before .loop .place) (holds-at t (c .before .before .before .before .before .before .before .before .before .before .before .before .before .before .before .before .before .before)) (some-at t (c .before .before .before .before .before .before .before .before .before .before .before .before .before .before .before .before .before)) (ap (stoodAs (c .before .before .before .before .shut .last .0)) (sym (c .enum-told2 .given .1)) ∙ shut-at t (c .before .before .before .before))) ∙ sym (c .before .before .before .before .before .before .before .before .before .before .before .before .before .before .before .before .before .before .before .before .before .before .before .before .before .loop .inv .3)
+write-list-returns-4 t c = ap (stoodAs (c .before .before .before .before .shut .last .0)) (c .enum-told2 .given .1) ∙ sym (held-more (tag-at t (c .before .before .before .before .before .before .before .before .before .before .before .before .before .before .before .before .before .before .before .before)) (c .before .before .before .before .before .before .before .before .before .before .before .before .before .before .before .before .before .before .before .before .before .before .before .before .before .loop .out) (c .before .before .before .before .before .before .before .before .before .before .before .before .before .before .before .before .before .before .before .before .before .before .before .before .before .before .before .before .before .args .depths) (c .before .before .before .before .before .before .before .before .before .before .before .before .before .before .before .before .before .before .before .before .before .before .before .before .before .loop .place .0) (holds-at t (c .before .before .before .before .before .before .before .before .before .before .before .before .before .before .before .before .before .before)) (some-at t (c .before .before .before .before .before .before .before .before .before .before .before .before .before .before .before .before .before)) (ap (stoodAs (c .before .before .before .before .shut .last .0)) (sym (c .enum-told2 .given .1)) ∙ shut-at t (c .before .before .before .before))) ∙ sym (c .before .before .before .before .before .before .before .before .before .before .before .before .before .before .before .before .before .before .before .before .before .before .before .before .before .loop .inv .3)
 
--- src/lib.rt:148:5
 write-list-loop-less : (t : ℕ) → write-list-lts.Need-loop-less (calls t) (write-list-at t) write-list.Post write-list-Inv-loop write-list-μ-loop
-write-list-loop-less t c = let x = tag-index (tag-at t (c .before .before .before .before .before .before .before .before .before .before .before .before .before .before .before .before .before .before .before .before .before)) (c .before .before .before .before .before .before .before .before .before .before .before .before .before .before .before .before .before .before .before .before .before .before .before .before .before .before .loop .out) (c .before .before .before .before .before .before .before .before .before .before .before .before .before .before .before .before .before .before .before .before .before .before .before .before .before .before .before .before .before .before .args .left) (c .before .before .before .before .before .before .before .before .before .before .before .before .before .before .before .before .before .before .before .before .before .before .before .before .before .before .loop .place) (inner (c .before .before .before .before .before .before .before .before .before .before .before .before .before .before .before .before .before .before .before .before .before .before .before .before .before .before .before .before .before .before .args .level) (c .before .before .before .before .before .before .before .before .before .before .before .before .before .before .before .before .before .before .before .before .before .at-level .result) (c .before .before .before .before .before .before .before .before .before .before .before .before .before .before .before .before .before .before .before .before .before .before .before .before .before .before .before .before .before .before .args .left) (drop (c .before .before .before .before .before .before .before .before .before .before .before .before .before .before .before .before .before .before .before .before .before .before .before .before .before .before .loop .k) (now (c .before .before .before .before .before .before .before .before .before .before .before .before .before .before .before .before .before .before .before .before .before .before .before .before .before .before .before .before .before .before .args .t)))) (parts-inner (tag-at t (c .before .before .before .before .before .before .before .before .before .before .before .before .before .before .before .before .before .before .before .before .before)) (c .before .before .before .before .before .before .before .before .before .before .before .before .before .before .before .before .before .before .before .before .before .before .before .before .before .before .loop .out) (c .before .before .before .before .before .before .before .before .before .before .before .before .before .before .before .before .before .before .before .before .before .before .before .before .before .before .before .before .before .before .args .left) (c .before .before .before .before .before .before .before .before .before .before .before .before .before .before .before .before .before .before .before .before .before .before .before .before .before .before .loop .place) (holds-at t (c .before .before .before .before .before .before .before .before .before .before .before .before .before .before .before .before .before .before .before)) (some-at t (c .before .before .before .before .before .before .before .before .before .before .before .before .before .before .before .before .before .before))) (c .before .before .before .before .before .shut .last .0) _ _ (held-at t (c .before)) in omega (arith, x .1, x .2)
+write-list-loop-less t c = let x = tag-index (tag-at t (c .before .before .before .before .before .before .before .before .before .before .before .before .before .before .before .before .before .before .before .before .before)) (c .before .before .before .before .before .before .before .before .before .before .before .before .before .before .before .before .before .before .before .before .before .before .before .before .before .before .loop .out) (c .before .before .before .before .before .before .before .before .before .before .before .before .before .before .before .before .before .before .before .before .before .before .before .before .before .before .before .before .before .before .args .depths) (c .before .before .before .before .before .before .before .before .before .before .before .before .before .before .before .before .before .before .before .before .before .before .before .before .before .before .loop .place .0) (inner (c .before .before .before .before .before .before .before .before .before .before .before .before .before .before .before .before .before .before .before .before .before .before .before .before .before .before .before .before .before .before .args .level) (c .before .before .before .before .before .before .before .before .before .before .before .before .before .before .before .before .before .before .before .before .before .at-level .result) (c .before .before .before .before .before .before .before .before .before .before .before .before .before .before .before .before .before .before .before .before .before .before .before .before .before .before .before .before .before .before .args .depths) (drop (c .before .before .before .before .before .before .before .before .before .before .before .before .before .before .before .before .before .before .before .before .before .before .before .before .before .before .loop .index) (now (c .before .before .before .before .before .before .before .before .before .before .before .before .before .before .before .before .before .before .before .before .before .before .before .before .before .before .before .before .before .before .args .table)))) (parts-inner (tag-at t (c .before .before .before .before .before .before .before .before .before .before .before .before .before .before .before .before .before .before .before .before .before)) (c .before .before .before .before .before .before .before .before .before .before .before .before .before .before .before .before .before .before .before .before .before .before .before .before .before .before .loop .out) (c .before .before .before .before .before .before .before .before .before .before .before .before .before .before .before .before .before .before .before .before .before .before .before .before .before .before .before .before .before .before .args .depths) (c .before .before .before .before .before .before .before .before .before .before .before .before .before .before .before .before .before .before .before .before .before .before .before .before .before .before .loop .place .0) (holds-at t (c .before .before .before .before .before .before .before .before .before .before .before .before .before .before .before .before .before .before .before)) (some-at t (c .before .before .before .before .before .before .before .before .before .before .before .before .before .before .before .before .before .before))) (c .before .before .before .before .before .shut .last .0) _ _ (held-at t (c .before)) in omega (arith, x .1, x .2)
 
--- src/lib.rt:148:5
 write-list-loop-again : (t : ℕ) → write-list-lts.Need-loop-again (calls t) (write-list-at t) write-list.Post write-list-Inv-loop write-list-μ-loop
-write-list-loop-again t c = let x = tag-index (tag-at t (c .before .before .before .before .before .before .before .before .before .before .before .before .before .before .before .before .before .before .before .before .before)) (c .before .before .before .before .before .before .before .before .before .before .before .before .before .before .before .before .before .before .before .before .before .before .before .before .before .before .loop .out) (c .before .before .before .before .before .before .before .before .before .before .before .before .before .before .before .before .before .before .before .before .before .before .before .before .before .before .before .before .before .before .args .left) (c .before .before .before .before .before .before .before .before .before .before .before .before .before .before .before .before .before .before .before .before .before .before .before .before .before .before .loop .place) (inner (c .before .before .before .before .before .before .before .before .before .before .before .before .before .before .before .before .before .before .before .before .before .before .before .before .before .before .before .before .before .before .args .level) (c .before .before .before .before .before .before .before .before .before .before .before .before .before .before .before .before .before .before .before .before .before .at-level .result) (c .before .before .before .before .before .before .before .before .before .before .before .before .before .before .before .before .before .before .before .before .before .before .before .before .before .before .before .before .before .before .args .left) (drop (c .before .before .before .before .before .before .before .before .before .before .before .before .before .before .before .before .before .before .before .before .before .before .before .before .before .before .loop .k) (now (c .before .before .before .before .before .before .before .before .before .before .before .before .before .before .before .before .before .before .before .before .before .before .before .before .before .before .before .before .before .before .args .t)))) (parts-inner (tag-at t (c .before .before .before .before .before .before .before .before .before .before .before .before .before .before .before .before .before .before .before .before .before)) (c .before .before .before .before .before .before .before .before .before .before .before .before .before .before .before .before .before .before .before .before .before .before .before .before .before .before .loop .out) (c .before .before .before .before .before .before .before .before .before .before .before .before .before .before .before .before .before .before .before .before .before .before .before .before .before .before .before .before .before .before .args .left) (c .before .before .before .before .before .before .before .before .before .before .before .before .before .before .before .before .before .before .before .before .before .before .before .before .before .before .loop .place) (holds-at t (c .before .before .before .before .before .before .before .before .before .before .before .before .before .before .before .before .before .before .before)) (some-at t (c .before .before .before .before .before .before .before .before .before .before .before .before .before .before .before .before .before .before))) (c .before .before .before .before .before .shut .last .0) _ _ (held-at t (c .before)) in
-    (c .before .before .before .before .before .shut .kept .0 ∙ c .before .before .before .before .before .before .before .before .before .write-list .kept .1 .1 .0 ∙ c .before .before .before .before .before .before .before .before .before .before .before .before .before .before .before .before .begin-tag .kept .1 .1 .0 ∙ c .before .before .before .before .before .before .before .before .before .before .before .before .before .before .before .before .before .before .before .before .before .before .before .before .before .before .loop .inv .0, x .2, x .0, c .before .before .before .before .before .before .before .before .before .before .before .before .before .before .before .before .before .before .before .before .before .before .before .before .before .before .loop .inv .3 ∙ held-more (tag-at t (c .before .before .before .before .before .before .before .before .before .before .before .before .before .before .before .before .before .before .before .before .before)) (c .before .before .before .before .before .before .before .before .before .before .before .before .before .before .before .before .before .before .before .before .before .before .before .before .before .before .loop .out) (c .before .before .before .before .before .before .before .before .before .before .before .before .before .before .before .before .before .before .before .before .before .before .before .before .before .before .before .before .before .before .args .left) (c .before .before .before .before .before .before .before .before .before .before .before .before .before .before .before .before .before .before .before .before .before .before .before .before .before .before .loop .place) (holds-at t (c .before .before .before .before .before .before .before .before .before .before .before .before .before .before .before .before .before .before .before)) (some-at t (c .before .before .before .before .before .before .before .before .before .before .before .before .before .before .before .before .before .before)) (held-at t (c .before)))
+write-list-loop-again t c = let x = tag-index (tag-at t (c .before .before .before .before .before .before .before .before .before .before .before .before .before .before .before .before .before .before .before .before .before)) (c .before .before .before .before .before .before .before .before .before .before .before .before .before .before .before .before .before .before .before .before .before .before .before .before .before .before .loop .out) (c .before .before .before .before .before .before .before .before .before .before .before .before .before .before .before .before .before .before .before .before .before .before .before .before .before .before .before .before .before .before .args .depths) (c .before .before .before .before .before .before .before .before .before .before .before .before .before .before .before .before .before .before .before .before .before .before .before .before .before .before .loop .place .0) (inner (c .before .before .before .before .before .before .before .before .before .before .before .before .before .before .before .before .before .before .before .before .before .before .before .before .before .before .before .before .before .before .args .level) (c .before .before .before .before .before .before .before .before .before .before .before .before .before .before .before .before .before .before .before .before .before .at-level .result) (c .before .before .before .before .before .before .before .before .before .before .before .before .before .before .before .before .before .before .before .before .before .before .before .before .before .before .before .before .before .before .args .depths) (drop (c .before .before .before .before .before .before .before .before .before .before .before .before .before .before .before .before .before .before .before .before .before .before .before .before .before .before .loop .index) (now (c .before .before .before .before .before .before .before .before .before .before .before .before .before .before .before .before .before .before .before .before .before .before .before .before .before .before .before .before .before .before .args .table)))) (parts-inner (tag-at t (c .before .before .before .before .before .before .before .before .before .before .before .before .before .before .before .before .before .before .before .before .before)) (c .before .before .before .before .before .before .before .before .before .before .before .before .before .before .before .before .before .before .before .before .before .before .before .before .before .before .loop .out) (c .before .before .before .before .before .before .before .before .before .before .before .before .before .before .before .before .before .before .before .before .before .before .before .before .before .before .before .before .before .before .args .depths) (c .before .before .before .before .before .before .before .before .before .before .before .before .before .before .before .before .before .before .before .before .before .before .before .before .before .before .loop .place .0) (holds-at t (c .before .before .before .before .before .before .before .before .before .before .before .before .before .before .before .before .before .before .before)) (some-at t (c .before .before .before .before .before .before .before .before .before .before .before .before .before .before .before .before .before .before))) (c .before .before .before .before .before .shut .last .0) _ _ (held-at t (c .before)) in
+    (c .before .before .before .before .before .shut .kept .0 ∙ c .before .before .before .before .before .before .before .before .before .write-list .kept .1 .1 .0 ∙ c .before .before .before .before .before .before .before .before .before .before .before .before .before .before .before .before .begin-tag .kept .1 .1 .0 ∙ c .before .before .before .before .before .before .before .before .before .before .before .before .before .before .before .before .before .before .before .before .before .before .before .before .before .before .loop .inv .0, x .2, x .0, c .before .before .before .before .before .before .before .before .before .before .before .before .before .before .before .before .before .before .before .before .before .before .before .before .before .before .loop .inv .3 ∙ held-more (tag-at t (c .before .before .before .before .before .before .before .before .before .before .before .before .before .before .before .before .before .before .before .before .before)) (c .before .before .before .before .before .before .before .before .before .before .before .before .before .before .before .before .before .before .before .before .before .before .before .before .before .before .loop .out) (c .before .before .before .before .before .before .before .before .before .before .before .before .before .before .before .before .before .before .before .before .before .before .before .before .before .before .before .before .before .before .args .depths) (c .before .before .before .before .before .before .before .before .before .before .before .before .before .before .before .before .before .before .before .before .before .before .before .before .before .before .loop .place .0) (holds-at t (c .before .before .before .before .before .before .before .before .before .before .before .before .before .before .before .before .before .before .before)) (some-at t (c .before .before .before .before .before .before .before .before .before .before .before .before .before .before .before .before .before .before)) (held-at t (c .before)))
 
--- src/lib.rt:172:17
 write-list-write-leaf-requires : (t : ℕ) → write-list-lts.Need-write-leaf-requires (calls t) (write-list-at t) write-list.Post write-list-Inv-loop write-list-μ-loop
 write-list-write-leaf-requires t c κs = (c .before .before .before .before .before .before .before .before .loop .inv .1, c .before .before .before .before .before .before .before .loop-test .taken, refl, omega (arith, c .before .before .before .before .before .if1 .left))
 
--- src/lib.rt:173:29
-write-list-enum-known-w-2 : (t : ℕ) → write-list-lts.Need-enum-known-w-2 (calls t) (write-list-at t) write-list.Post write-list-Inv-loop write-list-μ-loop
+write-list-enum-known-w-2 : (t : ℕ) → write-list-lts.Need-enum-known-wrote-2 (calls t) (write-list-at t) write-list.Post write-list-Inv-loop write-list-μ-loop
 write-list-enum-known-w-2 t c = search needs
 
--- src/lib.rt:174:17
 write-list-enum-told-3 : (t : ℕ) → write-list-lts.Need-enum-told-3 (calls t) (write-list-at t) write-list.Post write-list-Inv-loop write-list-μ-loop
 write-list-enum-told-3 t c = search needs
 
--- src/lib.rt:174:17
 write-list-same-length-5 : (t : ℕ) → write-list-lts.Need-same-length-5 (calls t) (write-list-at t) write-list.Post write-list-Inv-loop write-list-μ-loop
 write-list-same-length-5 t c = c .before .before .before .before .write-leaf .kept .1 .1 .0 ∙ c .before .before .before .before .before .before .before .before .before .before .before .before .before .loop .inv .0
 
--- src/lib.rt:174:17
 write-list-returns-5 : (t : ℕ) → write-list-lts.Need-returns-5 (calls t) (write-list-at t) write-list.Post write-list-Inv-loop write-list-μ-loop
-write-list-returns-5 t c = ap (stoodAs (c .before .before .before .before .write-leaf .last .1 .1 .0)) (c .enum-told3 .given .1) ∙ leaf-fell (tag-at t (c .before .before .before .before .before .before .before .before)) (c .before .before .before .before .before .before .before .before .before .before .before .before .before .loop .out) (c .before .before .before .before .before .before .before .before .before .before .before .before .before .before .before .before .before .args .left) (c .before .before .before .before .before .before .before .before .before .before .before .before .before .loop .place) (leaf-at t (c .before .before .before .before .before .before)) (ap (stoodAs (c .before .before .before .before .write-leaf .last .1 .1 .0)) (sym (c .enum-told3 .given .1)) ∙ c .before .before .before .before .write-leaf .ensures) ∙ sym (c .before .before .before .before .before .before .before .before .before .before .before .before .before .loop .inv .3)
+write-list-returns-5 t c = ap (stoodAs (c .before .before .before .before .write-leaf .last .1 .1 .0)) (c .enum-told3 .given .1) ∙ leaf-fell (tag-at t (c .before .before .before .before .before .before .before .before)) (c .before .before .before .before .before .before .before .before .before .before .before .before .before .loop .out) (c .before .before .before .before .before .before .before .before .before .before .before .before .before .before .before .before .before .args .depths) (c .before .before .before .before .before .before .before .before .before .before .before .before .before .loop .place .0) (leaf-at t (c .before .before .before .before .before .before)) (ap (stoodAs (c .before .before .before .before .write-leaf .last .1 .1 .0)) (sym (c .enum-told3 .given .1)) ∙ c .before .before .before .before .write-leaf .ensures) ∙ sym (c .before .before .before .before .before .before .before .before .before .before .before .before .before .loop .inv .3)
 
--- src/lib.rt:176:16
 write-list-ends-list-requires : (t : ℕ) → write-list-lts.Need-ends-list-requires (calls t) (write-list-at t) write-list.Post write-list-Inv-loop write-list-μ-loop
 write-list-ends-list-requires t c κs = tt
 
--- src/lib.rt:177:17
 write-list-same-length-6 : (t : ℕ) → write-list-lts.Need-same-length-6 (calls t) (write-list-at t) write-list.Post write-list-Inv-loop write-list-μ-loop
 write-list-same-length-6 t c = c .before .before .before .before .before .before .before .write-leaf .kept .1 .1 .0 ∙ c .before .before .before .before .before .before .before .before .before .before .before .before .before .before .before .before .loop .inv .0
 
--- src/lib.rt:177:17
 write-list-returns-6 : (t : ℕ) → write-list-lts.Need-returns-6 (calls t) (write-list-at t) write-list.Post write-list-Inv-loop write-list-μ-loop
-write-list-returns-6 t c = leaf-last (tag-at t (c .before .before .before .before .before .before .before .before .before .before .before)) (c .before .before .before .before .before .before .before .before .before .before .before .before .before .before .before .before .loop .out) (c .before .before .before .before .before .before .before .before .before .before .before .before .before .before .before .before .before .before .before .before .args .left) (c .before .before .before .before .before .before .before .before .before .before .before .before .before .before .before .before .loop .place) (leaf-at t (c .before .before .before .before .before .before .before .before .before)) (sym (c .before .ends-list .ensures) ∙ c .if4 .taken) (whole-at t (c .before .before .before)) ∙ sym (c .before .before .before .before .before .before .before .before .before .before .before .before .before .before .before .before .loop .inv .3)
+write-list-returns-6 t c = leaf-last (tag-at t (c .before .before .before .before .before .before .before .before .before .before .before)) (c .before .before .before .before .before .before .before .before .before .before .before .before .before .before .before .before .loop .out) (c .before .before .before .before .before .before .before .before .before .before .before .before .before .before .before .before .before .before .before .before .args .depths) (c .before .before .before .before .before .before .before .before .before .before .before .before .before .before .before .before .loop .place .0) (leaf-at t (c .before .before .before .before .before .before .before .before .before)) (sym (c .before .ends-list .ensures) ∙ c .if4 .taken) (whole-at t (c .before .before .before)) ∙ sym (c .before .before .before .before .before .before .before .before .before .before .before .before .before .before .before .before .loop .inv .3)
 
--- src/lib.rt:148:5
 write-list-loop-less-2 : (t : ℕ) → write-list-lts.Need-loop-less-2 (calls t) (write-list-at t) write-list.Post write-list-Inv-loop write-list-μ-loop
-write-list-loop-less-2 t c = let x = tag-index (tag-at t (c .before .before .before .before .before .before .before .before .before .before .before)) (c .before .before .before .before .before .before .before .before .before .before .before .before .before .before .before .before .loop .out) (c .before .before .before .before .before .before .before .before .before .before .before .before .before .before .before .before .before .before .before .before .args .left) (c .before .before .before .before .before .before .before .before .before .before .before .before .before .before .before .before .loop .place) (begun (c .before .before .before .before .before .before .before .before .before .before .before .at-level .result) (drop (c .before .before .before .before .before .before .before .before .before .before .before .before .before .before .before .before .loop .k) (now (c .before .before .before .before .before .before .before .before .before .before .before .before .before .before .before .before .before .before .before .before .args .t)))) (parts-begun (c .before .before .before .before .before .before .before .before .before .before .before .at-level .result) (drop (c .before .before .before .before .before .before .before .before .before .before .before .before .before .before .before .before .loop .k) (now (c .before .before .before .before .before .before .before .before .before .before .before .before .before .before .before .before .before .before .before .before .args .t)))) (c .before .before .before .before .before .before .before .write-leaf .last .1 .1 .0) _ _ (whole-at t (c .before .before .before)) in omega (arith, x .1, x .2)
+write-list-loop-less-2 t c = let x = tag-index (tag-at t (c .before .before .before .before .before .before .before .before .before .before .before)) (c .before .before .before .before .before .before .before .before .before .before .before .before .before .before .before .before .loop .out) (c .before .before .before .before .before .before .before .before .before .before .before .before .before .before .before .before .before .before .before .before .args .depths) (c .before .before .before .before .before .before .before .before .before .before .before .before .before .before .before .before .loop .place .0) (begun (c .before .before .before .before .before .before .before .before .before .before .before .at-level .result) (drop (c .before .before .before .before .before .before .before .before .before .before .before .before .before .before .before .before .loop .index) (now (c .before .before .before .before .before .before .before .before .before .before .before .before .before .before .before .before .before .before .before .before .args .table)))) (parts-begun (c .before .before .before .before .before .before .before .before .before .before .before .at-level .result) (drop (c .before .before .before .before .before .before .before .before .before .before .before .before .before .before .before .before .loop .index) (now (c .before .before .before .before .before .before .before .before .before .before .before .before .before .before .before .before .before .before .before .before .args .table)))) (c .before .before .before .before .before .before .before .write-leaf .last .1 .1 .0) _ _ (whole-at t (c .before .before .before)) in omega (arith, x .1, x .2)
 
--- src/lib.rt:148:5
 write-list-loop-again-2 : (t : ℕ) → write-list-lts.Need-loop-again-2 (calls t) (write-list-at t) write-list.Post write-list-Inv-loop write-list-μ-loop
-write-list-loop-again-2 t c = let x = tag-index (tag-at t (c .before .before .before .before .before .before .before .before .before .before .before)) (c .before .before .before .before .before .before .before .before .before .before .before .before .before .before .before .before .loop .out) (c .before .before .before .before .before .before .before .before .before .before .before .before .before .before .before .before .before .before .before .before .args .left) (c .before .before .before .before .before .before .before .before .before .before .before .before .before .before .before .before .loop .place) (begun (c .before .before .before .before .before .before .before .before .before .before .before .at-level .result) (drop (c .before .before .before .before .before .before .before .before .before .before .before .before .before .before .before .before .loop .k) (now (c .before .before .before .before .before .before .before .before .before .before .before .before .before .before .before .before .before .before .before .before .args .t)))) (parts-begun (c .before .before .before .before .before .before .before .before .before .before .before .at-level .result) (drop (c .before .before .before .before .before .before .before .before .before .before .before .before .before .before .before .before .loop .k) (now (c .before .before .before .before .before .before .before .before .before .before .before .before .before .before .before .before .before .before .before .before .args .t)))) (c .before .before .before .before .before .before .before .write-leaf .last .1 .1 .0) _ _ (whole-at t (c .before .before .before)) in
-    (c .before .before .before .before .before .before .before .write-leaf .kept .1 .1 .0 ∙ c .before .before .before .before .before .before .before .before .before .before .before .before .before .before .before .before .loop .inv .0, x .2, x .0, c .before .before .before .before .before .before .before .before .before .before .before .before .before .before .before .before .loop .inv .3 ∙ leaf-more (tag-at t (c .before .before .before .before .before .before .before .before .before .before .before)) (c .before .before .before .before .before .before .before .before .before .before .before .before .before .before .before .before .loop .out) (c .before .before .before .before .before .before .before .before .before .before .before .before .before .before .before .before .before .before .before .before .args .left) (c .before .before .before .before .before .before .before .before .before .before .before .before .before .before .before .before .loop .place) (leaf-at t (c .before .before .before .before .before .before .before .before .before)) (sym (c .before .ends-list .ensures) ∙ c .if4 .left) (whole-at t (c .before .before .before)))
+write-list-loop-again-2 t c = let x = tag-index (tag-at t (c .before .before .before .before .before .before .before .before .before .before .before)) (c .before .before .before .before .before .before .before .before .before .before .before .before .before .before .before .before .loop .out) (c .before .before .before .before .before .before .before .before .before .before .before .before .before .before .before .before .before .before .before .before .args .depths) (c .before .before .before .before .before .before .before .before .before .before .before .before .before .before .before .before .loop .place .0) (begun (c .before .before .before .before .before .before .before .before .before .before .before .at-level .result) (drop (c .before .before .before .before .before .before .before .before .before .before .before .before .before .before .before .before .loop .index) (now (c .before .before .before .before .before .before .before .before .before .before .before .before .before .before .before .before .before .before .before .before .args .table)))) (parts-begun (c .before .before .before .before .before .before .before .before .before .before .before .at-level .result) (drop (c .before .before .before .before .before .before .before .before .before .before .before .before .before .before .before .before .loop .index) (now (c .before .before .before .before .before .before .before .before .before .before .before .before .before .before .before .before .before .before .before .before .args .table)))) (c .before .before .before .before .before .before .before .write-leaf .last .1 .1 .0) _ _ (whole-at t (c .before .before .before)) in
+    (c .before .before .before .before .before .before .before .write-leaf .kept .1 .1 .0 ∙ c .before .before .before .before .before .before .before .before .before .before .before .before .before .before .before .before .loop .inv .0, x .2, x .0, c .before .before .before .before .before .before .before .before .before .before .before .before .before .before .before .before .loop .inv .3 ∙ leaf-more (tag-at t (c .before .before .before .before .before .before .before .before .before .before .before)) (c .before .before .before .before .before .before .before .before .before .before .before .before .before .before .before .before .loop .out) (c .before .before .before .before .before .before .before .before .before .before .before .before .before .before .before .before .before .before .before .before .args .depths) (c .before .before .before .before .before .before .before .before .before .before .before .before .before .before .before .before .loop .place .0) (leaf-at t (c .before .before .before .before .before .before .before .before .before)) (sym (c .before .ends-list .ensures) ∙ c .if4 .left) (whole-at t (c .before .before .before)))
 
--- src/lib.rt:141:1
 write-list-same-length-7 : (t : ℕ) → write-list-lts.Need-same-length-7 (calls t) (write-list-at t) write-list.Post write-list-Inv-loop write-list-μ-loop
 write-list-same-length-7 t c = c .before .loop .inv .0
 
--- src/lib.rt:141:1
 write-list-returns-7 : (t : ℕ) → write-list-lts.Need-returns-7 (calls t) (write-list-at t) write-list.Post write-list-Inv-loop write-list-μ-loop
-write-list-returns-7 t c = rest-none (c .before .before .before .before .before .args .level) (now (c .before .before .before .before .before .args .t)) (c .before .loop .out) (c .before .before .before .before .before .args .left) (c .before .loop .place) (c .before .loop .k) (c .loop-test .left) ∙ sym (c .before .loop .inv .3)
+write-list-returns-7 t c = rest-none (c .before .before .before .before .before .args .level) (now (c .before .before .before .before .before .args .table)) (c .before .loop .out) (c .before .before .before .before .before .args .depths) (c .before .loop .place .0) (c .before .loop .index) (c .loop-test .left) ∙ sym (c .before .loop .inv .3)
 
 pub +write-list-spec : {M : Type 1} → statement M
 +write-list-spec = close μ-write-list λ t. write-list-lts.spec (calls t)
@@ -295,7 +251,6 @@ pub +write-list-spec : {M : Type 1} → statement M
     (write-list-holds-list-requires t)
     (write-list-same-length-2 t)
     (write-list-returns-2 t)
-    (write-list-add-begin-tag t)
     (write-list-begin-tag-requires t)
     (write-list-enum-known-b t)
     (write-list-enum-told t)

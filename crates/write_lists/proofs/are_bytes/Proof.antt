@@ -12,40 +12,32 @@ use Rattle.write_lists.proofs.are_bytes.Reads as reads
 use Rattle.write_lists.proofs.are_bytes.Lts as lts
 
 abbrev Inv-loop : tie.InvT-loop
-Inv-loop values n i₀ i = (i ≤ n) × (allBytes values ≡ allBytes (drop i values))
+Inv-loop values count i₀ i = (i ≤ count) × (allBytes values ≡ allBytes (drop i values))
 
 abbrev μ-loop : tie.MeasureT-loop
-μ-loop values n i₀ i = n - i
+μ-loop values count i₀ i = count - i
 
--- src/lib.rt:46:5
 loop-holds : tie.Need-loop-holds Inv-loop μ-loop
 loop-holds c = (omega arith, refl)
 
--- src/lib.rt:47:18
 mul-if1 : tie.Need-mul-if1 Inv-loop μ-loop
 mul-if1 c = search needs
 
--- src/lib.rt:47:18
 shared-slice-read-if1 : tie.Need-shared-slice-read-if1 Inv-loop μ-loop
 shared-slice-read-if1 c = search needs
 
--- src/lib.rt:48:13
 returns : tie.Need-returns Inv-loop μ-loop
 returns c = sym (c .before .before .before .loop .inv .1 ∙ bytes-bad (now (c .before .before .before .before .args .values)) (c .before .before .before .loop .i) (c .before .before .loop-test .taken) (c .if1 .taken))
 
--- src/lib.rt:50:9
 add-i : tie.Need-add-i Inv-loop μ-loop
 add-i c = omega (arith, c .before .before .loop-test .taken)
 
--- src/lib.rt:46:5
 loop-less : tie.Need-loop-less Inv-loop μ-loop
 loop-less c = omega (arith, c .before .before .loop-test .taken)
 
--- src/lib.rt:46:5
 loop-again : tie.Need-loop-again Inv-loop μ-loop
 loop-again c = (omega (arith, c .before .before .loop-test .taken), c .before .before .before .loop .inv .1 ∙ bytes-next (now (c .before .before .before .before .args .values)) (c .before .before .before .loop .i) (c .before .before .loop-test .taken) (c .if1 .left))
 
--- src/lib.rt:41:1
 returns-2 : tie.Need-returns-2 Inv-loop μ-loop
 returns-2 c = sym (bytes-all (now (c .before .before .args .values)) (c .before .loop .i) (c .loop-test .left) (c .before .loop .inv .1))
 

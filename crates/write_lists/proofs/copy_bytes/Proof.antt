@@ -15,106 +15,83 @@ use Rattle.write_lists.proofs.lay_bytes.Reads as lay-bytes-reads
 
 -- where the two ways meet, what there is room for was laid
 front-at : (c : tie.Joined2)
-    → Front (now (c .before .before .before .before .before .args .out)) (c .before .before .before .before .before .args .at) (now (c .before .before .before .before .before .args .values)) (c .before .room-for .result) (c .if2 .out)
+    → Front (now (c .before .before .before .before .before .args .out)) (c .before .before .before .before .before .args .at .0) (now (c .before .before .before .before .before .args .values)) (c .before .room-for .result) (c .if2 .out)
 front-at c =
     let a = c .before .before .before .before .before .args in
     let m = c .before .room-for .result in
     ⊎-elim
-    (λ w. front-some (now (a .out)) (a .at) (now (a .values)) m (a .at + m - a .at) (m - 0) (w .3 .result) (w .3 .last .1 .0) (omega arith) (omega arith) (w .0 .taken) (c .before .room-for .ensures) (w .6 .left) (w .3 .ensures) (w .7))
-    (λ w. front-none (now (a .out)) (a .at) (now (a .values)) m (omega (arith, w .0 .left)) (w .1))
+    (λ w. front-some (now (a .out)) (a .at .0) (now (a .values)) m (a .at .0 + m - a .at .0) (m - 0) (w .3 .result) (w .3 .last .1 .0) (omega arith) (omega arith) (w .0 .taken) (c .before .room-for .ensures) (w .6 .left) (w .3 .ensures) (w .7))
+    (λ w. front-none (now (a .out)) (a .at .0) (now (a .values)) m (omega (arith, w .0 .left)) (w .1))
     (c .if2 .came)
 
--- src/lib.rt:61:8
 sub-if1 : tie.Need-sub-if1
 sub-if1 c = search needs
 
--- src/lib.rt:62:9
 returns : tie.Need-returns
-returns c = copy-long (now (c .before .before .before .args .out)) (c .before .before .before .args .at) (now (c .before .before .before .args .values)) (c .before .before .before .pre) (c .if1 .taken)
+returns c = copy-long (now (c .before .before .before .args .out)) (c .before .before .before .args .at .0) (now (c .before .before .before .args .values)) (c .before .before .before .pre) (c .if1 .taken)
 
--- src/lib.rt:64:9
 room-for-requires : tie.Need-room-for-requires
 room-for-requires c κs = search needs
 
--- src/lib.rt:66:18
 add-to : tie.Need-add-to
 add-to c = search needs
 
--- src/lib.rt:67:23
 sub-lay-bytes : tie.Need-sub-lay-bytes
 sub-lay-bytes c = search needs
 
--- src/lib.rt:67:23
 part-lay-bytes-start : tie.Need-part-lay-bytes-start
 part-lay-bytes-start c = search needs
 
--- src/lib.rt:67:23
 part-lay-bytes-end : tie.Need-part-lay-bytes-end
 part-lay-bytes-end c = search needs
 
--- src/lib.rt:67:38
 sub-lay-bytes-2 : tie.Need-sub-lay-bytes-2
 sub-lay-bytes-2 c = search needs
 
--- src/lib.rt:67:38
 part-lay-bytes-start-2 : tie.Need-part-lay-bytes-start-2
 part-lay-bytes-start-2 c = search needs
 
--- src/lib.rt:67:38
 part-lay-bytes-end-2 : tie.Need-part-lay-bytes-end-2
 part-lay-bytes-end-2 c = search needs
 
--- src/lib.rt:67:13
 lay-bytes-requires : tie.Need-lay-bytes-requires
 lay-bytes-requires c κs = search needs
 
--- src/lib.rt:68:13
 same-length : tie.Need-same-length
 same-length c = search needs
 
--- src/lib.rt:68:13
 returns-2 : tie.Need-returns-2
-returns-2 c = copy-bad (now (c .before .before .before .before .before .before .before .before .before .before .before .args .out)) (c .before .before .before .before .before .before .before .before .before .before .before .args .at) (now (c .before .before .before .before .before .before .before .before .before .before .before .args .values)) (c .before .before .before .before .before .before .before .room-for .result - 0) (c .before .before .before .lay-bytes .result) (c .before .before .before .lay-bytes .last .1 .0) (c .if3 .taken) (c .before .before .before .lay-bytes .ensures)
+returns-2 c = copy-bad (now (c .before .before .before .before .before .before .before .before .before .before .before .args .out)) (c .before .before .before .before .before .before .before .before .before .before .before .args .at .0) (now (c .before .before .before .before .before .before .before .before .before .before .before .args .values)) (c .before .before .before .before .before .before .before .room-for .result - 0) (c .before .before .before .lay-bytes .result) (c .before .before .before .lay-bytes .last .1 .0) (c .if3 .taken) (c .before .before .before .lay-bytes .ensures)
 
--- src/lib.rt:71:18
 mul-are-bytes : tie.Need-mul-are-bytes
 mul-are-bytes c = search needs
 
--- src/lib.rt:71:18
 sub-are-bytes : tie.Need-sub-are-bytes
 sub-are-bytes c = search needs
 
--- src/lib.rt:71:18
 part-are-bytes-start : tie.Need-part-are-bytes-start
 part-are-bytes-start c = search needs
 
--- src/lib.rt:71:18
 part-are-bytes-end : tie.Need-part-are-bytes-end
 part-are-bytes-end c = search needs
 
--- src/lib.rt:71:8
 are-bytes-requires : tie.Need-are-bytes-requires
 are-bytes-requires c κs = search needs
 
--- src/lib.rt:72:25
-add-t24 : tie.Need-add-t24
-add-t24 c = search needs
+add-stop : tie.Need-add-stop
+add-stop c = search needs
 
--- src/lib.rt:72:9
 same-length-2 : tie.Need-same-length-2
-same-length-2 c = front-length (now (c .before .before .before .before .before .before .before .before .args .out)) (c .before .before .before .before .before .before .before .before .args .at) (now (c .before .before .before .before .before .before .before .before .args .values)) (c .before .before .before .before .room-for .result) (front-at (c .before .before .before))
+same-length-2 c = front-length (now (c .before .before .before .before .before .before .before .before .args .out)) (c .before .before .before .before .before .before .before .before .args .at .0) (now (c .before .before .before .before .before .before .before .before .args .values)) (c .before .before .before .before .room-for .result) (front-at (c .before .before .before))
 
--- src/lib.rt:72:9
 returns-3 : tie.Need-returns-3
-returns-3 c = copy-done (now (c .before .before .before .before .before .before .before .before .args .out)) (c .before .before .before .before .before .before .before .before .args .at) (now (c .before .before .before .before .before .before .before .before .args .values)) (c .before .before .before .before .room-for .result) (c .before .before .before .before .room-for .ensures) (c .before .before .before .before .before .before .before .before .pre) (c .before .before .before .before .before .if1 .left) (front-at (c .before .before .before)) (c .before .are-bytes .ensures) (c .if4 .taken)
+returns-3 c = copy-done (now (c .before .before .before .before .before .before .before .before .args .out)) (c .before .before .before .before .before .before .before .before .args .at .0) (now (c .before .before .before .before .before .before .before .before .args .values)) (c .before .before .before .before .room-for .result) (c .before .before .before .before .room-for .ensures) (c .before .before .before .before .before .before .before .before .pre) (c .before .before .before .before .before .if1 .left) (front-at (c .before .before .before)) (c .before .are-bytes .ensures) (c .if4 .taken)
 
--- src/lib.rt:56:1
 same-length-3 : tie.Need-same-length-3
-same-length-3 c = front-length (now (c .before .before .before .before .before .before .before .before .args .out)) (c .before .before .before .before .before .before .before .before .args .at) (now (c .before .before .before .before .before .before .before .before .args .values)) (c .before .before .before .before .room-for .result) (front-at (c .before .before .before))
+same-length-3 c = front-length (now (c .before .before .before .before .before .before .before .before .args .out)) (c .before .before .before .before .before .before .before .before .args .at .0) (now (c .before .before .before .before .before .before .before .before .args .values)) (c .before .before .before .before .room-for .result) (front-at (c .before .before .before))
 
--- src/lib.rt:56:1
 returns-4 : tie.Need-returns-4
-returns-4 c = copy-bad-after (now (c .before .before .before .before .before .before .before .before .args .out)) (c .before .before .before .before .before .before .before .before .args .at) (now (c .before .before .before .before .before .before .before .before .args .values)) (c .before .before .before .before .room-for .result) (front-at (c .before .before .before)) (c .before .are-bytes .ensures) (c .if4 .left)
+returns-4 c = copy-bad-after (now (c .before .before .before .before .before .before .before .before .args .out)) (c .before .before .before .before .before .before .before .before .args .at .0) (now (c .before .before .before .before .before .before .before .before .args .values)) (c .before .before .before .before .room-for .result) (front-at (c .before .before .before)) (c .before .are-bytes .ensures) (c .if4 .left)
 
 pub copy-bytes-spec : {M : Type 1} → statement M
 copy-bytes-spec =
@@ -138,7 +115,7 @@ copy-bytes-spec =
     part-are-bytes-start
     part-are-bytes-end
     are-bytes-requires
-    add-t24
+    add-stop
     same-length-2
     returns-3
     same-length-3

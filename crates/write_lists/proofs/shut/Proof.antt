@@ -8,43 +8,35 @@ use Rattle.write_lists.proofs.shut.Reads as reads
 use Rattle.write_lists.proofs.shut.Lts as lts
 use Rattle.write_heads.proofs.close.Reads as close-reads
 
--- src/lib.rt:95:21
-enum-known-w : tie.Need-enum-known-w
-enum-known-w c = search needs
+enum-known-wrote : tie.Need-enum-known-wrote
+enum-known-wrote c = search needs
 
--- src/lib.rt:96:9
 enum-told : tie.Need-enum-told
 enum-told c = search needs
 
--- src/lib.rt:96:9
 returns : tie.Need-returns
 returns c = search needs
 
--- src/lib.rt:98:9
 close-requires : tie.Need-close-requires
-close-requires c κs = let h = shut-from (now (c .before .before .before .before .before .args .out)) (c .before .before .before .before .before .args .place) (c .before .before .before .before .before .args .code) _ _ (c .before .before .w .given .1) (c .before .before .before .before .before .pre .0) in (h .0, omega (arith, h .1), c .before .before .before .before .before .pre .1)
+close-requires c κs = let h = shut-from (now (c .before .before .before .before .before .args .out)) (c .before .before .before .before .before .args .place .0) (c .before .before .before .before .before .args .code) _ _ (c .before .before .wrote .given .1) (c .before .before .before .before .before .pre .0) in (h .0, omega (arith, h .1), c .before .before .before .before .before .pre .1)
 
--- src/lib.rt:100:9
 same-length : tie.Need-same-length
 same-length c = search needs
 
--- src/lib.rt:100:9
 returns-2 : tie.Need-returns-2
-returns-2 c = shut-late (now (c .before .before .before .before .before .before .before .before .before .args .out)) (c .before .before .before .before .before .before .before .before .before .args .place) (c .before .before .before .before .before .before .before .before .before .args .code) _ _ (c .before .before .before .before .before .before .w .given .1) (c .before .before .before .close .ensures) (omega (arith, c .if1 .taken))
+returns-2 c = shut-late (now (c .before .before .before .before .before .before .before .before .before .before .args .out)) (c .before .before .before .before .before .before .before .before .before .before .args .place .0) (c .before .before .before .before .before .before .before .before .before .before .args .code) _ _ (c .before .before .before .before .before .before .before .wrote .given .1) (c .before .before .before .before .close .ensures) (omega (arith, c .if1 .taken))
 
--- src/lib.rt:91:1
 same-length-2 : tie.Need-same-length-2
 same-length-2 c = search needs
 
--- src/lib.rt:91:1
 returns-3 : tie.Need-returns-3
-returns-3 c = shut-done (now (c .before .before .before .before .before .before .before .before .before .args .out)) (c .before .before .before .before .before .before .before .before .before .args .place) (c .before .before .before .before .before .before .before .before .before .args .code) _ _ (c .before .before .before .before .before .before .w .given .1) (c .before .before .before .close .ensures) (omega (arith, c .if1 .left))
+returns-3 c = shut-done (now (c .before .before .before .before .before .before .before .before .before .before .args .out)) (c .before .before .before .before .before .before .before .before .before .before .args .place .0) (c .before .before .before .before .before .before .before .before .before .before .args .code) _ _ (c .before .before .before .before .before .before .before .wrote .given .1) (c .before .before .before .before .close .ensures) (omega (arith, c .if1 .left))
 
 pub shut-spec : {M : Type 1} → statement M
 shut-spec =
     tie.close
     (tie.spec
-    enum-known-w
+    enum-known-wrote
     enum-told
     returns
     close-requires

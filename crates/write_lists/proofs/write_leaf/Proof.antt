@@ -11,26 +11,18 @@ use Rattle.write_lists.proofs.write_leaf.Lts as lts
 use Rattle.write_lists.proofs.begin_tag.Reads as begin-tag-reads
 use Rattle.write_lists.proofs.shut.Reads as shut-reads
 
--- src/lib.rt:110:41
-add-begin-tag : tie.Need-add-begin-tag
-add-begin-tag c = search needs
-
--- src/lib.rt:110:9
 begin-tag-requires : tie.Need-begin-tag-requires
 begin-tag-requires c κs = search needs
 
--- src/lib.rt:111:5
 shut-requires : tie.Need-shut-requires
-shut-requires c κs = (shut-after (now (c .before .before .before .before .before .before .before .args .out)) (c .before .before .before .begin-tag .last .1 .1 .0) (c .before .before .before .before .before .before .before .args .place) (c .before .before .before .before .before .before .before .args .k) (c .before .before .before .begin-tag .result) (begun (c .before .before .before .before .before .before .before .args .class) (drop (c .before .before .before .before .before .before .before .args .k) (now (c .before .before .before .before .before .before .before .args .t)))) (c .before .before .before .begin-tag .ensures), c .before .before .before .before .before .before .before .pre .3)
+shut-requires c κs = (shut-after (now (c .before .before .before .before .before .before .before .args .out)) (c .before .before .before .begin-tag .last .1 .1 .0) (c .before .before .before .before .before .before .before .args .place .0) (c .before .before .before .before .before .before .before .args .index) (c .before .before .before .begin-tag .result) (begun (c .before .before .before .before .before .before .before .args .class) (drop (c .before .before .before .before .before .before .before .args .index) (now (c .before .before .before .before .before .before .before .args .table)))) (c .before .before .before .begin-tag .ensures), c .before .before .before .before .before .before .before .pre .3)
 
--- src/lib.rt:106:1
 same-length : tie.Need-same-length
 same-length c = search needs
 
--- src/lib.rt:106:1
 returns : tie.Need-returns
-returns c = c .before .before .shut .ensures ∙ shut-over (now (c .before .before .before .before .before .before .before .before .before .before .args .out)) (c .before .before .before .before .before .before .begin-tag .last .1 .1 .0) (c .before .before .before .before .before .before .before .before .before .before .args .place) (c .before .before .before .before .before .before .before .before .before .before .args .k) (c .before .before .before .before .before .before .before .before .before .before .args .code) (c .before .before .before .before .before .before .begin-tag .result) (begun (c .before .before .before .before .before .before .before .before .before .before .args .class) (drop (c .before .before .before .before .before .before .before .before .before .before .args .k) (now (c .before .before .before .before .before .before .before .before .before .before .args .t)))) (c .before .before .before .before .before .before .before .before .before .before .pre .3) (c .before .before .before .before .before .before .begin-tag .ensures)
+returns c = c .before .before .shut .ensures ∙ shut-over (now (c .before .before .before .before .before .before .before .before .before .before .args .out)) (c .before .before .before .before .before .before .begin-tag .last .1 .1 .0) (c .before .before .before .before .before .before .before .before .before .before .args .place .0) (c .before .before .before .before .before .before .before .before .before .before .args .index) (c .before .before .before .before .before .before .before .before .before .before .args .code) (c .before .before .before .before .before .before .begin-tag .result) (begun (c .before .before .before .before .before .before .before .before .before .before .args .class) (drop (c .before .before .before .before .before .before .before .before .before .before .args .index) (now (c .before .before .before .before .before .before .before .before .before .before .args .table)))) (c .before .before .before .before .before .before .before .before .before .before .pre .3) (c .before .before .before .before .before .before .begin-tag .ensures)
 
 pub write-leaf-spec : {M : Type 1} → statement M
 write-leaf-spec =
-    tie.close (tie.spec add-begin-tag begin-tag-requires shut-requires same-length returns)
+    tie.close (tie.spec begin-tag-requires shut-requires same-length returns)

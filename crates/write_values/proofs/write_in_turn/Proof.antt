@@ -12,13 +12,13 @@ use Rattle.write_values.proofs.write_in_turn.Statement.{statement}
 use Rattle.write_values.proofs.write_in_turn.Tie as tie
 
 abbrev Inv-loop : tie.InvT-loop
-Inv-loop what n out₀ t k cur₀ j₀ left₀ out cur j left = Going t out₀ cur₀ k (times n (value (typeOf what))) out cur j (times left (value (typeOf what)))
+Inv-loop what count out₀ values from cur₀ index₀ left₀ out cur index left = Going values out₀ cur₀ from (times count (value (typeOf what))) out cur index (times left (value (typeOf what)))
 
 abbrev μ-loop : tie.MeasureT-loop
-μ-loop what n out₀ t k cur₀ j₀ left₀ out cur j left = left
+μ-loop what count out₀ values from cur₀ index₀ left₀ out cur index left = left
 
 loop-holds : tie.Need-loop-holds Inv-loop μ-loop
-loop-holds c = going-none (now (c .before .before .args .t)) (now (c .before .before .args .out)) (c .before .before .args .s) (c .before .before .args .k) (times (c .before .before .args .n) (value (typeOf (c .before .before .args .what)))) (c .before .before .pre)
+loop-holds c = going-none (now (c .before .before .args .values)) (now (c .before .before .args .out)) (c .before .before .args .sink) (c .before .before .args .from) (times (c .before .before .args .count) (value (typeOf (c .before .before .args .what)))) (c .before .before .pre)
 
 write-value-requires : tie.Need-write-value-requires Inv-loop μ-loop
 write-value-requires c κs = c .before .before .loop .inv .fine

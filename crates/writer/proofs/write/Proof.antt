@@ -13,59 +13,45 @@ use Rattle.write_lists.proofs.write_list.Reads as write-list-reads
 use Rattle.writer.proofs.measure.Reads as measure-reads
 use Rattle.writer.proofs.put_start.Reads as put-start-reads
 
--- src/lib.rt:41:9
 returns : tie.Need-returns
 returns c = level-high (c .before .before .before .args .level) (now (c .before .before .before .args .table)) (omega (arith, c .if1 .taken)) (now (c .before .before .before .args .out))
 
--- src/lib.rt:44:9
 returns-2 : tie.Need-returns-2
 returns-2 c = no-numbers (c .before .before .before .before .args .level) (now (c .before .before .before .before .args .table)) (omega (arith, c .before .if1 .left)) (omega (arith, c .if2 .taken)) (now (c .before .before .before .before .args .out))
 
--- src/lib.rt:46:23
 shared-slice-read-compression : tie.Need-shared-slice-read-compression
 shared-slice-read-compression c = search needs
 
--- src/lib.rt:48:9
 returns-3 : tie.Need-returns-3
 returns-3 c = no-byte (c .before .before .before .before .before .before .args .level) (now (c .before .before .before .before .before .before .args .table)) (omega (arith, c .before .before .before .if1 .left)) (omega (arith, c .before .before .if2 .left)) (omega (arith, c .if3 .taken)) (now (c .before .before .before .before .before .before .args .out))
 
--- src/lib.rt:50:9
 measure-requires : tie.Need-measure-requires
 measure-requires c κs = search needs
 
--- src/lib.rt:51:21
 enum-known-measured : tie.Need-enum-known-measured
 enum-known-measured c = search needs
 
--- src/lib.rt:52:9
 enum-told : tie.Need-enum-told
 enum-told c = search needs
 
--- src/lib.rt:52:9
 returns-4 : tie.Need-returns-4
 returns-4 c = no-list (c .before .before .before .before .before .before .before .before .before .args .level) (now (c .before .before .before .before .before .before .before .before .before .args .table)) (omega (arith, c .before .before .before .before .before .before .if1 .left)) (omega (arith, c .before .before .before .before .before .if2 .left)) (omega (arith, c .before .before .before .if3 .left)) (ap (stoodAs []) (sym (c .enum-told .given .1)) ∙ c .before .before .measure .ensures) (now (c .before .before .before .before .before .before .before .before .before .args .out))
 
--- src/lib.rt:55:9
 returns-5 : tie.Need-returns-5
 returns-5 c = numbers-left (c .before .before .before .before .before .before .before .before .before .before .before .args .level) (now (c .before .before .before .before .before .before .before .before .before .before .before .args .table)) (omega (arith, c .before .before .before .before .before .before .before .before .if1 .left)) (omega (arith, c .before .before .before .before .before .before .before .if2 .left)) (omega (arith, c .before .before .before .before .before .if3 .left)) (ap (stoodAs []) (sym (c .before .before .measured .given .1)) ∙ c .before .before .before .before .measure .ensures) (omega (arith, c .if4 .taken)) (now (c .before .before .before .before .before .before .before .before .before .before .before .args .out))
 
--- src/lib.rt:58:9
 returns-6 : tie.Need-returns-6
 returns-6 c = no-room (c .before .before .before .before .before .before .before .before .before .before .before .before .args .level) (now (c .before .before .before .before .before .before .before .before .before .before .before .before .args .table)) (omega (arith, c .before .before .before .before .before .before .before .before .before .if1 .left)) (omega (arith, c .before .before .before .before .before .before .before .before .if2 .left)) (omega (arith, c .before .before .before .before .before .before .if3 .left)) (ap (stoodAs []) (sym (c .before .before .before .measured .given .1)) ∙ c .before .before .before .before .before .measure .ensures) (omega (arith, c .before .if4 .left)) (now (c .before .before .before .before .before .before .before .before .before .before .before .before .args .out)) (omega (arith, c .if5 .taken))
 
--- src/lib.rt:60:5
 write-list-requires : tie.Need-write-list-requires
 write-list-requires c κs = search needs
 
--- src/lib.rt:61:5
 put-start-requires : tie.Need-put-start-requires
 put-start-requires c κs = (omega (arith, small (c .before .before .before .before .before .before .before .before .before .before .before .before .before .before .before .before .before .args .level) (now (c .before .before .before .before .before .before .before .before .before .before .before .before .before .before .before .before .before .args .table)) (omega (arith, c .before .before .before .before .before .before .before .before .before .before .before .before .before .before .if1 .left)) (omega (arith, c .before .before .before .before .before .before .before .before .before .before .before .before .before .if2 .left)) (omega (arith, c .before .before .before .before .before .before .before .before .before .before .before .if3 .left)) (ap (stoodAs []) (sym (c .before .before .before .before .before .before .before .before .measured .given .1)) ∙ c .before .before .before .before .before .before .before .before .before .before .measure .ensures)), omega (arith, c .before .before .before .before .before .before .before .before .before .before .before .if3 .left))
 
--- src/lib.rt:37:1
 same-length : tie.Need-same-length
 same-length c = search needs
 
--- src/lib.rt:37:1
 returns-7 : tie.Need-returns-7
 returns-7 c = file-put (c .before .before .before .before .before .before .before .before .before .before .before .before .before .before .before .before .before .before .before .before .args .level) (now (c .before .before .before .before .before .before .before .before .before .before .before .before .before .before .before .before .before .before .before .before .args .table)) (omega (arith, c .before .before .before .before .before .before .before .before .before .before .before .before .before .before .before .before .before .if1 .left)) (omega (arith, c .before .before .before .before .before .before .before .before .before .before .before .before .before .before .before .before .if2 .left)) (omega (arith, c .before .before .before .before .before .before .before .before .before .before .before .before .before .before .if3 .left)) (ap (stoodAs []) (sym (c .before .before .before .before .before .before .before .before .before .before .before .measured .given .1)) ∙ c .before .before .before .before .before .before .before .before .before .before .before .before .before .measure .ensures) (omega (arith, c .before .before .before .before .before .before .before .before .before .if4 .left)) (now (c .before .before .before .before .before .before .before .before .before .before .before .before .before .before .before .before .before .before .before .before .args .out)) (c .before .before .before .before .before .before .write-list .last .1 .1 .0) _ (c .before .before .before .before .before .before .write-list .result) (omega (arith, c .before .before .before .before .before .before .before .before .if5 .left)) (c .before .before .before .before .before .before .write-list .ensures) (c .before .before .put-start .ensures)
 

@@ -14,10 +14,10 @@ shl-result : tie.Need-shl-result
 shl-result c = search needs
 
 rem-result : tie.Need-rem-result
-rem-result c = rw (one-shl (c .args .n) (c .pre .1)) (pow-pos (c .args .n))
+rem-result c = rw (one-shl (c .args .width) (c .pre .1)) (pow-pos (c .args .width))
 
 returns : tie.Need-returns
-returns c = rw (one-shl (c .args .n) (c .pre .1)) (refl, mod-lt _ (pow-pos (c .args .n)))
+returns c = rw (one-shl (c .args .width) (c .pre .1)) (refl, mod-lt _ (pow-pos (c .args .width)))
 
 pub cut-spec : {M : Type 1} → statement M
 cut-spec = tie.close (tie.spec shr-result shl-result rem-result returns)

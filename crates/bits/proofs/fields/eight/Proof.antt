@@ -123,7 +123,7 @@ add-result-7 c = search needs
 
 returns : tie.Need-returns
 returns c =
-    let b = now (c .before .before .before .before .before .before .before .before .before .before .before .before .before .before .before .before .before .args .s) in
+    let b = now (c .before .before .before .before .before .before .before .before .before .before .before .before .before .before .before .before .before .args .bytes) in
     let i = c .before .before .before .before .before .before .before .before .before .before .before .before .before .before .before .before .before .args .i in
     let e0 = ub-first b i (c .before .before .before .before .before .before .before .before .before .before .before .before .before .before .wide .ensures) in
     let e1 = ub-more b (8 * i) 8 (i + 1) e0 (omega arith) (c .before .before .before .before .before .before .before .before .before .before .before .before .wide2 .ensures) in

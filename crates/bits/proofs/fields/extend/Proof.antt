@@ -10,10 +10,10 @@ shl-size : tie.Need-shl-size
 shl-size c = search needs
 
 add-wrapping-sub-u64 : tie.Need-add-wrapping-sub-u64
-add-wrapping-sub-u64 c = omega (arith, one-shl (c .args .n) (omega arith), pow-mono (c .pre .1))
+add-wrapping-sub-u64 c = omega (arith, one-shl (c .args .width) (omega arith), pow-mono (c .pre .1))
 
 rem-wrapping-sub-u64 : tie.Need-rem-wrapping-sub-u64
-rem-wrapping-sub-u64 c = rw (one-shl (c .args .n) (omega arith)) (pow-pos (c .args .n))
+rem-wrapping-sub-u64 c = rw (one-shl (c .args .width) (omega arith)) (pow-pos (c .args .width))
 
 wrapping-sub-u64-requires : tie.Need-wrapping-sub-u64-requires
 wrapping-sub-u64-requires c κs = search needs
@@ -21,7 +21,7 @@ wrapping-sub-u64-requires c κs = search needs
 returns : tie.Need-returns
 returns c =
     let a = c .before .args in
-    extended (a .n) (a .v) (one-shl (a .n) (omega arith)) (c .before .pre .0) (c .before .pre .1) (c .before .pre .2) (c .wrapping-sub-u64 .ok) (c .wrapping-sub-u64 .ensures)
+    extended (a .width) (a .value) (one-shl (a .width) (omega arith)) (c .before .pre .0) (c .before .pre .1) (c .before .pre .2) (c .wrapping-sub-u64 .ok) (c .wrapping-sub-u64 .ensures)
 
 pub extend-spec : {M : Type 1} → statement M
 extend-spec = tie.close (tie.spec shl-size add-wrapping-sub-u64 rem-wrapping-sub-u64 wrapping-sub-u64-requires returns)

@@ -26,9 +26,9 @@ cut-requires c κs = (omega (arith, c .before .if1 .taken), omega (arith, c .bef
 
 returns : tie.Need-returns
 returns c =
-    let b = now (c .before .before .before .before .args .s) in
+    let b = now (c .before .before .before .before .args .bytes) in
     let p = c .before .before .before .before .args .at .0 in
-    let n = c .before .before .before .before .args .n in
+    let n = c .before .before .before .before .args .width in
     (sym (ub-cut b 0 (8 * length b) p n (8 * length b - p - n) {p = p} (c .before .few .ensures) (omega arith) (omega (arith, c .before .before .before .before .pre .0)) (c .cut .ensures .0)), c .cut .ensures .1)
 
 lesser-requires : tie.Need-lesser-requires
@@ -54,9 +54,9 @@ cut-requires-2 c κs = (omega (arith, c .before .before .before .before .pre), o
 
 returns-2 : tie.Need-returns-2
 returns-2 c =
-    let b = now (c .before .before .before .before .before .args .s) in
+    let b = now (c .before .before .before .before .before .args .bytes) in
     let p = c .before .before .before .before .before .args .at .0 in
-    let n = c .before .before .before .before .before .args .n in
+    let n = c .before .before .before .before .before .args .width in
     let i = c .before .before .lesser .result in
     let g = c .before .before .before .before .before .pre in
     (sym (ub-cut b (8 * i) 64 (p - 8 * i) n (64 - (p - 8 * i) - n) {p = p} (c .before .eight .ensures) (omega (arith, c .before .before .lesser .ensures)) (omega (arith, c .before .before .lesser .ensures, c .before .before .before .if1 .left, g)) (c .cut2 .ensures .0)), c .cut2 .ensures .1)

@@ -2,7 +2,7 @@
 use denote.Ref.{now}
 use mathlib.Core.Path.{sym, ap, _∙_}
 use Rattle.format.specs.Items.{signExtend}
-use Rattle.bits.specs.Places.{seen}
+use Rattle.bits.specs.Places.{numOf}
 use Rattle.bits.proofs.FieldLaws.{ub-got, map-num, map-bad}
 use borrow.Author.Needs.{needs}
 use Rattle.bits.proofs.fields.read_sb.Statement.{statement}
@@ -17,17 +17,17 @@ enum-known-r c = search needs
 extend-requires : tie.Need-extend-requires
 extend-requires c κs =
     let a = c .before .before .before .before .before .args in
-    let g = ub-got (now (a .s)) (a .at .0) (a .n) (ap seen (sym (c .before .r .given .1)) ∙ c .before .before .before .read-ub .ensures) in
+    let g = ub-got (now (a .bytes)) (a .at .0) (a .width) (ap numOf (sym (c .before .r .given .1)) ∙ c .before .before .before .read-ub .ensures) in
     (c .before .before .before .before .before .pre .1, c .before .before .before .before .before .pre .2, rw (g .value) (g .below))
 
 enum-known-r-2 : tie.Need-enum-known-r-2
 enum-known-r-2 c = search needs
 
 returns : tie.Need-returns
-returns c = map-num (signExtend (c .before .before .before .before .before .before .args .n)) (ap seen (sym (c .before .before .r .given .1)) ∙ c .before .before .before .before .read-ub .ensures) (c .extend .ensures)
+returns c = map-num (signExtend (c .before .before .before .before .before .before .args .width)) (ap numOf (sym (c .before .before .r .given .1)) ∙ c .before .before .before .before .read-ub .ensures) (c .extend .ensures)
 
 returns-2 : tie.Need-returns-2
-returns-2 c = map-bad (signExtend (c .before .before .before .before .before .args .n)) (ap seen (sym (c .before .r2 .given .1)) ∙ c .before .before .before .read-ub .ensures)
+returns-2 c = map-bad (signExtend (c .before .before .before .before .before .args .width)) (ap numOf (sym (c .before .r2 .given .1)) ∙ c .before .before .before .read-ub .ensures)
 
 pub read-sb-spec : {M : Type 1} → statement M
 read-sb-spec =

@@ -4,7 +4,7 @@ use mathlib.Core.Path.{sym, ap, _∙_}
 use native.Mathlib.Omega.{arith}
 use native.Mathlib.Numerals.{add-one}
 use Prim.Native.Nat.{suc}
-use Rattle.bits.specs.Places.{seen}
+use Rattle.bits.specs.Places.{numOf}
 use Rattle.bits.proofs.FieldLaws.{ub-got, map-num, map-bad}
 use borrow.Author.Needs.{needs}
 use Rattle.bits.proofs.fields.read_width.Statement.{statement}
@@ -19,17 +19,17 @@ enum-known-r c = search needs
 add-t8 : tie.Need-add-t8
 add-t8 c =
     let a = c .before .before .before .before .before .args in
-    let g = ub-got (now (a .s)) (a .at .0) 5 (ap seen (sym (c .before .r .given .1)) ∙ c .before .before .before .read-ub .ensures) in
+    let g = ub-got (now (a .bytes)) (a .at .0) 5 (ap numOf (sym (c .before .r .given .1)) ∙ c .before .before .before .read-ub .ensures) in
     omega arith
 
 enum-known-r-2 : tie.Need-enum-known-r-2
 enum-known-r-2 c = search needs
 
 returns : tie.Need-returns
-returns c = map-num suc (ap seen (sym (c .before .r .given .1)) ∙ c .before .before .before .read-ub .ensures) (add-one _)
+returns c = map-num suc (ap numOf (sym (c .before .r .given .1)) ∙ c .before .before .before .read-ub .ensures) (add-one _)
 
 returns-2 : tie.Need-returns-2
-returns-2 c = map-bad suc (ap seen (sym (c .before .r2 .given .1)) ∙ c .before .before .before .read-ub .ensures)
+returns-2 c = map-bad suc (ap numOf (sym (c .before .r2 .given .1)) ∙ c .before .before .before .read-ub .ensures)
 
 pub read-width-spec : {M : Type 1} → statement M
 read-width-spec =

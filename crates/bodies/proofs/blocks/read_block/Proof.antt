@@ -4,7 +4,7 @@ use native.Mathlib.Omega.{arith}
 use Rattle.format.specs.Bits.{high}
 use Rattle.format.specs.Items.{run}
 use Rattle.format.specs.Bodies.{allFlags}
-use Rattle.table.specs.Run.{left}
+use Rattle.table.specs.Run.{runLeaves}
 use Rattle.attributes.specs.Rows.{rowsFrom}
 use Rattle.attributes.proofs.FlagLaws.{flags-read, ended-is}
 use Rattle.bodies.proofs.ContentLaws.{block-rows, block-stop, flags-fit}
@@ -16,49 +16,40 @@ use Rattle.bodies.proofs.blocks.read_block.Lts as lts
 use Rattle.attributes.proofs.read_flags.Reads as read-flags-reads
 use Rattle.bodies.proofs.blocks.read_contents.Reads as read-contents-reads
 
--- src/blocks.rt:117:49
 slice-aggregate-read-flags : tie.Need-slice-aggregate-read-flags
 slice-aggregate-read-flags c = search needs
 
--- src/blocks.rt:117:9
 read-flags-requires : tie.Need-read-flags-requires
 read-flags-requires c κs = search needs
 
--- src/blocks.rt:119:19
 enum-known-r : tie.Need-enum-known-r
 enum-known-r c = search needs
 
--- src/blocks.rt:119:51
 slice-aggregate-read-contents : tie.Need-slice-aggregate-read-contents
 slice-aggregate-read-contents c = search needs
 
--- src/blocks.rt:119:31
 read-contents-requires : tie.Need-read-contents-requires
 read-contents-requires c κs = let a = c .before .before .before .before .before .before .before .before .before .before .args in let n = c .before .before .before .before .before .before .read-flags .kept .1 .1 .1 .0 in (
   c .before .before .before .before .before .before .before .before .before .before .pre .0,
   omega (arith, n),
-  flags-fit (now (a .s)) (rowsFrom (a .rows .start) (a .rows .end)) (flags-read (now (a .s)) _ (a .at .0) (c .before .before .before .before .before .before .before .before .before .before .pre .0) (omega arith) (ap (left _) (sym (c .before .before .before .r .given .1)) ∙ c .before .before .before .before .before .before .read-flags .ensures)) (c .before .before .before .before .before .before .before .before .before .before .pre .1),
+  flags-fit (now (a .body)) (rowsFrom (a .rows .start) (a .rows .end)) (flags-read (now (a .body)) _ (a .at .0) (c .before .before .before .before .before .before .before .before .before .before .pre .0) (omega arith) (ap (runLeaves _) (sym (c .before .before .before .r .given .1)) ∙ c .before .before .before .before .before .before .read-flags .ensures)) (c .before .before .before .before .before .before .before .before .before .before .pre .1),
 )
 
--- src/blocks.rt:120:19
 enum-known-r-2 : tie.Need-enum-known-r-2
 enum-known-r-2 c = search needs
 
--- src/blocks.rt:112:1
 same-length : tie.Need-same-length
 same-length c = search needs
 
--- src/blocks.rt:112:1
 returns : tie.Need-returns
 returns c = let a = c .before .before .before .before .before .before .before .before .before .before .before .before .before .args in
-    block-rows (now (a .s)) (now (a .t)) (a .k) (a .at .0) (rowsFrom (a .rows .start) (a .rows .end))
-    (flags-read (now (a .s)) _ (a .at .0) (c .before .before .before .before .before .before .before .before .before .before .before .before .before .pre .0) (omega arith) (ap (left _) (sym (c .before .before .before .before .before .before .r .given .1)) ∙ c .before .before .before .before .before .before .before .before .before .read-flags .ensures)) (c .before .before .read-contents .ensures)
+    block-rows (now (a .body)) (now (a .table)) (a .from) (a .at .0) (rowsFrom (a .rows .start) (a .rows .end))
+    (flags-read (now (a .body)) _ (a .at .0) (c .before .before .before .before .before .before .before .before .before .before .before .before .before .pre .0) (omega arith) (ap (runLeaves _) (sym (c .before .before .before .before .before .before .r .given .1)) ∙ c .before .before .before .before .before .before .before .before .before .read-flags .ensures)) (c .before .before .read-contents .ensures)
 
--- src/blocks.rt:112:1
 returns-2 : tie.Need-returns-2
 returns-2 c = let a = c .before .before .before .before .before .before .before .before .args in
-    block-stop (now (a .s)) (now (a .t)) (a .k) (a .at .0) (rowsFrom (a .rows .start) (a .rows .end))
-    (ended-is _ 0 (run high (now (a .s)) (allFlags (rowsFrom (a .rows .start) (a .rows .end))) (a .at .0)) (ap (left _) (sym (c .before .r2 .given .1)) ∙ c .before .before .before .before .read-flags .ensures))
+    block-stop (now (a .body)) (now (a .table)) (a .from) (a .at .0) (rowsFrom (a .rows .start) (a .rows .end))
+    (ended-is _ 0 (run high (now (a .body)) (allFlags (rowsFrom (a .rows .start) (a .rows .end))) (a .at .0)) (ap (runLeaves _) (sym (c .before .r2 .given .1)) ∙ c .before .before .before .before .read-flags .ensures))
 
 pub read-block-spec : {M : Type 1} → statement M
 read-block-spec =

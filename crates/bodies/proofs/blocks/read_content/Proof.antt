@@ -14,49 +14,38 @@ use Rattle.attributes.proofs.content_of.Reads as content-of-reads
 use Rattle.values.proofs.keyframes.read_keyframed.Reads as read-keyframed-reads
 use Rattle.values.proofs.read_value.Reads as read-value-reads
 
--- src/blocks.rt:34:11
 content-of-requires : tie.Need-content-of-requires
 content-of-requires c κs = search needs
 
--- src/blocks.rt:35:29
 enum-told : tie.Need-enum-told
 enum-told c = search needs
 
--- src/blocks.rt:36:57
 enum-told-2 : tie.Need-enum-told-2
 enum-told-2 c = search needs
 
--- src/blocks.rt:36:25
 read-value-requires : tie.Need-read-value-requires
 read-value-requires c κs = search needs
 
--- src/blocks.rt:37:81
 enum-told-3 : tie.Need-enum-told-3
 enum-told-3 c = search needs
 
--- src/blocks.rt:37:28
 read-keyframed-requires : tie.Need-read-keyframed-requires
 read-keyframed-requires c κs = search needs
 
--- src/blocks.rt:22:1
 returns : tie.Need-returns
-returns c = let a = c .before .before .before .before .before .args in content-none (now (a .s)) (now (a .t)) (a .k) (a .at .0) (contentOf (kindOf (a .kind)) (typeOf (a .what)) (a .flag)) (content-told (kindOf (a .kind)) (typeOf (a .what)) (a .flag) Nothing (c .before .before .content-of .ensures) (c .enum-told .given .1))
+returns c = let a = c .before .before .before .before .before .args in content-none (now (a .body)) (now (a .table)) (a .from) (a .at .0) (contentOf (kindOf (a .kind)) (typeOf (a .what)) (a .flag)) (content-told (kindOf (a .kind)) (typeOf (a .what)) (a .flag) Nothing (c .before .before .content-of .ensures) (c .enum-told .given .1))
 
--- src/blocks.rt:22:1
 same-length : tie.Need-same-length
 same-length c = search needs
 
--- src/blocks.rt:22:1
 returns-2 : tie.Need-returns-2
-returns-2 c = let a = c .before .before .before .before .before .before .before .before .before .args in content-is (now (a .s)) (now (a .t)) (a .k) (a .at .0) (value (typeOf (a .what))) (contentOf (kindOf (a .kind)) (typeOf (a .what)) (a .flag)) (content-told (kindOf (a .kind)) (typeOf (a .what)) (a .flag) One (c .before .before .before .before .before .before .content-of .ensures) (c .before .before .before .before .enum-told2 .given .1)) (c .before .before .read-value .ensures)
+returns-2 c = let a = c .before .before .before .before .before .before .before .before .before .args in content-is (now (a .body)) (now (a .table)) (a .from) (a .at .0) (value (typeOf (a .what))) (contentOf (kindOf (a .kind)) (typeOf (a .what)) (a .flag)) (content-told (kindOf (a .kind)) (typeOf (a .what)) (a .flag) One (c .before .before .before .before .before .before .content-of .ensures) (c .before .before .before .before .enum-told2 .given .1)) (c .before .before .read-value .ensures)
 
--- src/blocks.rt:22:1
 same-length-2 : tie.Need-same-length-2
 same-length-2 c = search needs
 
--- src/blocks.rt:22:1
 returns-3 : tie.Need-returns-3
-returns-3 c = let a = c .before .before .before .before .before .before .before .before .before .args in content-is (now (a .s)) (now (a .t)) (a .k) (a .at .0) (keyframed (kindOf (a .kind)) (typeOf (a .what))) (contentOf (kindOf (a .kind)) (typeOf (a .what)) (a .flag)) (content-told (kindOf (a .kind)) (typeOf (a .what)) (a .flag) Frames (c .before .before .before .before .before .before .content-of .ensures) (c .before .before .before .before .enum-told3 .given .1)) (c .before .before .read-keyframed .ensures)
+returns-3 c = let a = c .before .before .before .before .before .before .before .before .before .args in content-is (now (a .body)) (now (a .table)) (a .from) (a .at .0) (keyframed (kindOf (a .kind)) (typeOf (a .what))) (contentOf (kindOf (a .kind)) (typeOf (a .what)) (a .flag)) (content-told (kindOf (a .kind)) (typeOf (a .what)) (a .flag) Frames (c .before .before .before .before .before .before .content-of .ensures) (c .before .before .before .before .enum-told3 .given .1)) (c .before .before .read-keyframed .ensures)
 
 pub read-content-spec : {M : Type 1} → statement M
 read-content-spec =

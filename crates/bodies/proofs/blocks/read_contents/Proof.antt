@@ -9,13 +9,13 @@ use Rattle.bodies.proofs.blocks.read_contents.Statement.{statement}
 use Rattle.bodies.proofs.blocks.read_contents.Tie as tie
 
 abbrev Inv-loop : tie.InvT-loop
-Inv-loop flags s t₀ k attributes start end place₀ j₀ row₀ t place j row = Going s t₀ flags k start end (place₀ .0) t (place .0) j row
+Inv-loop flags body table₀ from attributes start end place₀ index₀ row₀ table place index row = Going body table₀ flags from start end (place₀ .0) table (place .0) index row
 
 abbrev μ-loop : tie.MeasureT-loop
-μ-loop flags s t₀ k attributes start end place₀ j₀ row₀ t place j row = end - row
+μ-loop flags body table₀ from attributes start end place₀ index₀ row₀ table place index row = end - row
 
 loop-holds : tie.Need-loop-holds Inv-loop μ-loop
-loop-holds c = let a = c .before .before .before .args in rows-start (now (a .s)) (now (a .t)) (now (a .flags)) (a .k) (a .rows .start) (a .rows .end) (a .at .0) (c .before .before .before .pre .0) (c .before .before .before .pre .2)
+loop-holds c = let a = c .before .before .before .args in rows-start (now (a .body)) (now (a .table)) (now (a .flags)) (a .from) (a .rows .start) (a .rows .end) (a .at .0) (c .before .before .before .pre .0) (c .before .before .before .pre .2)
 
 sub-flag : tie.Need-sub-flag Inv-loop μ-loop
 sub-flag c = omega (arith, c .before .loop .inv .from)
@@ -46,7 +46,7 @@ same-length c = c .before .before .before .before .read-attribute .kept .1 .1 .1
 
 returns : tie.Need-returns Inv-loop μ-loop
 returns c = let a = c .before .before .before .before .before .before .before .before .before .before .before .before .before .args in
-    rows-stop (now (a .s)) (now (a .t)) (now (a .flags)) (a .k) (a .rows .start) (a .rows .end) (a .at .0) (c .before .before .before .before .before .before .before .before .loop-test .taken) (c .before .before .before .before .before .before .before .before .before .before .before .before .before .pre .0 .inside)
+    rows-stop (now (a .body)) (now (a .table)) (now (a .flags)) (a .from) (a .rows .start) (a .rows .end) (a .at .0) (c .before .before .before .before .before .before .before .before .loop-test .taken) (c .before .before .before .before .before .before .before .before .before .before .before .before .before .pre .0 .inside)
     (omega (arith, c .before .before .before .before .before .before .before .before .before .before .before .before .before .pre .0 .few, c .before .before .before .before .before .before .before .before .before .before .before .before .before .pre .1)) refl (c .before .before .before .before .before .before .before .before .before .loop .inv) (c .before .before .before .before .read-attribute .ensures) (c .enum-told .given .1)
 
 add-row : tie.Need-add-row Inv-loop μ-loop
@@ -57,7 +57,7 @@ loop-less c = omega arith
 
 loop-again : tie.Need-loop-again Inv-loop μ-loop
 loop-again c = let a = c .before .before .before .before .before .before .before .before .before .before .before .before .before .before .args in
-    rows-next-row (now (a .s)) (now (a .t)) (now (a .flags)) (a .k) (a .rows .start) (a .rows .end) (a .at .0) (c .before .before .before .before .before .before .before .before .before .loop-test .taken) (c .before .before .before .before .before .before .before .before .before .before .before .before .before .before .pre .0 .inside)
+    rows-next-row (now (a .body)) (now (a .table)) (now (a .flags)) (a .from) (a .rows .start) (a .rows .end) (a .at .0) (c .before .before .before .before .before .before .before .before .before .loop-test .taken) (c .before .before .before .before .before .before .before .before .before .before .before .before .before .before .pre .0 .inside)
     (omega (arith, c .before .before .before .before .before .before .before .before .before .before .before .before .before .before .pre .0 .few, c .before .before .before .before .before .before .before .before .before .before .before .before .before .before .pre .1)) refl (c .before .before .before .before .before .before .before .before .before .before .loop .inv) (c .before .before .before .before .before .read-attribute .ensures) (c .before .before .before .before .before .read-attribute .kept .1 .1 .1 .1 .0) (c .before .r .given .1)
 
 same-length-2 : tie.Need-same-length-2 Inv-loop μ-loop
@@ -65,7 +65,7 @@ same-length-2 c = c .before .loop .inv .size
 
 returns-2 : tie.Need-returns-2 Inv-loop μ-loop
 returns-2 c = let a = c .before .before .before .before .before .args in
-    rows-done (now (a .s)) (now (a .t)) (now (a .flags)) (a .k) (a .rows .start) (a .rows .end) (a .at .0) (c .loop-test .left) (c .before .loop .inv)
+    rows-done (now (a .body)) (now (a .table)) (now (a .flags)) (a .from) (a .rows .start) (a .rows .end) (a .at .0) (c .loop-test .left) (c .before .loop .inv)
 
 pub read-contents-spec : {M : Type 1} → statement M
 read-contents-spec =

@@ -12,13 +12,13 @@ use Rattle.items.proofs.var.read_var.Statement.{statement}
 use Rattle.items.proofs.var.read_var.Tie as tie
 
 abbrev Inv-loop : tie.InvT-loop
-Inv-loop s most top i₀ next₀ b sum₀ weight₀ left₀ i next sum weight left = (0 < left) × ((p : ℕ) → p + 8 ≡ next₀ → Rest s top (readVar high s top p most) i next (left - 1) weight sum)
+Inv-loop body most top i₀ next₀ b sum₀ weight₀ left₀ i next sum weight left = (0 < left) × ((p : ℕ) → p + 8 ≡ next₀ → Rest body top (readVar high body top p most) i next (left - 1) weight sum)
 
 abbrev μ-loop : tie.MeasureT-loop
-μ-loop s most top i₀ next₀ b sum₀ weight₀ left₀ i next sum weight left = left
+μ-loop body most top i₀ next₀ b sum₀ weight₀ left₀ i next sum weight left = left
 
 returns : tie.Need-returns Inv-loop μ-loop
-returns c = let a = c .before .before .args in sym (var-past (now (a .s)) (a .top) (a .byte .0) (a .bit .0) (a .most) (c .before .before .pre .1) (c .if1 .taken))
+returns c = let a = c .before .before .args in sym (var-past (now (a .body)) (a .top) (a .byte .0) (a .bit .0) (a .most) (c .before .before .pre .1) (c .if1 .taken))
 
 byte-at-requires : tie.Need-byte-at-requires Inv-loop μ-loop
 byte-at-requires c κs = search needs
@@ -30,20 +30,20 @@ add-next : tie.Need-add-next Inv-loop μ-loop
 add-next c = omega arith
 
 returns-2 : tie.Need-returns-2 Inv-loop μ-loop
-returns-2 c = let a = c .before .before .before .before .args in first-last (now (a .s)) (a .top) (a .byte .0) (a .bit .0) (a .most) (c .before .before .before .before .pre .1) (c .before .before .before .before .pre .2) (c .before .before .if1 .left) (c .before .byte-at .ensures) (c .if2 .taken)
+returns-2 c = let a = c .before .before .before .before .args in first-last (now (a .body)) (a .top) (a .byte .0) (a .bit .0) (a .most) (c .before .before .before .before .pre .1) (c .before .before .before .before .pre .2) (c .before .before .if1 .left) (c .before .byte-at .ensures) (c .if2 .taken)
 
 loop-holds : tie.Need-loop-holds Inv-loop μ-loop
 loop-holds c = let a = c .before .before .before .before .args in (
   omega arith,
   λ p e.
       let d : p ≡ a .bit .0 = omega arith in
-      rw d (first-more (now (a .s)) (a .top) (a .byte .0) (a .bit .0) (a .most) (c .before .before .before .before .pre .1) (c .before .before .before .before .pre .2) (c .before .before .if1 .left) (c .before .byte-at .ensures) (c .if2 .left) (c .before .before .before .before .pre .5)),
+      rw d (first-more (now (a .body)) (a .top) (a .byte .0) (a .bit .0) (a .most) (c .before .before .before .before .pre .1) (c .before .before .before .before .pre .2) (c .before .before .if1 .left) (c .before .byte-at .ensures) (c .if2 .left) (c .before .before .before .before .pre .5)),
 )
 
 -- at the loop's head
 rest : (l : tie.At-loop Inv-loop μ-loop) →
     let a = l .before .before .before .before .before .args in
-    Rest (now (a .s)) (a .top) (readVar high (now (a .s)) (a .top) (a .bit .0) (a .most)) (l .loop .i) (l .loop .next) (l .loop .left - 1) (l .loop .weight) (l .loop .sum)
+    Rest (now (a .body)) (a .top) (readVar high (now (a .body)) (a .top) (a .bit .0) (a .most)) (l .loop .i) (l .loop .next) (l .loop .left - 1) (l .loop .weight) (l .loop .sum)
 rest l = l .loop .inv .1 (l .before .before .before .before .before .args .bit .0) refl
 
 returns-3 : tie.Need-returns-3 Inv-loop μ-loop

@@ -25,82 +25,71 @@ abbrev put-decimal-below : ℕ → In 1 put-decimal-kinds.ps
 put-decimal-below t =
     and 1 put-decimal-kinds.ps (falls 1 put-decimal-kinds.ps _<_ μ-put-decimal t) put-decimal.Pre
 
--- src/fields.rt:13:22
 put-decimal-cast-digit : (t : ℕ) → put-decimal-lts.Need-cast-digit (
   put-decimal-below t,
   put-decimal.Post,
 ) (put-decimal-at t) put-decimal.Post
 put-decimal-cast-digit t c = search needs
 
--- src/fields.rt:13:17
 put-decimal-add-digit : (t : ℕ) → put-decimal-lts.Need-add-digit (
   put-decimal-below t,
   put-decimal.Post,
 ) (put-decimal-at t) put-decimal.Post
 put-decimal-add-digit t c = search needs
 
--- src/fields.rt:15:9
 put-decimal-slice-write-out : (t : ℕ) → put-decimal-lts.Need-slice-write-out (
   put-decimal-below t,
   put-decimal.Post,
 ) (put-decimal-at t) put-decimal.Post
-put-decimal-slice-write-out t c = omega (arith, ap length (decimal-one (c .before .before .args .n) (omega arith)))
+put-decimal-slice-write-out t c = omega (arith, ap length (decimal-one (c .before .before .args .value) (omega arith)))
 
--- src/fields.rt:16:16
 put-decimal-add-result : (t : ℕ) → put-decimal-lts.Need-add-result (
   put-decimal-below t,
   put-decimal.Post,
 ) (put-decimal-at t) put-decimal.Post
 put-decimal-add-result t c = search needs
 
--- src/fields.rt:16:9
 put-decimal-same-length : (t : ℕ) → put-decimal-lts.Need-same-length (
   put-decimal-below t,
   put-decimal.Post,
 ) (put-decimal-at t) put-decimal.Post
 put-decimal-same-length t c = search needs
 
--- src/fields.rt:16:9
 put-decimal-returns : (t : ℕ) → put-decimal-lts.Need-returns (
   put-decimal-below t,
   put-decimal.Post,
 ) (put-decimal-at t) put-decimal.Post
-put-decimal-returns t c = digit-only (now (c .before .before .args .out)) (c .before .before .args .k) (c .before .before .args .n) (omega arith)
+put-decimal-returns t c = digit-only (now (c .before .before .args .out)) (c .before .before .args .from) (c .before .before .args .value) (omega arith)
 
--- src/fields.rt:18:9
 put-decimal-put-decimal-requires : (t : ℕ) → put-decimal-lts.Need-put-decimal-requires (
   put-decimal-below t,
   put-decimal.Post,
 ) (put-decimal-at t) put-decimal.Post
-put-decimal-put-decimal-requires t c κs = (omega (arith, c .before .before .before .pre .0), omega (arith, decimal-length (c .before .before .before .args .n) (omega arith)))
+put-decimal-put-decimal-requires t c κs = (omega (arith, c .before .before .before .pre .0), omega (arith, decimal-length (c .before .before .before .args .value) (omega arith)))
 
--- src/fields.rt:19:5
 put-decimal-slice-write-out-2 : (t : ℕ) → put-decimal-lts.Need-slice-write-out-2 (
   put-decimal-below t,
   put-decimal.Post,
 ) (put-decimal-at t) put-decimal.Post
-put-decimal-slice-write-out-2 t c = omega (arith, decimal-length (c .before .before .before .before .before .before .args .n) (omega arith), lays-next (now (c .before .before .before .before .before .before .args .out)) (c .before .before .before .before .before .before .args .k) (decimal _) (c .before .before .put-decimal .ensures), c .before .before .put-decimal .kept .0)
+put-decimal-slice-write-out-2 t c = omega (arith, decimal-length (c .before .before .before .before .before .before .args .value) (omega arith), lays-next (now (c .before .before .before .before .before .before .args .out)) (c .before .before .before .before .before .before .args .from) (decimal _) (c .before .before .put-decimal .ensures), c .before .before .put-decimal .kept .0)
 
--- src/fields.rt:20:5
 put-decimal-add-result-2 : (t : ℕ) → put-decimal-lts.Need-add-result-2 (
   put-decimal-below t,
   put-decimal.Post,
 ) (put-decimal-at t) put-decimal.Post
-put-decimal-add-result-2 t c = omega (arith, decimal-length (c .before .before .before .before .before .before .args .n) (omega arith), lays-next (now (c .before .before .before .before .before .before .args .out)) (c .before .before .before .before .before .before .args .k) (decimal _) (c .before .before .put-decimal .ensures))
+put-decimal-add-result-2 t c = omega (arith, decimal-length (c .before .before .before .before .before .before .args .value) (omega arith), lays-next (now (c .before .before .before .before .before .before .args .out)) (c .before .before .before .before .before .before .args .from) (decimal _) (c .before .before .put-decimal .ensures))
 
--- src/fields.rt:9:1
 put-decimal-same-length-2 : (t : ℕ) → put-decimal-lts.Need-same-length-2 (
   put-decimal-below t,
   put-decimal.Post,
 ) (put-decimal-at t) put-decimal.Post
 put-decimal-same-length-2 t c = search needs
 
--- src/fields.rt:9:1
 put-decimal-returns-2 : (t : ℕ) → put-decimal-lts.Need-returns-2 (
   put-decimal-below t,
   put-decimal.Post,
 ) (put-decimal-at t) put-decimal.Post
-put-decimal-returns-2 t c = digit-last (now (c .before .before .before .before .before .before .args .out)) (c .before .before .before .before .before .before .args .k) (c .before .before .before .before .before .before .args .n) (omega arith) (c .before .before .put-decimal .ensures)
+put-decimal-returns-2 t c = digit-last (now (c .before .before .before .before .before .before .args .out)) (c .before .before .before .before .before .before .args .from) (c .before .before .before .before .before .before .args .value) (omega arith) (c .before .before .put-decimal .ensures)
 
 pub +put-decimal-spec : {M : Type 1} → statement M
 +put-decimal-spec = close μ-put-decimal λ t. put-decimal-lts.spec (

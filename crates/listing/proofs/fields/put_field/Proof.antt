@@ -9,25 +9,20 @@ use Rattle.listing.proofs.fields.put_field.Reads as reads
 use Rattle.listing.proofs.fields.put_field.Lts as lts
 use Rattle.listing.proofs.fields.put_decimal.Reads as put-decimal-reads
 
--- src/fields.rt:28:9
 put-decimal-requires : tie.Need-put-decimal-requires
-put-decimal-requires c κs = omega (arith, c .before .before .pre, decimal-most (c .before .before .args .n) (c .before .before .fits .n .fits))
+put-decimal-requires c κs = omega (arith, c .before .before .pre, decimal-most (c .before .before .args .value) (c .before .before .fits .value .fits))
 
--- src/fields.rt:29:5
 slice-write-out : tie.Need-slice-write-out
-slice-write-out c = omega (arith, c .before .before .before .before .before .pre, decimal-most (c .before .before .before .before .before .args .n) (c .before .before .before .before .before .fits .n .fits), lays-next (now (c .before .before .before .before .before .args .out)) (c .before .before .before .before .before .args .k) (decimal (c .before .before .before .before .before .args .n)) (c .before .before .put-decimal .ensures), c .before .before .put-decimal .kept .0)
+slice-write-out c = omega (arith, c .before .before .before .before .before .pre, decimal-most (c .before .before .before .before .before .args .value) (c .before .before .before .before .before .fits .value .fits), lays-next (now (c .before .before .before .before .before .args .out)) (c .before .before .before .before .before .args .from) (decimal (c .before .before .before .before .before .args .value)) (c .before .before .put-decimal .ensures), c .before .before .put-decimal .kept .0)
 
--- src/fields.rt:30:5
 add-result : tie.Need-add-result
-add-result c = omega (arith, c .before .before .before .before .before .pre, decimal-most (c .before .before .before .before .before .args .n) (c .before .before .before .before .before .fits .n .fits), lays-next (now (c .before .before .before .before .before .args .out)) (c .before .before .before .before .before .args .k) (decimal (c .before .before .before .before .before .args .n)) (c .before .before .put-decimal .ensures))
+add-result c = omega (arith, c .before .before .before .before .before .pre, decimal-most (c .before .before .before .before .before .args .value) (c .before .before .before .before .before .fits .value .fits), lays-next (now (c .before .before .before .before .before .args .out)) (c .before .before .before .before .before .args .from) (decimal (c .before .before .before .before .before .args .value)) (c .before .before .put-decimal .ensures))
 
--- src/fields.rt:24:1
 same-length : tie.Need-same-length
 same-length c = search needs
 
--- src/fields.rt:24:1
 returns : tie.Need-returns
-returns c = (field-ended (now (c .before .before .before .before .before .args .out)) (c .before .before .before .before .before .args .k) (c .before .before .before .before .before .args .n) (c .before .before .before .before .before .args .end) (c .before .before .put-decimal .ensures), omega (arith, decimal-most (c .before .before .before .before .before .args .n) (c .before .before .before .before .before .fits .n .fits), lays-next (now (c .before .before .before .before .before .args .out)) (c .before .before .before .before .before .args .k) (decimal (c .before .before .before .before .before .args .n)) (c .before .before .put-decimal .ensures)))
+returns c = (field-ended (now (c .before .before .before .before .before .args .out)) (c .before .before .before .before .before .args .from) (c .before .before .before .before .before .args .value) (c .before .before .before .before .before .args .end) (c .before .before .put-decimal .ensures), omega (arith, decimal-most (c .before .before .before .before .before .args .value) (c .before .before .before .before .before .fits .value .fits), lays-next (now (c .before .before .before .before .before .args .out)) (c .before .before .before .before .before .args .from) (decimal (c .before .before .before .before .before .args .value)) (c .before .before .put-decimal .ensures)))
 
 pub put-field-spec : {M : Type 1} → statement M
 put-field-spec =

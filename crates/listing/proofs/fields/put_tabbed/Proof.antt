@@ -13,46 +13,37 @@ use Rattle.listing.proofs.fields.put_tabbed.Lts as lts
 use Rattle.listing.proofs.fields.put_field.Reads as put-field-reads
 
 abbrev Inv-loop : tie.InvT-loop
-Inv-loop out₀ k ns j₀ i₀ out j i = (i ≤ length ns) × (length out ≡ length out₀) × (j ≤ k + 21 * i) × (lays out₀ k (tabbed ns) ≡ lays out j (tabbed (drop i ns)))
+Inv-loop out₀ from values index₀ i₀ out index i = (i ≤ length values) × (length out ≡ length out₀) × (index ≤ from + 21 * i) × (lays out₀ from (tabbed values) ≡ lays out index (tabbed (drop i values)))
 
 abbrev μ-loop : tie.MeasureT-loop
-μ-loop out₀ k ns j₀ i₀ out j i = length ns - i
+μ-loop out₀ from values index₀ i₀ out index i = length values - i
 
--- src/fields.rt:40:5
 loop-holds : tie.Need-loop-holds Inv-loop μ-loop
 loop-holds c = (omega arith, refl, omega arith, refl)
 
--- src/fields.rt:41:31
 mul-put-field : tie.Need-mul-put-field Inv-loop μ-loop
 mul-put-field c = search needs
 
--- src/fields.rt:41:31
 shared-slice-read-put-field : tie.Need-shared-slice-read-put-field Inv-loop μ-loop
 shared-slice-read-put-field c = omega arith
 
--- src/fields.rt:41:9
 put-field-requires : tie.Need-put-field-requires Inv-loop μ-loop
 put-field-requires c κs = omega (arith, c .before .before .before .before .before .before .pre, c .before .before .before .loop .inv)
 
--- src/fields.rt:42:9
 add-i : tie.Need-add-i Inv-loop μ-loop
 add-i c = omega arith
 
--- src/fields.rt:40:5
 loop-less : tie.Need-loop-less Inv-loop μ-loop
 loop-less c = omega arith
 
--- src/fields.rt:40:5
 loop-again : tie.Need-loop-again Inv-loop μ-loop
-loop-again c = (omega arith, c .before .before .put-field .kept .0 ∙ c .before .before .before .before .before .before .loop .inv .1, omega (arith, c .before .before .put-field .ensures .1, c .before .before .before .before .before .before .loop .inv .2), tabbed-next (c .before .before .before .before .before .before .loop .out) (now (c .before .before .before .before .before .before .before .before .before .args .ns)) (c .before .before .before .before .before .before .loop .j) (c .before .before .before .before .before .before .loop .i) (c .before .before .before .before .before .loop-test .taken) (c .before .before .put-field .ensures .0) (c .before .before .before .before .before .before .loop .inv .3))
+loop-again c = (omega arith, c .before .before .put-field .kept .0 ∙ c .before .before .before .before .before .before .loop .inv .1, omega (arith, c .before .before .put-field .ensures .1, c .before .before .before .before .before .before .loop .inv .2), tabbed-next (c .before .before .before .before .before .before .loop .out) (now (c .before .before .before .before .before .before .before .before .before .args .values)) (c .before .before .before .before .before .before .loop .index) (c .before .before .before .before .before .before .loop .i) (c .before .before .before .before .before .loop-test .taken) (c .before .before .put-field .ensures .0) (c .before .before .before .before .before .before .loop .inv .3))
 
--- src/fields.rt:34:1
 same-length : tie.Need-same-length Inv-loop μ-loop
 same-length c = c .before .loop .inv .1
 
--- src/fields.rt:34:1
 returns : tie.Need-returns Inv-loop μ-loop
-returns c = (tabbed-done (c .before .loop .out) (now (c .before .before .before .before .args .ns)) (c .before .loop .j) (c .before .loop .i) (c .loop-test .left) (c .before .loop .inv .3), omega (arith, c .before .loop .inv))
+returns c = (tabbed-done (c .before .loop .out) (now (c .before .before .before .before .args .values)) (c .before .loop .index) (c .before .loop .i) (c .loop-test .left) (c .before .loop .inv .3), omega (arith, c .before .loop .inv))
 
 pub put-tabbed-spec : {M : Type 1} → statement M
 put-tabbed-spec =

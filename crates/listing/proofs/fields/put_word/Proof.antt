@@ -12,50 +12,40 @@ use Rattle.listing.proofs.fields.put_word.Reads as reads
 use Rattle.listing.proofs.fields.put_word.Lts as lts
 
 abbrev Inv-loop : tie.InvT-loop
-Inv-loop out₀ k word n i₀ out i = (i ≤ length word) × (length out ≡ length out₀) × (lays out₀ k word ≡ lays out (k + i) (drop i word))
+Inv-loop out₀ from word len i₀ out i = (i ≤ length word) × (length out ≡ length out₀) × (lays out₀ from word ≡ lays out (from + i) (drop i word))
 
 abbrev μ-loop : tie.MeasureT-loop
-μ-loop out₀ k word n i₀ out i = length word - i
+μ-loop out₀ from word len i₀ out i = length word - i
 
--- src/fields.rt:54:5
 loop-holds : tie.Need-loop-holds Inv-loop μ-loop
-loop-holds c = (omega arith, refl, ap (λ (j : _). lays (now (c .args .out)) j (now (c .args .word))) (sym (add-zero (c .args .k))))
+loop-holds c = (omega arith, refl, ap (λ (j : _). lays (now (c .args .out)) j (now (c .args .word))) (sym (add-zero (c .args .from))))
 
--- src/fields.rt:55:22
 shared-slice-read-out : tie.Need-shared-slice-read-out Inv-loop μ-loop
 shared-slice-read-out c = omega arith
 
--- src/fields.rt:55:13
 add-out : tie.Need-add-out Inv-loop μ-loop
 add-out c = omega (arith, c .before .before .before .pre)
 
--- src/fields.rt:55:9
 slice-write-out : tie.Need-slice-write-out Inv-loop μ-loop
 slice-write-out c = omega (arith, c .before .before .before .pre, c .before .before .loop .inv)
 
--- src/fields.rt:56:9
 add-i : tie.Need-add-i Inv-loop μ-loop
 add-i c = omega arith
 
--- src/fields.rt:54:5
 loop-less : tie.Need-loop-less Inv-loop μ-loop
 loop-less c = omega arith
 
--- src/fields.rt:54:5
 loop-again : tie.Need-loop-again Inv-loop μ-loop
-loop-again c = (omega arith, length-set (c .before .before .loop .out) _ _ ∙ c .before .before .loop .inv .1, word-next (c .before .before .loop .out) (now (c .before .before .before .args .word)) (c .before .before .before .args .k) (c .before .before .loop .i) _ (c .before .loop-test .taken) (c .before .before .loop .inv .2) refl)
+loop-again c = (omega arith, length-set (c .before .before .loop .out) _ _ ∙ c .before .before .loop .inv .1, word-next (c .before .before .loop .out) (now (c .before .before .before .args .word)) (c .before .before .before .args .from) (c .before .before .loop .i) _ (c .before .loop-test .taken) (c .before .before .loop .inv .2) refl)
 
--- src/fields.rt:58:5
 add-result : tie.Need-add-result Inv-loop μ-loop
 add-result c = omega (arith, c .before .before .pre)
 
--- src/fields.rt:48:1
 same-length : tie.Need-same-length Inv-loop μ-loop
 same-length c = c .before .loop .inv .1
 
--- src/fields.rt:48:1
 returns : tie.Need-returns Inv-loop μ-loop
-returns c = (word-done (c .before .loop .out) (now (c .before .before .args .word)) (c .before .before .args .k) (c .before .loop .i) (omega arith) (c .before .loop .inv .2), refl)
+returns c = (word-done (c .before .loop .out) (now (c .before .before .args .word)) (c .before .before .args .from) (c .before .loop .i) (omega arith) (c .before .loop .inv .2), refl)
 
 pub put-word-spec : {M : Type 1} → statement M
 put-word-spec =

@@ -12,31 +12,24 @@ use Rattle.table.proofs.fields.is_signed.Reads as is-signed-reads
 use Rattle.spelling.proofs.fields.write_signed.Reads as write-signed-reads
 use Rattle.spelling.proofs.fields.write_unsigned.Reads as write-unsigned-reads
 
--- src/fields.rt:118:8
 is-signed-requires : tie.Need-is-signed-requires
 is-signed-requires c κs = search needs
 
--- src/fields.rt:119:13
 write-signed-requires : tie.Need-write-signed-requires
 write-signed-requires c κs = search needs
 
--- src/fields.rt:120:9
 same-length : tie.Need-same-length
 same-length c = search needs
 
--- src/fields.rt:120:9
 returns : tie.Need-returns
-returns c = let a = c .before .before .before .before .before .before .before .before .args in signed-run (a .kind) (a .w) (now (a .t)) (at (now (a .out)) (a .s)) (a .k) (a .n) (c .before .before .write-signed .last .1 .1 .0) (c .before .before .write-signed .result) (sym (c .before .before .before .before .before .is-signed .ensures) ∙ c .before .before .before .before .if1 .taken) (c .before .before .write-signed .ensures)
+returns c = let a = c .before .before .before .before .before .before .before .before .args in signed-run (a .kind) (a .width) (now (a .values)) (at (now (a .out)) (a .sink)) (a .from) (a .count) (c .before .before .write-signed .last .1 .1 .0) (c .before .before .write-signed .result) (sym (c .before .before .before .before .before .is-signed .ensures) ∙ c .before .before .before .before .if1 .taken) (c .before .before .write-signed .ensures)
 
--- src/fields.rt:122:5
 write-unsigned-requires : tie.Need-write-unsigned-requires
 write-unsigned-requires c κs = search needs
 
--- src/fields.rt:105:1
 same-length-2 : tie.Need-same-length-2
 same-length-2 c = search needs
 
--- src/fields.rt:105:1
 returns-2 : tie.Need-returns-2
 returns-2 c = search needs
 

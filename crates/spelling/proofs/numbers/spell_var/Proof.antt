@@ -7,16 +7,16 @@ use lib.ListN.{length}
 use Rattle.format.specs.Bits.{high}
 use Rattle.format.specs.WritingItems.{spellVar}
 use Rattle.sink.specs.Laying.{mk}
-use Rattle.spelling.specs.Writing.{laid}
+use Rattle.spelling.specs.Writing.{bitsOver}
 use Rattle.spelling.proofs.NumberLaws.{var-more, var-long, var-over, var-end}
 use Rattle.spelling.proofs.numbers.spell_var.Statement.{statement}
 use Rattle.spelling.proofs.numbers.spell_var.Tie as tie
 
 abbrev Inv-loop : tie.InvT-loop
-Inv-loop out₀ v most top i₀ next₀ rest₀ left₀ out i next rest left = (length out ≡ length out₀) × (left ≤ 9) × (next ≡ 8 * i) × (next + 8 * left ≤ 134217800) × (laid (mk out₀ next₀ 0) (spellVar high top rest₀ left₀) ≡ laid (mk out next 0) (spellVar high top rest left))
+Inv-loop out₀ value most top i₀ next₀ rest₀ left₀ out i next rest left = (length out ≡ length out₀) × (left ≤ 9) × (next ≡ 8 * i) × (next + 8 * left ≤ 134217800) × (bitsOver (mk out₀ next₀ 0) (spellVar high top rest₀ left₀) ≡ bitsOver (mk out next 0) (spellVar high top rest left))
 
 abbrev μ-loop : tie.MeasureT-loop
-μ-loop out₀ v most top i₀ next₀ rest₀ left₀ out i next rest left = left
+μ-loop out₀ value most top i₀ next₀ rest₀ left₀ out i next rest left = left
 
 loop-holds : tie.Need-loop-holds Inv-loop μ-loop
 loop-holds c = (refl, c .before .pre .1, c .before .pre .0 .0, omega (arith, c .before .pre .0 .1, c .before .pre .1), refl)

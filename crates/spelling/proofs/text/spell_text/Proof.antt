@@ -8,25 +8,25 @@ use lib.ListN.{length, drop}
 use Rattle.format.specs.Bits.{high}
 use Rattle.format.specs.WritingItems.{spellTxt}
 use Rattle.sink.specs.Laying.{mk}
-use Rattle.spelling.specs.Writing.{laid}
+use Rattle.spelling.specs.Writing.{bitsOver}
 use Rattle.spelling.proofs.TextLaws.{text-start, text-zero, text-large, text-next, text-over}
 use Rattle.spelling.proofs.text.spell_text.Statement.{statement}
 use Rattle.spelling.proofs.text.spell_text.Tie as tie
 
 abbrev Inv-loop : tie.InvT-loop
-Inv-loop out₀ at text start n i₀ out i = (length out ≡ length out₀) × (i ≤ length text) × (laid (mk out₀ (at .bit .0) 0) (spellTxt high text) ≡ laid (mk out (at .bit .0 + 8 * i) 0) (spellTxt high (drop i text)))
+Inv-loop out₀ at text start count i₀ out i = (length out ≡ length out₀) × (i ≤ length text) × (bitsOver (mk out₀ (at .bit .0) 0) (spellTxt high text) ≡ bitsOver (mk out (at .bit .0 + 8 * i) 0) (spellTxt high (drop i text)))
 
 abbrev μ-loop : tie.MeasureT-loop
-μ-loop out₀ at text start n i₀ out i = length text - i
+μ-loop out₀ at text start count i₀ out i = length text - i
 
 loop-holds : tie.Need-loop-holds Inv-loop μ-loop
 loop-holds c = (refl, omega arith, text-start (now (c .before .before .args .out)) (c .before .before .args .at .bit .0) (now (c .before .before .args .text)))
 
-mul-v : tie.Need-mul-v Inv-loop μ-loop
-mul-v c = search needs
+mul-value : tie.Need-mul-value Inv-loop μ-loop
+mul-value c = search needs
 
-shared-slice-read-v : tie.Need-shared-slice-read-v Inv-loop μ-loop
-shared-slice-read-v c = omega arith
+shared-slice-read-value : tie.Need-shared-slice-read-value Inv-loop μ-loop
+shared-slice-read-value c = omega arith
 
 same-length : tie.Need-same-length Inv-loop μ-loop
 same-length c = c .before .before .before .loop .inv .0
@@ -83,8 +83,8 @@ spell-text-spec =
     Inv-loop
     μ-loop
     loop-holds
-    mul-v
-    shared-slice-read-v
+    mul-value
+    shared-slice-read-value
     same-length
     returns
     same-length-2

@@ -7,43 +7,33 @@ use Rattle.table.proofs.fields.allowed.Tie as tie
 use Rattle.table.proofs.fields.allowed.Reads as reads
 use Rattle.table.proofs.fields.allowed.Lts as lts
 
--- src/fields.rt:53:33
 enum-told : tie.Need-enum-told
 enum-told c = search needs
 
--- src/fields.rt:54:29
 enum-told-2 : tie.Need-enum-told-2
 enum-told-2 c = search needs
 
--- src/fields.rt:55:24
 enum-told-3 : tie.Need-enum-told-3
 enum-told-3 c = search needs
 
--- src/fields.rt:56:23
 enum-told-4 : tie.Need-enum-told-4
 enum-told-4 c = search needs
 
--- src/fields.rt:57:30
 enum-told-5 : tie.Need-enum-told-5
 enum-told-5 c = search needs
 
--- src/fields.rt:49:1
 returns : tie.Need-returns
-returns c = ap (λ (z : Field). allows z (c .before .before .args .v)) (sym (c .enum-told .given .1))
+returns c = ap (λ (z : Field). allows z (c .before .before .args .value)) (sym (c .enum-told .given .1))
 
--- src/fields.rt:49:1
 returns-2 : tie.Need-returns-2
-returns-2 c = ap (λ (z : Field). allows z (c .before .before .args .v)) (sym (c .enum-told2 .given .1))
+returns-2 c = ap (λ (z : Field). allows z (c .before .before .args .value)) (sym (c .enum-told2 .given .1))
 
--- src/fields.rt:49:1
 returns-3 : tie.Need-returns-3
 returns-3 c = search needs
 
--- src/fields.rt:49:1
 returns-4 : tie.Need-returns-4
 returns-4 c = search needs
 
--- src/fields.rt:49:1
 returns-5 : tie.Need-returns-5
 returns-5 c = search needs
 

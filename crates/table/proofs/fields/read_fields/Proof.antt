@@ -17,10 +17,10 @@ use Rattle.table.proofs.fields.weights_of.Reads as weights-of-reads
 use Rattle.table.proofs.put.Reads as put-reads
 
 abbrev Inv-loop : tie.InvT-loop
-Inv-loop kind w n s t₀ k weights place₀ j₀ left₀ count₀ t place j left count = Going kind w s t₀ k n (place₀ .0) t (place .0) j left count
+Inv-loop kind width count body table₀ from weights place₀ index₀ left₀ sum₀ table place index left sum = Going kind width body table₀ from count (place₀ .0) table (place .0) index left sum
 
 abbrev μ-loop : tie.MeasureT-loop
-μ-loop kind w n s t₀ k weights place₀ j₀ left₀ count₀ t place j left count = left
+μ-loop kind width count body table₀ from weights place₀ index₀ left₀ sum₀ table place index left sum = left
 
 weights-of-requires : tie.Need-weights-of-requires Inv-loop μ-loop
 weights-of-requires c κs = tt
@@ -38,7 +38,7 @@ same-length : tie.Need-same-length Inv-loop μ-loop
 same-length c = c .before .before .before .loop .inv .size
 
 returns : tie.Need-returns Inv-loop μ-loop
-returns c = let a = c .before .before .before .before .before .before .before .args in fields-stop (a .kind) (a .w) (now (a .s)) (now (a .t)) (a .k) (a .n) (a .at .0) (c .before .before .before .before .before .before .before .pre .1) (c .before .before .loop-test .taken) (c .before .before .before .loop .inv) (field-past (a .kind) (now (a .s)) (c .before .before .before .loop .place .0) (a .w) (omega (arith, c .if1 .taken)))
+returns c = let a = c .before .before .before .before .before .before .before .args in fields-stop (a .kind) (a .width) (now (a .body)) (now (a .table)) (a .from) (a .count) (a .at .0) (c .before .before .before .before .before .before .before .pre .1) (c .before .before .loop-test .taken) (c .before .before .before .loop .inv) (field-past (a .kind) (now (a .body)) (c .before .before .before .loop .place .0) (a .width) (omega (arith, c .if1 .taken)))
 
 field-requires : tie.Need-field-requires Inv-loop μ-loop
 field-requires c κs = (omega (arith, c .if1 .left), c .before .before .before .loop .inv .fits .0 .1, c .before .before .before .before .before .before .before .pre .1, c .before .before .before .before .before .before .before .pre .2)
@@ -58,11 +58,11 @@ slice-aggregate-weight c = search needs
 weight-requires : tie.Need-weight-requires Inv-loop μ-loop
 weight-requires c κs = tt
 
-add-count : tie.Need-add-count Inv-loop μ-loop
-add-count c = let a = c .before .before .before .before .before .before .before .before .before .before .before .before .before .before .before .before .before .args in omega (arith, weight-is (a .kind) (c .before .before .before .before .before .before .before .before .shown .result) (c .before .before .before .before .before .before .before .before .before .before .before .before .before .before .weights-of .ensures) (c .weight .ensures) .1, c .before .before .before .before .before .before .before .before .before .before .before .before .before .loop .inv .few, c .before .before .before .before .before .before .before .before .before .before .before .before .before .before .before .before .before .pre .3, c .before .before .before .before .before .before .before .before .before .before .before .before .loop-test .taken)
+add-sum : tie.Need-add-sum Inv-loop μ-loop
+add-sum c = let a = c .before .before .before .before .before .before .before .before .before .before .before .before .before .before .before .before .before .args in omega (arith, weight-is (a .kind) (c .before .before .before .before .before .before .before .before .shown .result) (c .before .before .before .before .before .before .before .before .before .before .before .before .before .before .weights-of .ensures) (c .weight .ensures) .1, c .before .before .before .before .before .before .before .before .before .before .before .before .before .loop .inv .few, c .before .before .before .before .before .before .before .before .before .before .before .before .before .before .before .before .before .pre .3, c .before .before .before .before .before .before .before .before .before .before .before .before .loop-test .taken)
 
-add-j : tie.Need-add-j Inv-loop μ-loop
-add-j c = omega (arith, c .before .before .before .before .before .before .before .before .before .before .before .before .before .loop .inv .fits)
+add-index : tie.Need-add-index Inv-loop μ-loop
+add-index c = omega (arith, c .before .before .before .before .before .before .before .before .before .before .before .before .before .loop .inv .fits)
 
 sub-left : tie.Need-sub-left Inv-loop μ-loop
 sub-left c = omega arith
@@ -71,19 +71,19 @@ loop-less : tie.Need-loop-less Inv-loop μ-loop
 loop-less c = omega arith
 
 loop-again : tie.Need-loop-again Inv-loop μ-loop
-loop-again c = let a = c .before .before .before .before .before .before .before .before .before .before .before .before .before .before .before .before .before .args in fields-next (a .kind) (a .w) (now (a .s)) (now (a .t)) (a .k) (a .n) (a .at .0) (c .before .before .before .before .before .before .before .before .before .before .before .before .before .before .before .before .before .pre .1) (c .before .before .before .before .before .before .before .before .before .before .before .before .loop-test .taken) (c .before .before .before .before .before .before .before .before .before .before .before .before .before .loop .inv) (field-in (a .kind) (now (a .s)) (c .before .before .before .before .before .before .before .before .before .before .before .before .before .loop .place .0) (a .w) (omega (arith, c .before .before .before .before .before .before .before .before .before .before .if1 .left)) (c .before .before .before .before .before .before .before .before .before .field .ensures .0) (c .before .before .before .before .before .before .before .before .shown .ensures) (sym (c .before .before .before .before .before .before .before .allowed .ensures) ∙ c .before .before .before .before .before .before .if2 .taken)) (c .before .before .before .before .put .ensures) (weight-is (a .kind) (c .before .before .before .before .before .before .before .before .shown .result) (c .before .before .before .before .before .before .before .before .before .before .before .before .before .before .weights-of .ensures) (c .weight .ensures))
+loop-again c = let a = c .before .before .before .before .before .before .before .before .before .before .before .before .before .before .before .before .before .args in fields-next (a .kind) (a .width) (now (a .body)) (now (a .table)) (a .from) (a .count) (a .at .0) (c .before .before .before .before .before .before .before .before .before .before .before .before .before .before .before .before .before .pre .1) (c .before .before .before .before .before .before .before .before .before .before .before .before .loop-test .taken) (c .before .before .before .before .before .before .before .before .before .before .before .before .before .loop .inv) (field-in (a .kind) (now (a .body)) (c .before .before .before .before .before .before .before .before .before .before .before .before .before .loop .place .0) (a .width) (omega (arith, c .before .before .before .before .before .before .before .before .before .before .if1 .left)) (c .before .before .before .before .before .before .before .before .before .field .ensures .0) (c .before .before .before .before .before .before .before .before .shown .ensures) (sym (c .before .before .before .before .before .before .before .allowed .ensures) ∙ c .before .before .before .before .before .before .if2 .taken)) (c .before .before .before .before .put .ensures) (weight-is (a .kind) (c .before .before .before .before .before .before .before .before .shown .result) (c .before .before .before .before .before .before .before .before .before .before .before .before .before .before .weights-of .ensures) (c .weight .ensures))
 
 same-length-2 : tie.Need-same-length-2 Inv-loop μ-loop
 same-length-2 c = c .before .before .before .before .before .before .before .loop .inv .size
 
 returns-2 : tie.Need-returns-2 Inv-loop μ-loop
-returns-2 c = let a = c .before .before .before .before .before .before .before .before .before .before .before .args in fields-stop (a .kind) (a .w) (now (a .s)) (now (a .t)) (a .k) (a .n) (a .at .0) (c .before .before .before .before .before .before .before .before .before .before .before .pre .1) (c .before .before .before .before .before .before .loop-test .taken) (c .before .before .before .before .before .before .before .loop .inv) (field-out (a .kind) (now (a .s)) (c .before .before .before .before .before .before .before .loop .place .0) (a .w) (omega (arith, c .before .before .before .before .if1 .left)) (c .before .before .before .field .ensures .0) (c .before .before .shown .ensures) (sym (c .before .allowed .ensures) ∙ c .if2 .left))
+returns-2 c = let a = c .before .before .before .before .before .before .before .before .before .before .before .args in fields-stop (a .kind) (a .width) (now (a .body)) (now (a .table)) (a .from) (a .count) (a .at .0) (c .before .before .before .before .before .before .before .before .before .before .before .pre .1) (c .before .before .before .before .before .before .loop-test .taken) (c .before .before .before .before .before .before .before .loop .inv) (field-out (a .kind) (now (a .body)) (c .before .before .before .before .before .before .before .loop .place .0) (a .width) (omega (arith, c .before .before .before .before .if1 .left)) (c .before .before .before .field .ensures .0) (c .before .before .shown .ensures) (sym (c .before .allowed .ensures) ∙ c .if2 .left))
 
 same-length-3 : tie.Need-same-length-3 Inv-loop μ-loop
 same-length-3 c = c .before .loop .inv .size
 
 returns-3 : tie.Need-returns-3 Inv-loop μ-loop
-returns-3 c = let a = c .before .before .before .before .before .args in fields-done (a .kind) (a .w) (now (a .s)) (now (a .t)) (a .k) (a .n) (a .at .0) (omega arith) (c .before .loop .inv)
+returns-3 c = let a = c .before .before .before .before .before .args in fields-done (a .kind) (a .width) (now (a .body)) (now (a .table)) (a .from) (a .count) (a .at .0) (omega arith) (c .before .loop .inv)
 
 pub read-fields-spec : {M : Type 1} → statement M
 read-fields-spec =
@@ -103,8 +103,8 @@ read-fields-spec =
     put-requires
     slice-aggregate-weight
     weight-requires
-    add-count
-    add-j
+    add-sum
+    add-index
     sub-left
     loop-less
     loop-again

@@ -21,7 +21,7 @@ same-length : tie.Need-same-length
 same-length c = search needs
 
 returns : tie.Need-returns
-returns c = let a = c .before .before .before .before .before .before .before .before .args in signed-run (a .kind) (a .w) (a .n) (now (a .s)) (now (a .t)) (a .k) (a .at .0) (sym (c .before .before .before .before .before .is-signed .ensures) ∙ c .before .before .before .before .if1 .taken) (c .before .before .read-signed .ensures)
+returns c = let a = c .before .before .before .before .before .before .before .before .args in signed-run (a .kind) (a .width) (a .count) (now (a .body)) (now (a .table)) (a .from) (a .at .0) (sym (c .before .before .before .before .before .is-signed .ensures) ∙ c .before .before .before .before .if1 .taken) (c .before .before .read-signed .ensures)
 
 read-fields-requires : tie.Need-read-fields-requires
 read-fields-requires c κs = search needs

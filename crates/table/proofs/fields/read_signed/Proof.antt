@@ -15,16 +15,16 @@ use Rattle.table.proofs.fields.read_fields.Reads as read-fields-reads
 use Rattle.table.proofs.room_for.Reads as room-for-reads
 
 abbrev Inv-loop : tie.InvT-loop
-Inv-loop w n s t₀ k step end m place₀ i₀ t place i = Laying w s t₀ k n place₀ t place i
+Inv-loop width count body table₀ from step end room place₀ i₀ table place i = Laying width body table₀ from count place₀ table place i
 
 abbrev μ-loop : tie.MeasureT-loop
-μ-loop w n s t₀ k step end m place₀ i₀ t place i = m - i
+μ-loop width count body table₀ from step end room place₀ i₀ table place i = room - i
 
 mul-end : tie.Need-mul-end Inv-loop μ-loop
-mul-end c = let a = c .before .before .args in omega (arith, run-small (a .n) (a .w) (c .before .before .pre .3) (c .before .before .pre .2))
+mul-end c = let a = c .before .before .args in omega (arith, run-small (a .count) (a .width) (c .before .before .pre .3) (c .before .before .pre .2))
 
 add-end : tie.Need-add-end Inv-loop μ-loop
-add-end c = let a = c .before .before .before .args in omega (arith, run-small (a .n) (a .w) (c .before .before .before .pre .3) (c .before .before .before .pre .2), c .before .before .before .pre .0 .0)
+add-end c = let a = c .before .before .before .args in omega (arith, run-small (a .count) (a .width) (c .before .before .before .pre .3) (c .before .before .before .pre .2), c .before .before .before .pre .0 .0)
 
 mul-if1 : tie.Need-mul-if1 Inv-loop μ-loop
 mul-if1 c = omega (arith, c .before .before .before .pre .0 .0)
@@ -42,34 +42,34 @@ room-for-requires : tie.Need-room-for-requires Inv-loop μ-loop
 room-for-requires c κs = tt
 
 loop-holds : tie.Need-loop-holds Inv-loop μ-loop
-loop-holds c = let a = c .before .before .before .before .before .args in laying-start (a .w) (now (a .s)) (now (a .t)) (a .k) (a .n) (a .at .0)
+loop-holds c = let a = c .before .before .before .before .before .args in laying-start (a .width) (now (a .body)) (now (a .table)) (a .from) (a .count) (a .at .0)
 
-add-j : tie.Need-add-j Inv-loop μ-loop
-add-j c = let a = c .before .before .before .before .before .before .before .args in omega (arith, laying-upto (a .w) (now (a .s)) (now (a .t)) (a .k) (a .n) (a .at .0) (c .before .loop .inv), c .before .before .before .before .before .before .before .pre .0, c .before .before .before .before .before .before .before .pre .3)
+add-index : tie.Need-add-index Inv-loop μ-loop
+add-index c = let a = c .before .before .before .before .before .before .before .args in omega (arith, laying-upto (a .width) (now (a .body)) (now (a .table)) (a .from) (a .count) (a .at .0) (c .before .loop .inv), c .before .before .before .before .before .before .before .pre .0, c .before .before .before .before .before .before .before .pre .3)
 
 field-requires : tie.Need-field-requires Inv-loop μ-loop
-field-requires c κs = let a = c .before .before .before .before .before .before .before .args in (laying-in (a .w) (now (a .s)) (now (a .t)) (a .k) (a .n) (a .at .0) (c .before .loop .inv) (omega (arith, c .loop-test .taken, c .before .before .room-for .ensures)) (omega (arith, c .before .before .before .if1 .left)), c .before .before .before .before .before .before .before .pre .0 .0 .1, c .before .before .before .before .before .before .before .pre .1, c .before .before .before .before .before .before .before .pre .2)
+field-requires c κs = let a = c .before .before .before .before .before .before .before .args in (laying-in (a .width) (now (a .body)) (now (a .table)) (a .from) (a .count) (a .at .0) (c .before .loop .inv) (omega (arith, c .loop-test .taken, c .before .before .room-for .ensures)) (omega (arith, c .before .before .before .if1 .left)), c .before .before .before .before .before .before .before .pre .0 .0 .1, c .before .before .before .before .before .before .before .pre .1, c .before .before .before .before .before .before .before .pre .2)
 
 extend-requires : tie.Need-extend-requires Inv-loop μ-loop
 extend-requires c κs = (c .before .before .before .before .before .before .before .before .pre .1, c .before .before .before .before .before .before .before .before .pre .2, c .field .ensures .1)
 
-mul-t : tie.Need-mul-t Inv-loop μ-loop
-mul-t c = search needs
+mul-table : tie.Need-mul-table Inv-loop μ-loop
+mul-table c = search needs
 
-slice-write-t : tie.Need-slice-write-t Inv-loop μ-loop
-slice-write-t c = omega (arith, c .before .before .before .loop .inv .stored .size, c .before .before .loop-test .taken, c .before .before .before .before .room-for .ensures)
+slice-write-table : tie.Need-slice-write-table Inv-loop μ-loop
+slice-write-table c = omega (arith, c .before .before .before .loop .inv .stored .size, c .before .before .loop-test .taken, c .before .before .before .before .room-for .ensures)
 
 add-place : tie.Need-add-place Inv-loop μ-loop
-add-place c = let a = c .before .before .before .before .before .before .before .before .before .args in omega (arith, laying-in (a .w) (now (a .s)) (now (a .t)) (a .k) (a .n) (a .at .0) (c .before .before .before .loop .inv) (omega (arith, c .before .before .loop-test .taken, c .before .before .before .before .room-for .ensures)) (omega (arith, c .before .before .before .before .before .if1 .left)), c .before .before .before .before .before .before .before .before .before .pre .0 .0 .1)
+add-place c = let a = c .before .before .before .before .before .before .before .before .before .args in omega (arith, laying-in (a .width) (now (a .body)) (now (a .table)) (a .from) (a .count) (a .at .0) (c .before .before .before .loop .inv) (omega (arith, c .before .before .loop-test .taken, c .before .before .before .before .room-for .ensures)) (omega (arith, c .before .before .before .before .before .if1 .left)), c .before .before .before .before .before .before .before .before .before .pre .0 .0 .1)
 
 add-i : tie.Need-add-i Inv-loop μ-loop
-add-i c = let a = c .before .before .before .before .before .before .before .before .before .args in omega (arith, laying-upto (a .w) (now (a .s)) (now (a .t)) (a .k) (a .n) (a .at .0) (c .before .before .before .loop .inv), c .before .before .before .before .before .before .before .before .before .pre .3)
+add-i c = let a = c .before .before .before .before .before .before .before .before .before .args in omega (arith, laying-upto (a .width) (now (a .body)) (now (a .table)) (a .from) (a .count) (a .at .0) (c .before .before .before .loop .inv), c .before .before .before .before .before .before .before .before .before .pre .3)
 
 loop-less : tie.Need-loop-less Inv-loop μ-loop
 loop-less c = omega (arith, c .before .before .loop-test .taken)
 
 loop-again : tie.Need-loop-again Inv-loop μ-loop
-loop-again c = let a = c .before .before .before .before .before .before .before .before .before .args in laying-next (a .w) (now (a .s)) (now (a .t)) (a .k) (a .n) (a .at .0) (c .before .before .before .loop .inv) (omega (arith, c .before .before .loop-test .taken, c .before .before .before .before .room-for .ensures)) (c .before .field .ensures .0) (c .extend .ensures)
+loop-again c = let a = c .before .before .before .before .before .before .before .before .before .args in laying-next (a .width) (now (a .body)) (now (a .table)) (a .from) (a .count) (a .at .0) (c .before .before .before .loop .inv) (omega (arith, c .before .before .loop-test .taken, c .before .before .before .before .room-for .ensures)) (c .before .field .ensures .0) (c .extend .ensures)
 
 add-t16 : tie.Need-add-t16 Inv-loop μ-loop
 add-t16 c = omega (arith, c .before .before .before .before .before .before .before .pre .0, c .before .before .before .before .before .before .before .pre .3)
@@ -78,7 +78,7 @@ same-length-2 : tie.Need-same-length-2 Inv-loop μ-loop
 same-length-2 c = c .before .loop .inv .stored .size
 
 returns-2 : tie.Need-returns-2 Inv-loop μ-loop
-returns-2 c = let a = c .before .before .before .before .before .before .before .args in laying-done (a .w) (now (a .s)) (now (a .t)) (a .k) (a .n) (a .at .0) (c .before .loop .inv) {m = c .before .before .room-for .result} (rw (c .before .loop .inv .stored .size) (c .before .before .room-for .ensures)) (omega (arith, c .loop-test .left)) refl (omega (arith, c .before .before .before .if1 .left))
+returns-2 c = let a = c .before .before .before .before .before .before .before .args in laying-done (a .width) (now (a .body)) (now (a .table)) (a .from) (a .count) (a .at .0) (c .before .loop .inv) {m = c .before .before .room-for .result} (rw (c .before .loop .inv .stored .size) (c .before .before .room-for .ensures)) (omega (arith, c .loop-test .left)) refl (omega (arith, c .before .before .before .if1 .left))
 
 pub read-signed-spec : {M : Type 1} → statement M
 read-signed-spec =
@@ -94,11 +94,11 @@ read-signed-spec =
     returns
     room-for-requires
     loop-holds
-    add-j
+    add-index
     field-requires
     extend-requires
-    mul-t
-    slice-write-t
+    mul-table
+    slice-write-table
     add-place
     add-i
     loop-less

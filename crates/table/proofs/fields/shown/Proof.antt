@@ -18,7 +18,7 @@ extend-requires : tie.Need-extend-requires
 extend-requires c κs = search needs
 
 returns : tie.Need-returns
-returns c = let a = c .before .before .before .args in c .extend .ensures ∙ ap (λ (b : Bool). pick b (signExtend (a .w) (a .x)) (a .x)) (sym (c .before .if1 .taken) ∙ c .before .before .is-signed .ensures)
+returns c = let a = c .before .before .before .args in c .extend .ensures ∙ ap (λ (b : Bool). pick b (signExtend (a .width) (a .raw)) (a .raw)) (sym (c .before .if1 .taken) ∙ c .before .before .is-signed .ensures)
 
 returns-2 : tie.Need-returns-2
 returns-2 c = search needs

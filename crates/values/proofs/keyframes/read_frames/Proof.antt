@@ -17,74 +17,59 @@ use Rattle.values.proofs.keyframes.read_easing.Reads as read-easing-rea
 use Rattle.values.proofs.keyframes.read_values_part.Reads as read-values-part-reads
 use Rattle.values.proofs.read_in_turn.Reads as read-in-turn-reads
 
--- src/keyframes.rt:73:42
 add-read-in-turn : tie.Need-add-read-in-turn
 add-read-in-turn c = search needs
 
--- src/keyframes.rt:73:9
 read-in-turn-requires : tie.Need-read-in-turn-requires
 read-in-turn-requires c κs = search needs
 
--- src/keyframes.rt:74:19
 enum-known-r : tie.Need-enum-known-r
 enum-known-r c = search needs
 
--- src/keyframes.rt:75:9
 enum-told : tie.Need-enum-told
 enum-told c = search needs
 
--- src/keyframes.rt:75:9
 same-length : tie.Need-same-length
 same-length c = search needs
 
--- src/keyframes.rt:75:9
 returns : tie.Need-returns
-returns c = let a = c .before .before .before .before .before .before .before .before .args in frames-is (typeOf (a .what)) (now (a .s)) (now (a .t)) (a .k) (a .n) (a .easing) (a .at .0)
-    (run-stop (now (a .s)) (now (a .t)) (a .k) (times (a .n + 1) time) (a .at .0) (c .before .before .before .before .read-in-turn .ensures) (λ xs. (aligned ▸ values (typeOf (a .what)) (a .n + 1)) ▸ (aligned ▸ scaled (a .easing))) (c .enum-told .given .1))
+returns c = let a = c .before .before .before .before .before .before .before .before .args in frames-is (typeOf (a .what)) (now (a .body)) (now (a .table)) (a .from) (a .frames) (a .easing) (a .at .0)
+    (run-stop (now (a .body)) (now (a .table)) (a .from) (times (a .frames + 1) time) (a .at .0) (c .before .before .before .before .read-in-turn .ensures) (λ xs. (aligned ▸ values (typeOf (a .what)) (a .frames + 1)) ▸ (aligned ▸ scaled (a .easing))) (c .enum-told .given .1))
 
--- src/keyframes.rt:77:36
 add-read-values-part : tie.Need-add-read-values-part
 add-read-values-part c = search needs
 
--- src/keyframes.rt:77:9
 read-values-part-requires : tie.Need-read-values-part-requires
-read-values-part-requires c κs = let a = c .before .before .before .before .before .before .before .before .before .before .args in (run-fits (now (a .s)) (now (a .t)) (a .k) (times (a .n + 1) time) (a .at .0) (c .before .before .before .before .before .before .read-in-turn .ensures) (c .before .before .r .given .1) (fair-times-of (a .n + 1)) (c .before .before .before .before .before .before .before .before .before .before .pre .0), omega (arith, c .before .before .before .before .before .before .before .before .before .before .pre .1))
+read-values-part-requires c κs = let a = c .before .before .before .before .before .before .before .before .before .before .args in (run-fits (now (a .body)) (now (a .table)) (a .from) (times (a .frames + 1) time) (a .at .0) (c .before .before .before .before .before .before .read-in-turn .ensures) (c .before .before .r .given .1) (fair-times-of (a .frames + 1)) (c .before .before .before .before .before .before .before .before .before .before .pre .0), omega (arith, c .before .before .before .before .before .before .before .before .before .before .pre .1))
 
--- src/keyframes.rt:78:19
 enum-known-r-2 : tie.Need-enum-known-r-2
 enum-known-r-2 c = search needs
 
--- src/keyframes.rt:79:9
 enum-told-2 : tie.Need-enum-told-2
 enum-told-2 c = search needs
 
--- src/keyframes.rt:79:9
 same-length-2 : tie.Need-same-length-2
 same-length-2 c = search needs
 
--- src/keyframes.rt:79:9
 returns-2 : tie.Need-returns-2
-returns-2 c = let a = c .before .before .before .before .before .before .before .before .before .before .before .before .before .before .before .args in frames-is (typeOf (a .what)) (now (a .s)) (now (a .t)) (a .k) (a .n) (a .easing) (a .at .0)
-    (run-done (now (a .s)) (now (a .t)) (a .k) (times (a .n + 1) time) (a .at .0) (c .before .before .before .before .before .before .before .before .before .before .before .read-in-turn .ensures) (λ xs. (aligned ▸ values (typeOf (a .what)) (a .n + 1)) ▸ (aligned ▸ scaled (a .easing))) (c .before .before .before .before .before .before .before .r .given .1)
-    (run-stop (now (a .s)) _ _ (aligned ▸ values (typeOf (a .what)) (a .n + 1)) _ (c .before .before .before .before .read-values-part .ensures) (λ xs. aligned ▸ scaled (a .easing)) (c .enum-told2 .given .1)))
+returns-2 c = let a = c .before .before .before .before .before .before .before .before .before .before .before .before .before .before .before .args in frames-is (typeOf (a .what)) (now (a .body)) (now (a .table)) (a .from) (a .frames) (a .easing) (a .at .0)
+    (run-done (now (a .body)) (now (a .table)) (a .from) (times (a .frames + 1) time) (a .at .0) (c .before .before .before .before .before .before .before .before .before .before .before .read-in-turn .ensures) (λ xs. (aligned ▸ values (typeOf (a .what)) (a .frames + 1)) ▸ (aligned ▸ scaled (a .easing))) (c .before .before .before .before .before .before .before .r .given .1)
+    (run-stop (now (a .body)) _ _ (aligned ▸ values (typeOf (a .what)) (a .frames + 1)) _ (c .before .before .before .before .read-values-part .ensures) (λ xs. aligned ▸ scaled (a .easing)) (c .enum-told2 .given .1)))
 
--- src/keyframes.rt:81:5
 read-easing-requires : tie.Need-read-easing-requires
 read-easing-requires c κs = let a = c .before .before .before .before .before .before .before .before .before .before .before .before .before .before .before .before .before .args in (
-  run-fits (now (a .s)) _ _ (aligned ▸ values (typeOf (a .what)) (a .n + 1)) _ (c .before .before .before .before .before .before .read-values-part .ensures) (c .before .before .r2 .given .1) (fair-part (typeOf (a .what)) (a .n + 1))
-      (run-fits (now (a .s)) (now (a .t)) (a .k) (times (a .n + 1) time) (a .at .0) (c .before .before .before .before .before .before .before .before .before .before .before .before .before .read-in-turn .ensures) (c .before .before .before .before .before .before .before .before .before .r .given .1) (fair-times-of (a .n + 1)) (c .before .before .before .before .before .before .before .before .before .before .before .before .before .before .before .before .before .pre .0)),
+  run-fits (now (a .body)) _ _ (aligned ▸ values (typeOf (a .what)) (a .frames + 1)) _ (c .before .before .before .before .before .before .read-values-part .ensures) (c .before .before .r2 .given .1) (fair-part (typeOf (a .what)) (a .frames + 1))
+      (run-fits (now (a .body)) (now (a .table)) (a .from) (times (a .frames + 1) time) (a .at .0) (c .before .before .before .before .before .before .before .before .before .before .before .before .before .read-in-turn .ensures) (c .before .before .before .before .before .before .before .before .before .r .given .1) (fair-times-of (a .frames + 1)) (c .before .before .before .before .before .before .before .before .before .before .before .before .before .before .before .before .before .pre .0)),
   c .before .before .before .before .before .before .before .before .before .before .before .before .before .before .before .before .before .pre .2,
 )
 
--- src/keyframes.rt:69:1
 same-length-3 : tie.Need-same-length-3
 same-length-3 c = search needs
 
--- src/keyframes.rt:69:1
 returns-3 : tie.Need-returns-3
-returns-3 c = let a = c .before .before .before .before .before .before .before .before .before .before .before .before .before .before .before .before .before .before .before .before .args in frames-is (typeOf (a .what)) (now (a .s)) (now (a .t)) (a .k) (a .n) (a .easing) (a .at .0)
-    (run-done (now (a .s)) (now (a .t)) (a .k) (times (a .n + 1) time) (a .at .0) (c .before .before .before .before .before .before .before .before .before .before .before .before .before .before .before .before .read-in-turn .ensures) (λ xs. (aligned ▸ values (typeOf (a .what)) (a .n + 1)) ▸ (aligned ▸ scaled (a .easing))) (c .before .before .before .before .before .before .before .before .before .before .before .before .r .given .1)
-    (run-done (now (a .s)) _ _ (aligned ▸ values (typeOf (a .what)) (a .n + 1)) _ (c .before .before .before .before .before .before .before .before .before .read-values-part .ensures) (λ xs. aligned ▸ scaled (a .easing)) (c .before .before .before .before .before .r2 .given .1) (c .before .before .read-easing .ensures)))
+returns-3 c = let a = c .before .before .before .before .before .before .before .before .before .before .before .before .before .before .before .before .before .before .before .before .args in frames-is (typeOf (a .what)) (now (a .body)) (now (a .table)) (a .from) (a .frames) (a .easing) (a .at .0)
+    (run-done (now (a .body)) (now (a .table)) (a .from) (times (a .frames + 1) time) (a .at .0) (c .before .before .before .before .before .before .before .before .before .before .before .before .before .before .before .before .read-in-turn .ensures) (λ xs. (aligned ▸ values (typeOf (a .what)) (a .frames + 1)) ▸ (aligned ▸ scaled (a .easing))) (c .before .before .before .before .before .before .before .before .before .before .before .before .r .given .1)
+    (run-done (now (a .body)) _ _ (aligned ▸ values (typeOf (a .what)) (a .frames + 1)) _ (c .before .before .before .before .before .before .before .before .before .read-values-part .ensures) (λ xs. aligned ▸ scaled (a .easing)) (c .before .before .before .before .before .r2 .given .1) (c .before .before .read-easing .ensures)))
 
 pub read-frames-spec : {M : Type 1} → statement M
 read-frames-spec =

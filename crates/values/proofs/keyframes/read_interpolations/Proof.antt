@@ -13,77 +13,61 @@ use Rattle.values.proofs.keyframes.read_interpolations.Lts as lts
 use Rattle.bits.proofs.align.Reads as align-reads
 use Rattle.table.proofs.fields.read_fields.Reads as read-fields-reads
 
--- src/keyframes.rt:31:9
 align-requires : tie.Need-align-requires
 align-requires c κs = search needs
 
--- src/keyframes.rt:32:27
-enum-known-a : tie.Need-enum-known-a
-enum-known-a c = search needs
+enum-known-aligned : tie.Need-enum-known-aligned
+enum-known-aligned c = search needs
 
--- src/keyframes.rt:33:33
 enum-told : tie.Need-enum-told
 enum-told c = search needs
 
--- src/keyframes.rt:33:9
 returns : tie.Need-returns
-returns c = let a = c .before .before .before .before .before .args in frames-never (now (a .s)) (now (a .t)) (a .k) (a .n) (a .at .0) (kindOf (a .kind)) (align-never (now (a .s)) (a .at .0) (sym (c .before .before .align .ensures) ∙ c .enum-told .given .1))
+returns c = let a = c .before .before .before .before .before .args in frames-never (now (a .body)) (now (a .table)) (a .from) (a .frames) (a .at .0) (kindOf (a .kind)) (align-never (now (a .body)) (a .at .0) (sym (c .before .before .align .ensures) ∙ c .enum-told .given .1))
 
--- src/keyframes.rt:36:52
 enum-told-2 : tie.Need-enum-told-2
 enum-told-2 c = search needs
 
--- src/keyframes.rt:36:25
 read-fields-requires : tie.Need-read-fields-requires
-read-fields-requires c κs = let a = c .before .before .before .before .before .before .before .before .before .args in (align-fits (now (a .s)) (a .at .0) (sym (c .before .before .before .before .before .before .align .ensures) ∙ c .before .before .before .before .a .given .1) (c .before .before .before .before .before .before .before .before .before .pre .0), lit≤ tt, lit≤ tt, omega (arith, c .before .before .before .before .before .before .before .before .before .pre .1))
+read-fields-requires c κs = let a = c .before .before .before .before .before .before .before .before .before .args in (align-fits (now (a .body)) (a .at .0) (sym (c .before .before .before .before .before .before .align .ensures) ∙ c .before .before .before .before .aligned .given .1) (c .before .before .before .before .before .before .before .before .before .pre .0), lit≤ tt, lit≤ tt, omega (arith, c .before .before .before .before .before .before .before .before .before .pre .1))
 
--- src/keyframes.rt:37:41
 enum-told-3 : tie.Need-enum-told-3
 enum-told-3 c = search needs
 
--- src/keyframes.rt:38:41
 enum-told-4 : tie.Need-enum-told-4
 enum-told-4 c = search needs
 
--- src/keyframes.rt:39:43
 enum-told-5 : tie.Need-enum-told-5
 enum-told-5 c = search needs
 
--- src/keyframes.rt:40:44
 enum-told-6 : tie.Need-enum-told-6
 enum-told-6 c = search needs
 
--- src/keyframes.rt:26:1
 same-length : tie.Need-same-length
 same-length c = search needs
 
--- src/keyframes.rt:26:1
 returns-2 : tie.Need-returns-2
-returns-2 c = let a = c .before .before .before .before .before .before .before .before .before .before .before .before .args in frames-of (now (a .s)) (now (a .t)) (a .k) (a .n) (a .at .0) _ (c .before .before .before .before .enum-told2 .given .1)
-    (frames-some (now (a .s)) (now (a .t)) (a .k) (a .n) (a .at .0) (align-none (now (a .s)) (a .at .0) (sym (c .before .before .before .before .before .before .before .before .before .align .ensures) ∙ c .before .before .before .before .before .before .before .a .given .1)) (c .before .before .read-fields .ensures .0) (c .before .before .read-fields .ensures .1))
+returns-2 c = let a = c .before .before .before .before .before .before .before .before .before .before .before .before .args in frames-of (now (a .body)) (now (a .table)) (a .from) (a .frames) (a .at .0) _ (c .before .before .before .before .enum-told2 .given .1)
+    (frames-some (now (a .body)) (now (a .table)) (a .from) (a .frames) (a .at .0) (align-none (now (a .body)) (a .at .0) (sym (c .before .before .before .before .before .before .before .before .before .align .ensures) ∙ c .before .before .before .before .before .before .before .aligned .given .1)) (c .before .before .read-fields .ensures .0) (c .before .before .read-fields .ensures .1))
 
--- src/keyframes.rt:26:1
 returns-3 : tie.Need-returns-3
-returns-3 c = let a = c .before .before .before .before .before .before .before .before .args in frames-none (now (a .s)) (now (a .t)) (a .k) (a .n) (a .at .0) (c .enum-told3 .given .1) refl (align-none (now (a .s)) (a .at .0) (sym (c .before .before .before .before .before .align .ensures) ∙ c .before .before .before .a .given .1))
+returns-3 c = let a = c .before .before .before .before .before .before .before .before .args in frames-none (now (a .body)) (now (a .table)) (a .from) (a .frames) (a .at .0) (c .enum-told3 .given .1) refl (align-none (now (a .body)) (a .at .0) (sym (c .before .before .before .before .before .align .ensures) ∙ c .before .before .before .aligned .given .1))
 
--- src/keyframes.rt:26:1
 returns-4 : tie.Need-returns-4
-returns-4 c = let a = c .before .before .before .before .before .before .before .before .args in frames-none (now (a .s)) (now (a .t)) (a .k) (a .n) (a .at .0) (c .enum-told4 .given .1) refl (align-none (now (a .s)) (a .at .0) (sym (c .before .before .before .before .before .align .ensures) ∙ c .before .before .before .a .given .1))
+returns-4 c = let a = c .before .before .before .before .before .before .before .before .args in frames-none (now (a .body)) (now (a .table)) (a .from) (a .frames) (a .at .0) (c .enum-told4 .given .1) refl (align-none (now (a .body)) (a .at .0) (sym (c .before .before .before .before .before .align .ensures) ∙ c .before .before .before .aligned .given .1))
 
--- src/keyframes.rt:26:1
 returns-5 : tie.Need-returns-5
-returns-5 c = let a = c .before .before .before .before .before .before .before .before .args in frames-none (now (a .s)) (now (a .t)) (a .k) (a .n) (a .at .0) (c .enum-told5 .given .1) refl (align-none (now (a .s)) (a .at .0) (sym (c .before .before .before .before .before .align .ensures) ∙ c .before .before .before .a .given .1))
+returns-5 c = let a = c .before .before .before .before .before .before .before .before .args in frames-none (now (a .body)) (now (a .table)) (a .from) (a .frames) (a .at .0) (c .enum-told5 .given .1) refl (align-none (now (a .body)) (a .at .0) (sym (c .before .before .before .before .before .align .ensures) ∙ c .before .before .before .aligned .given .1))
 
--- src/keyframes.rt:26:1
 returns-6 : tie.Need-returns-6
-returns-6 c = let a = c .before .before .before .before .before .before .before .before .args in frames-none (now (a .s)) (now (a .t)) (a .k) (a .n) (a .at .0) (c .enum-told6 .given .1) refl (align-none (now (a .s)) (a .at .0) (sym (c .before .before .before .before .before .align .ensures) ∙ c .before .before .before .a .given .1))
+returns-6 c = let a = c .before .before .before .before .before .before .before .before .args in frames-none (now (a .body)) (now (a .table)) (a .from) (a .frames) (a .at .0) (c .enum-told6 .given .1) refl (align-none (now (a .body)) (a .at .0) (sym (c .before .before .before .before .before .align .ensures) ∙ c .before .before .before .aligned .given .1))
 
 pub read-interpolations-spec : {M : Type 1} → statement M
 read-interpolations-spec =
     tie.close
     (tie.spec
     align-requires
-    enum-known-a
+    enum-known-aligned
     enum-told
     returns
     enum-told-2

@@ -11,15 +11,15 @@ use Rattle.write_values.proofs.keyframes.write_values_part.Tie as tie
 skip-requires : tie.Need-skip-requires
 skip-requires c κs = search needs
 
-write-values-requires : tie.Need-write-values-requires
-write-values-requires c κs = search needs
+write-frame-values-requires : tie.Need-write-frame-values-requires
+write-frame-values-requires c κs = search needs
 
 same-length : tie.Need-same-length
 same-length c = search needs
 
 returns : tie.Need-returns
-returns c = let a = c .before .before .before .before .before .before .before .before .before .before .args in align-on (now (a .t)) (at (now (a .out)) (a .s)) (a .k) (c .before .before .before .before .before .before .before .before .before .before .pre .0 .1) (c .before .before .before .before .before .before .skip .ensures .0) (λ xs. values (typeOf (a .what)) (a .n)) (c .before .before .write-values .ensures)
+returns c = let a = c .before .before .before .before .before .before .before .before .before .before .args in align-on (now (a .values)) (at (now (a .out)) (a .sink)) (a .from) (c .before .before .before .before .before .before .before .before .before .before .pre .0 .1) (c .before .before .before .before .before .before .skip .ensures .0) (λ xs. values (typeOf (a .what)) (a .count)) (c .before .before .write-frame-values .ensures)
 
 pub write-values-part-spec : {M : Type 1} → statement M
 write-values-part-spec =
-    tie.close (tie.spec skip-requires write-values-requires same-length returns)
+    tie.close (tie.spec skip-requires write-frame-values-requires same-length returns)

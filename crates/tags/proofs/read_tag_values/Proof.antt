@@ -1,0 +1,89 @@
+use denote.Ref.{now}
+use mathlib.Core.Path.{refl}
+use Rattle.classes.specs.declared.Class.the-variants.{Opaque, End, Container, Fixed, Attributes}
+use Rattle.tags.proofs.TagLaws.{none-left, values-of}
+use borrow.Author.Needs.{needs}
+use Rattle.tags.proofs.read_tag_values.Statement.{statement}
+use Rattle.tags.proofs.read_tag_values.Tie as tie
+use Rattle.tags.proofs.read_tag_values.Reads as reads
+use Rattle.tags.proofs.read_tag_values.Lts as lts
+use Rattle.bodies.proofs.read_body.Reads as read-body-reads
+use Rattle.tags.proofs.copy_bytes.Reads as copy-bytes-reads
+use Rattle.tags.proofs.read_front.Reads as read-front-reads
+
+enum-told : tie.Need-enum-told
+enum-told c = search needs
+
+copy-bytes-requires : tie.Need-copy-bytes-requires
+copy-bytes-requires c κs = search needs
+
+enum-told-2 : tie.Need-enum-told-2
+enum-told-2 c = search needs
+
+enum-told-3 : tie.Need-enum-told-3
+enum-told-3 c = search needs
+
+read-front-requires : tie.Need-read-front-requires
+read-front-requires c κs = search needs
+
+enum-told-4 : tie.Need-enum-told-4
+enum-told-4 c = search needs
+
+read-body-requires : tie.Need-read-body-requires
+read-body-requires c κs = search needs
+
+enum-told-5 : tie.Need-enum-told-5
+enum-told-5 c = search needs
+
+read-body-requires-2 : tie.Need-read-body-requires-2
+read-body-requires-2 c κs = search needs
+
+same-length : tie.Need-same-length
+same-length c = search needs
+
+returns : tie.Need-returns
+returns c = let a = c .before .before .before .before .before .before .before .before .args in values-of (now (a .body)) (now (a .table)) (a .from) (a .code) Opaque (c .before .before .before .before .enum-told .given .1) (c .before .before .copy-bytes .ensures)
+
+returns-2 : tie.Need-returns-2
+returns-2 c = let a = c .before .before .before .before .args in values-of (now (a .body)) (now (a .table)) (a .from) (a .code) End (c .enum-told2 .given .1) (none-left (now (a .table)) (a .from) refl)
+
+same-length-2 : tie.Need-same-length-2
+same-length-2 c = search needs
+
+returns-3 : tie.Need-returns-3
+returns-3 c = let a = c .before .before .before .before .before .before .before .before .args in values-of (now (a .body)) (now (a .table)) (a .from) (a .code) Container (c .before .before .before .before .enum-told3 .given .1) (c .before .before .read-front .ensures)
+
+same-length-3 : tie.Need-same-length-3
+same-length-3 c = search needs
+
+returns-4 : tie.Need-returns-4
+returns-4 c = let a = c .before .before .before .before .before .before .before .before .args in values-of (now (a .body)) (now (a .table)) (a .from) (a .code) Fixed (c .before .before .before .before .enum-told4 .given .1) (c .before .before .read-body .ensures)
+
+same-length-4 : tie.Need-same-length-4
+same-length-4 c = search needs
+
+returns-5 : tie.Need-returns-5
+returns-5 c = let a = c .before .before .before .before .before .before .before .before .args in values-of (now (a .body)) (now (a .table)) (a .from) (a .code) Attributes (c .before .before .before .before .enum-told5 .given .1) (c .before .before .read-body2 .ensures)
+
+pub read-tag-values-spec : {M : Type 1} → statement M
+read-tag-values-spec =
+    tie.close
+    (tie.spec
+    enum-told
+    copy-bytes-requires
+    enum-told-2
+    enum-told-3
+    read-front-requires
+    enum-told-4
+    read-body-requires
+    enum-told-5
+    read-body-requires-2
+    same-length
+    returns
+    returns-2
+    same-length-2
+    returns-3
+    same-length-3
+    returns-4
+    same-length-4
+    returns-5)

@@ -1,0 +1,93 @@
+use denote.Ref.{now}
+use native.Mathlib.Omega.{arith}
+use Rattle.classes.specs.declared.Class.the-variants.{Opaque, End, Container, Fixed, Attributes}
+use Rattle.write_lists.proofs.ValueLaws.{values-of, end-none, end-some}
+use borrow.Author.Needs.{needs}
+use Rattle.write_lists.proofs.write_tag_values.Statement.{statement}
+use Rattle.write_lists.proofs.write_tag_values.Tie as tie
+use Rattle.write_lists.proofs.write_tag_values.Reads as reads
+use Rattle.write_lists.proofs.write_tag_values.Lts as lts
+use Rattle.write_bodies.proofs.write_body.Reads as write-body-reads
+use Rattle.write_bodies.proofs.write_front.Reads as write-front-reads
+use Rattle.write_lists.proofs.copy_bytes.Reads as copy-bytes-reads
+
+enum-told : tie.Need-enum-told
+enum-told c = search needs
+
+copy-bytes-requires : tie.Need-copy-bytes-requires
+copy-bytes-requires c κs = search needs
+
+enum-told-2 : tie.Need-enum-told-2
+enum-told-2 c = search needs
+
+enum-told-3 : tie.Need-enum-told-3
+enum-told-3 c = search needs
+
+write-front-requires : tie.Need-write-front-requires
+write-front-requires c κs = search needs
+
+enum-told-4 : tie.Need-enum-told-4
+enum-told-4 c = search needs
+
+write-body-requires : tie.Need-write-body-requires
+write-body-requires c κs = search needs
+
+enum-told-5 : tie.Need-enum-told-5
+enum-told-5 c = search needs
+
+write-body-requires-2 : tie.Need-write-body-requires-2
+write-body-requires-2 c κs = search needs
+
+same-length : tie.Need-same-length
+same-length c = search needs
+
+returns : tie.Need-returns
+returns c = values-of (now (c .before .before .before .before .before .before .before .before .args .out)) (c .before .before .before .before .before .before .before .before .args .at .0) (now (c .before .before .before .before .before .before .before .before .args .values)) (c .before .before .before .before .before .before .before .before .args .code) Opaque (c .before .before .before .before .enum-told .given .1) (c .before .before .copy-bytes .ensures)
+
+returns-2 : tie.Need-returns-2
+returns-2 c = values-of (now (c .before .before .before .before .before .args .out)) (c .before .before .before .before .before .args .at .0) (now (c .before .before .before .before .before .args .values)) (c .before .before .before .before .before .args .code) End (c .before .enum-told2 .given .1) (end-none (now (c .before .before .before .before .before .args .out)) (c .before .before .before .before .before .args .at .0) (now (c .before .before .before .before .before .args .values)) (c .before .before .before .before .before .args .code) (c .before .before .before .before .before .pre) (omega (arith, c .if1 .taken)))
+
+returns-3 : tie.Need-returns-3
+returns-3 c = values-of (now (c .before .before .before .before .before .args .out)) (c .before .before .before .before .before .args .at .0) (now (c .before .before .before .before .before .args .values)) (c .before .before .before .before .before .args .code) End (c .before .enum-told2 .given .1) (end-some (now (c .before .before .before .before .before .args .out)) (c .before .before .before .before .before .args .at .0) (now (c .before .before .before .before .before .args .values)) (c .before .before .before .before .before .args .code) (c .if1 .left))
+
+same-length-2 : tie.Need-same-length-2
+same-length-2 c = search needs
+
+returns-4 : tie.Need-returns-4
+returns-4 c = values-of (now (c .before .before .before .before .before .before .before .before .args .out)) (c .before .before .before .before .before .before .before .before .args .at .0) (now (c .before .before .before .before .before .before .before .before .args .values)) (c .before .before .before .before .before .before .before .before .args .code) Container (c .before .before .before .before .enum-told3 .given .1) (c .before .before .write-front .ensures)
+
+same-length-3 : tie.Need-same-length-3
+same-length-3 c = search needs
+
+returns-5 : tie.Need-returns-5
+returns-5 c = values-of (now (c .before .before .before .before .before .before .before .before .args .out)) (c .before .before .before .before .before .before .before .before .args .at .0) (now (c .before .before .before .before .before .before .before .before .args .values)) (c .before .before .before .before .before .before .before .before .args .code) Fixed (c .before .before .before .before .enum-told4 .given .1) (c .before .before .write-body .ensures)
+
+same-length-4 : tie.Need-same-length-4
+same-length-4 c = search needs
+
+returns-6 : tie.Need-returns-6
+returns-6 c = values-of (now (c .before .before .before .before .before .before .before .before .args .out)) (c .before .before .before .before .before .before .before .before .args .at .0) (now (c .before .before .before .before .before .before .before .before .args .values)) (c .before .before .before .before .before .before .before .before .args .code) Attributes (c .before .before .before .before .enum-told5 .given .1) (c .before .before .write-body2 .ensures)
+
+pub write-tag-values-spec : {M : Type 1} → statement M
+write-tag-values-spec =
+    tie.close
+    (tie.spec
+    enum-told
+    copy-bytes-requires
+    enum-told-2
+    enum-told-3
+    write-front-requires
+    enum-told-4
+    write-body-requires
+    enum-told-5
+    write-body-requires-2
+    same-length
+    returns
+    returns-2
+    returns-3
+    same-length-2
+    returns-4
+    same-length-3
+    returns-5
+    same-length-4
+    returns-6)
