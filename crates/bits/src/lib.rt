@@ -80,7 +80,7 @@ pub fn align(bytes: &[u8], at: BitPlace) -> Aligned
 {
     let place = at.0;
     let used = place % 8;
-    // Nearly every item starts on a whole byte, and the compiler makes a shift of the call where it knows that.
+    // Asked before the call: counted, it then costs no more than the shift that it stands for (docs/SPEED.md).
     if used == 0 {
         let whole = next_byte(at);
         let start = whole.byte;
