@@ -22,7 +22,7 @@ alone ns (At p) = gives ns
 alone ns (Fault e) = refuses e 0
 
 abbrev pub read : Case → Result
-read (file level f) = readFile high level f
+read (file level f) = readFile 0 level f
 read (body y b) = alone (readBody high y b .shown) (readBody high y b .ended)
 read (part f b) = alone (run high b f 0 .shown) (run high b f 0 .ended)
 
@@ -103,10 +103,10 @@ roomExamples =
     }
     ∷ []
 
-pub rooms-read : map (λ (x : RoomExample). into (x .lent) (readFile high 1023 file1)) roomExamples ≡ map (λ (x : RoomExample). x .table) roomExamples
+pub rooms-read : map (λ (x : RoomExample). into (x .lent) (readFile 0 1023 file1)) roomExamples ≡ map (λ (x : RoomExample). x .table) roomExamples
 unfolding readFile walkFile startFault classOf walk
 rooms-read = refl
 
-pub rooms-tags : map (λ (x : RoomExample). into (x .lent) (readTags high 1023 file1)) roomExamples ≡ map (λ (x : RoomExample). x .tagTable) roomExamples
+pub rooms-tags : map (λ (x : RoomExample). into (x .lent) (readTags 0 1023 file1)) roomExamples ≡ map (λ (x : RoomExample). x .tagTable) roomExamples
 unfolding readTags walkFile startFault classOf walk
 rooms-tags = refl

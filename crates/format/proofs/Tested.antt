@@ -3,7 +3,7 @@
 use Prim.Native.Nat.{ℕ}
 use mathlib.Core.List.{List, [], _∷_, map}
 use mathlib.Core.Path.{_≡_, refl}
-use Rattle.format.specs.Bits.{high, bitAt, ub}
+use Rattle.format.specs.Bits.{bitAt, ub}
 use Rattle.format.specs.Formats.{times}
 use Rattle.format.specs.Items.{readVar, readLE, readText, readFlag, readItem, run}
 use Rattle.format.specs.Bodies.{allFlags, rows, readBlock, readPart, readBody}
@@ -36,6 +36,6 @@ tests =
     ∷ record { level = 1023; file = (0x50 ∷ 0x41 ∷ 0x47 ∷ 0x01 ∷ 0x19 ∷ 0x00 ∷ 0x00 ∷ 0x00 ∷ 0x00 ∷ 0x8C ∷ 0x03 ∷ 0x20 ∷ 0x01 ∷ 0x05 ∷ 0x2E ∷ 0x30 ∷ 0x91 ∷ 0x90 ∷ 0x00 ∷ 0x4B ∷ 0x19 ∷ 0x01 ∷ 0x91 ∷ 0x00 ∷ 0x00 ∷ []); result = refuses 15 9 }
     ∷ []
 
-pub tested : map (λ (t : Test). readFile high (t .level) (t .file)) tests ≡ map (λ (t : Test). t .result) tests
+pub tested : map (λ (t : Test). readFile 0 (t .level) (t .file)) tests ≡ map (λ (t : Test). t .result) tests
 unfolding readFile walkFile startFault classOf walk readBody readPart readBlock allFlags rows run times readItem readVar readLE readText readFlag ub bitAt
 tested = refl
