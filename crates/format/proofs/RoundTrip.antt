@@ -44,7 +44,6 @@ spell-back : (l : ℕ) → l < 2 ^ 32 → le32 (spell32 l) ≡ l
 spell-back l h = omega arith
 
 module _ (order level : ℕ) where
-
   -- ---- what is read is written again
   abbrev FileIf : List ℕ → Outcome → List ℕ → Type 0
   FileIf f whole t = writeFile order level t ≡ this f
