@@ -436,3 +436,8 @@ pub reason-pos : {e : ℕ} → IsReason e ⊎ (e ≡ 19) → 1 ≤ e
 reason-pos (inl (inl h)) = h .0
 reason-pos (inl (inr h)) = omega (arith, h)
 reason-pos (inr h) = omega (arith, h)
+
+-- and none of a file is 19
+pub not-19 : {e : ℕ} → IsReason e → e ≡ 19 → ⊥
+not-19 (inl h) q = absurd (omega (arith, h .1, q))
+not-19 (inr h) q = absurd (omega (arith, h, q))
