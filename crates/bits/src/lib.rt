@@ -2,7 +2,7 @@
 ghost use mathlib.Core.Path.{_≡_};
 ghost use Prim.Native.Nat.{_+_, _*_, _^_, _<_};
 ghost use lib.ListN.{getD};
-ghost use Rattle.format.specs.Bits.{named};
+ghost use Rattle.format.specs.Bits.{orderNamed};
 ghost use Rattle.format.specs.Items.{skipped};
 ghost use Rattle.bits.specs.Places.{PlaceIn, alignedAt, orderOf};
 
@@ -40,7 +40,7 @@ pub enum Got {
 
 // The order that a call's number names: 0 is high first, 1 low first. Any other number was refused before.
 pub fn order_named(number: u32) -> Order
-    ensures { λ r. ⌜ orderOf r ≡ named number ⌝ }
+    ensures { λ r. ⌜ orderOf r ≡ orderNamed number ⌝ }
 {
     if number == 0 {
         Order::HighFirst

@@ -11,7 +11,7 @@ use borrow.Author.Tests.{ltb-true, ltb-false, lt-ltb, le-ltb, eqb-true}
 use native.Mathlib.Nat.{add-assoc}
 use native.Mathlib.Omega.{arith}
 use Rattle.format.specs.Tests.{pick}
-use Rattle.format.specs.Bits.{Order, named}
+use Rattle.format.specs.Bits.{Order, orderNamed}
 use Rattle.format.specs.Reading.{Ending, At, Fault}
 use Rattle.format.specs.Formats.{Format}
 use Rattle.format.specs.Items.{run}
@@ -371,17 +371,17 @@ module _ (order lo hi : ℕ) (f : List ℕ) (l : lo ≤ hi) (m : hi ≤ 1023) wh
   kin-file = rw (same-start order lo hi f l m) (go (eqb (startFault order lo f) 0) refl)
     where
       H : Walk
-      H = walkList (named order) (classOf hi) 8 file 9 (drop 9 f)
+      H = walkList (orderNamed order) (classOf hi) 8 file 9 (drop 9 f)
 
       L : Walk
-      L = walkList (named order) (classOf lo) 8 file 9 (drop 9 f)
+      L = walkList (orderNamed order) (classOf lo) 8 file 9 (drop 9 f)
 
       room : 9 ≤ length f → Part f 9 (drop 9 f)
       room n = record { before = take 9 f; after = []; parts = sym (rw (append-nil, take-append-drop)); place = length-take-le 9 f n }
 
       good : 9 ≤ length f → Kin lo f 0 H L (H .ended)
-      good n = kin-start lo f 0 9 (9 + length (drop 9 f)) H L (H .ended) (omega arith) (placed (named order) (classOf hi) (length (drop 9 f)) 8 file 9 (drop 9 f) tt .tags)
-          (kin (classOf hi) (classOf lo) lo (λ code h. same-class lo hi code l h) (λ code h. veiled-class lo code h) (λ code h. going-class lo hi code h) (named order) f
+      good n = kin-start lo f 0 9 (9 + length (drop 9 f)) H L (H .ended) (omega arith) (placed (orderNamed order) (classOf hi) (length (drop 9 f)) 8 file 9 (drop 9 f) tt .tags)
+          (kin (classOf hi) (classOf lo) lo (λ code h. same-class lo hi code l h) (λ code h. veiled-class lo code h) (λ code h. going-class lo hi code h) (orderNamed order) f
           (length (drop 9 f)) 8 file 9 (drop 9 f) tt (room n))
 
       go : (c : Bool) → eqb (startFault order lo f) 0 ≡ c → Kin lo f 0 (pick c H (broken (startFault order lo f) 0)) (pick c L (broken (startFault order lo f) 0)) (pick c H (broken (startFault order lo f) 0) .ended)

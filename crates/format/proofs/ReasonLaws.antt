@@ -10,7 +10,7 @@ use lib.Dec.{T, ltb, leb, eqb, lit≤}
 use borrow.Author.Tests.{leb-true, eqb-false}
 use native.Mathlib.Omega.{arith}
 use Rattle.format.specs.Tests.{pick, _and_}
-use Rattle.format.specs.Bits.{Order, ub, named}
+use Rattle.format.specs.Bits.{Order, ub, orderNamed}
 use Rattle.format.specs.Reading.{Ending, At, Fault, Reading, follow}
 use Rattle.format.specs.Formats.{Item, Format, nothing, item, only, _▹_, _▸_, times, the}
 use Rattle.format.specs.Items.{skipped, room, Num, num, bad, showNum, mapNum, signExtend, readUB, carry, readVar, sign, notOne, exist, readFlag, above, readLE, Text, text, cut, readText, showText, readAlign, readItem, judge, run, byteItem, u32, i32, time, color, count, coordinates, path}
@@ -392,8 +392,8 @@ named-file order level f = go (eqb (startFault order level f) 0) refl
     start n (inl z) = absurd (n z)
     start n (inr h) = h
 
-    go : (c : Bool) → eqb (startFault order level f) 0 ≡ c → NamedWalk (pick c (walkList (named order) (classOf level) 8 file 9 (drop 9 f)) (broken (startFault order level f) 0))
-    go true e = named-walk (named order) (classOf level) (λ code. named-class (named order) level code) (length (drop 9 f)) 8 file 9 (drop 9 f)
+    go : (c : Bool) → eqb (startFault order level f) 0 ≡ c → NamedWalk (pick c (walkList (orderNamed order) (classOf level) 8 file 9 (drop 9 f)) (broken (startFault order level f) 0))
+    go true e = named-walk (orderNamed order) (classOf level) (λ code. named-class (orderNamed order) level code) (length (drop 9 f)) 8 file 9 (drop 9 f)
     go false e = start (eqb-false (startFault order level f) 0 e) (start-reason order level f)
 
 -- what refuses is a fault, with its reason

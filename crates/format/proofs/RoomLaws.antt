@@ -9,7 +9,7 @@ use lib.Dec.{ltb, eqb}
 use borrow.Author.Tests.{eqb-true}
 use native.Mathlib.Omega.{arith}
 use Rattle.format.specs.Tests.{pick}
-use Rattle.format.specs.Bits.{Order, ub, named}
+use Rattle.format.specs.Bits.{Order, ub, orderNamed}
 use Rattle.format.specs.Reading.{Ending, At, Fault, Reading, shows, stop, follow}
 use Rattle.format.specs.Formats.{Item, nothing, item, _▸_, times, the}
 use Rattle.format.specs.Items.{skipped, readItem, run, u32, i32, time, float, byte, color, string, count}
@@ -262,11 +262,11 @@ unfolding walkFile
 file-room order level f = go (eqb (startFault order level f) 0) refl
   where
     w : Walk
-    w = walkList (named order) (classOf level) 8 file 9 (drop 9 f)
+    w = walkList (orderNamed order) (classOf level) 8 file 9 (drop 9 f)
 
     good : 9 ≤ length f → (z : Outcome) → FileRoom f w z
     good l (fault e n) = tt
-    good l whole = (l, walk-room (named order) (classOf level) (λ code. fair-class (named order) level code) (length (drop 9 f)) 8 file 9 (drop 9 f))
+    good l whole = (l, walk-room (orderNamed order) (classOf level) (λ code. fair-class (orderNamed order) level code) (length (drop 9 f)) 8 file 9 (drop 9 f))
 
     go : (c : Bool) → eqb (startFault order level f) 0 ≡ c → FileRoom f (pick c w (broken (startFault order level f) 0)) (pick c w (broken (startFault order level f) 0) .ended)
     go false e = tt

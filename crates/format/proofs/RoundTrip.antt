@@ -8,7 +8,7 @@ use lib.Dec.{ltb, leb, eqb, lit<}
 use borrow.Author.Tests.{ltb-true, ltb-false, leb-true, eqb-true, lt-ltb, le-ltb, le-leb, eq-eqb}
 use native.Mathlib.Omega.{arith}
 use Rattle.format.specs.Tests.{pick}
-use Rattle.format.specs.Bits.{AllBytes, named}
+use Rattle.format.specs.Bits.{AllBytes, orderNamed}
 use Rattle.format.specs.FileAndTags.{classOf, Outcome, whole, fault, le32, file, walkList}
 use Rattle.format.specs.TableOfNumbers.{numbers, table}
 use Rattle.format.specs.Reasons.{startFault, walkFile, gives, result, readFile, IsFile}
@@ -51,20 +51,20 @@ module _ (order level : ℕ) where
 
   -- what follows the first nine bytes
   rest-there : (a b c d e f g h i : ℕ) (r : List ℕ) → (bs : AllBytes (a ∷ b ∷ c ∷ d ∷ e ∷ f ∷ g ∷ h ∷ i ∷ r)) → GoodStart order level (a ∷ b ∷ c ∷ d ∷ e ∷ f ∷ g ∷ h ∷ i ∷ r)
-      → FileIf (a ∷ b ∷ c ∷ d ∷ e ∷ f ∷ g ∷ h ∷ i ∷ r) (walkList (named order) (classOf level) 8 file 9 r .ended) (i ∷ numbers (walkList (named order) (classOf level) 8 file 9 r .tags))
+      → FileIf (a ∷ b ∷ c ∷ d ∷ e ∷ f ∷ g ∷ h ∷ i ∷ r) (walkList (orderNamed order) (classOf level) 8 file 9 r .ended) (i ∷ numbers (walkList (orderNamed order) (classOf level) 8 file 9 r .tags))
   unfolding writeFile
   rest-there a b c d e f g h i r bs s =
-      go (walkList (named order) (classOf level) 8 file 9 r .ended) (list-there (named order) (classOf level) (length r) 8 file 9 r (omega arith) (bs .1 .1 .1 .1 .1 .1 .1 .1 .1))
+      go (walkList (orderNamed order) (classOf level) 8 file 9 r .ended) (list-there (orderNamed order) (classOf level) (length r) 8 file 9 r (omega arith) (bs .1 .1 .1 .1 .1 .1 .1 .1 .1))
     where
       xs : List ℕ
-      xs = numbers (walkList (named order) (classOf level) 8 file 9 r .tags)
+      xs = numbers (walkList (orderNamed order) (classOf level) 8 file 9 r .tags)
 
-      go : (z : Outcome) → WholeIf z (Again (unwalkList (named order) (classOf level) 8) xs r) → FileIf (a ∷ b ∷ c ∷ d ∷ e ∷ f ∷ g ∷ h ∷ i ∷ r) z (i ∷ xs)
+      go : (z : Outcome) → WholeIf z (Again (unwalkList (orderNamed order) (classOf level) 8) xs r) → FileIf (a ∷ b ∷ c ∷ d ∷ e ∷ f ∷ g ∷ h ∷ i ∷ r) z (i ∷ xs)
       go (fault y y′) u = tt
       go whole u =
           let n : 9 + length r ≡ suc (suc (suc (suc (suc (suc (suc (suc (suc (length r))))))))) = omega arith in
           let p : spell32 (9 + length r) ≡ e ∷ f ∷ g ∷ h ∷ [] = spell-there e f g h (9 + length r) (bs .1 .1 .1 .1 .0) (bs .1 .1 .1 .1 .1 .0) (bs .1 .1 .1 .1 .1 .1 .0) (bs .1 .1 .1 .1 .1 .1 .1 .0) (s .lengths ∙ sym n) in
-          let q : unwalkList (named order) (classOf level) 8 xs ≡ this (made xs r []) = rw append-nil at (u []) in
+          let q : unwalkList (orderNamed order) (classOf level) 8 xs ≡ this (made xs r []) = rw append-nil at (u []) in
           let ed : 1 ≡ d = sym (s .version) in
           rw (le-ltb 1023 level (omega (arith, s .known)), le-ltb 1 order (omega (arith, s .ordered)), lt-ltb i 256 (bs .1 .1 .1 .1 .1 .1 .1 .1 .0), q, le-leb (9 + length r) 16777216 (omega (arith, s .limit)))
           (ap (λ (k : List ℕ). this (0x50 ∷ 0x41 ∷ 0x47 ∷ 1 ∷ (k ++ i ∷ r))) p ∙ cc (s .signed .0, s .signed .1, s .signed .2, ed))
@@ -73,8 +73,8 @@ module _ (order level : ℕ) where
   unfolding walkFile
   walk-there f b = go (eqb (startFault order level f) 0) refl
     where
-      good : (s : GoodStart order level f) → AllBytes f → FileIf f (walkList (named order) (classOf level) 8 file 9 (drop 9 f) .ended) (getD f 8 0 ∷ numbers (walkList (named order) (classOf level) 8 file 9 (drop 9 f) .tags))
-      good s = split9 (λ l. GoodStart order level l → AllBytes l → FileIf l (walkList (named order) (classOf level) 8 file 9 (drop 9 l) .ended) (getD l 8 0 ∷ numbers (walkList (named order) (classOf level) 8 file 9 (drop 9 l) .tags)))
+      good : (s : GoodStart order level f) → AllBytes f → FileIf f (walkList (orderNamed order) (classOf level) 8 file 9 (drop 9 f) .ended) (getD f 8 0 ∷ numbers (walkList (orderNamed order) (classOf level) 8 file 9 (drop 9 f) .tags))
+      good s = split9 (λ l. GoodStart order level l → AllBytes l → FileIf l (walkList (orderNamed order) (classOf level) 8 file 9 (drop 9 l) .ended) (getD l 8 0 ∷ numbers (walkList (orderNamed order) (classOf level) 8 file 9 (drop 9 l) .tags)))
           (λ a b c d e f g h i r s bs. rest-there a b c d e f g h i r bs s) f (s .long) s
 
       go : (c : Bool) → eqb (startFault order level f) 0 ≡ c → FileIf f (walkFile order level f .ended) (table f (walkFile order level f))
@@ -95,7 +95,7 @@ module _ (order level : ℕ) where
   TableIf t (this f) = AllBytes f × (readFile order level f ≡ gives t)
   TableIf t cannot = Unit {0}
 
-  table-back : (comp : ℕ) (ns : List ℕ) → level ≤ 1023 → order ≤ 1 → comp < 256 → (x : Possible Made) → ListIf (named order) (classOf level) 8 ns x → TableIf (comp ∷ ns) (wholeFile comp x)
+  table-back : (comp : ℕ) (ns : List ℕ) → level ≤ 1023 → order ≤ 1 → comp < 256 → (x : Possible Made) → ListIf (orderNamed order) (classOf level) 8 ns x → TableIf (comp ∷ ns) (wholeFile comp x)
   unfolding readFile walkFile
   table-back comp ns l n h cannot u = tt
   table-back comp ns l n h (this (made xs r (y ∷ ys))) u = tt
@@ -112,7 +112,7 @@ module _ (order level : ℕ) where
       go true e =
           let s : 9 + length r ≤ 16777216 = leb-true (9 + length r) 16777216 e in
           let z : ns ≡ xs = u .0 ∙ append-nil xs in
-          let w : Spelt xs (walkList (named order) (classOf level) 8 file 9 r) = u .2 file 9 in
+          let w : Spelt xs (walkList (orderNamed order) (classOf level) 8 file 9 r) = u .2 file 9 in
           rw e (
             (lit< tt, (lit< tt, (lit< tt, (lit< tt, (omega arith, (omega arith, (omega arith, (omega arith, (h, u .1))))))))),
             rw (eq-eqb (startFault order level f) 0 (start-good order level f (start s)), w .0, w .1, z),
@@ -128,7 +128,7 @@ module _ (order level : ℕ) where
       go false e true w d e′ = rw (e, w) tt
       go false e false w false e′ = rw (e, w, e′) tt
       go false e false w true e′ = rw (e, w, e′)
-          (table-back comp ns (omega (arith, ltb-false 1023 level e)) (omega (arith, ltb-false 1 order w)) (ltb-true comp 256 e′) (unwalkList (named order) (classOf level) 8 ns) (list-back (named order) (classOf level) (length ns) 8 ns (omega arith)))
+          (table-back comp ns (omega (arith, ltb-false 1023 level e)) (omega (arith, ltb-false 1 order w)) (ltb-true comp 256 e′) (unwalkList (orderNamed order) (classOf level) 8 ns) (list-back (orderNamed order) (classOf level) (length ns) 8 ns (omega arith)))
 
   -- (back) what the table t is written as is a file, and it is accepted with t
   pub back : (f t : List ℕ) → writeFile order level t ≡ this f → IsFile f × (readFile order level f ≡ gives t)

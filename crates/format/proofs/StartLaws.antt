@@ -8,7 +8,7 @@ use lib.ListN.{length, getD, drop}
 use lib.Dec.{ltb, leb, eqb, lit<}
 use borrow.Author.Tests.{ltb-false, leb-true, eqb-true, le-ltb, le-leb, eq-eqb}
 use Rattle.format.specs.Tests.{pick, _and_}
-use Rattle.format.specs.Bits.{named}
+use Rattle.format.specs.Bits.{orderNamed}
 use Rattle.format.specs.FileAndTags.{le32, signatureRight, versionRight, lengthRight, classOf, whole, broken, file, walkList}
 use Rattle.format.specs.Reasons.{startFault, walkFile}
 use Rattle.format.proofs.Absurd.{clash}
@@ -87,6 +87,6 @@ module _ (order level : ℕ) (f : List ℕ) where
   unfolding walkFile
   whole-start = go (eqb (startFault order level f) 0) refl
     where
-      go : (c : Bool) → eqb (startFault order level f) 0 ≡ c → pick c (walkList (named order) (classOf level) 8 file 9 (drop 9 f)) (broken (startFault order level f) 0) .ended ≡ whole → startFault order level f ≡ 0
+      go : (c : Bool) → eqb (startFault order level f) 0 ≡ c → pick c (walkList (orderNamed order) (classOf level) 8 file 9 (drop 9 f)) (broken (startFault order level f) 0) .ended ≡ whole → startFault order level f ≡ 0
       go true e h = eqb-true (startFault order level f) 0 e
       go false e h = clash cc

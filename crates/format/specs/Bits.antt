@@ -14,9 +14,9 @@ pub data Order : Type 0 where
   high low : Order
 
 -- (C-18) the order that a call's number names: 0 is high first, 1 low first. Any other number is refused (24: `startFault` and `Writes` of Reasons)
-abbrev pub named : ℕ → Order
-named zero = high
-named (suc n) = low
+abbrev pub orderNamed : ℕ → Order
+orderNamed zero = high
+orderNamed (suc n) = low
 
 -- the power of two that the k-th bit of a byte counts, k from 0
 abbrev pub weight : Order → ℕ → ℕ

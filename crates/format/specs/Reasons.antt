@@ -32,7 +32,7 @@ use mathlib.Core.Path.{_≡_}
 use lib.ListN.{length, drop}
 use lib.Dec.{ltb, leb, eqb}
 use Rattle.format.specs.Tests.{pick}
-use Rattle.format.specs.Bits.{AllBytes, named}
+use Rattle.format.specs.Bits.{AllBytes, orderNamed}
 use Rattle.format.specs.FileAndTags.{signatureRight, versionRight, lengthRight, classOf, Outcome, whole, fault, Walk, broken, file, walkList}
 use Rattle.format.specs.TableOfNumbers.{table, tagTable}
 
@@ -55,7 +55,7 @@ startFault order level f =
 -- For an item: skipped bits (15), its bytes (13), its spelling (14), its range (16, 17) (`run` of Items).
 unfoldable pub walkFile : ℕ → ℕ → List ℕ → Walk
 walkFile order level f =
-    pick (eqb (startFault order level f) 0) (walkList (named order) (classOf level) 8 file 9 (drop 9 f)) (broken (startFault order level f) 0)
+    pick (eqb (startFault order level f) 0) (walkList (orderNamed order) (classOf level) 8 file 9 (drop 9 f)) (broken (startFault order level f) 0)
 
 -- what a file gives: the numbers of a table, or a reason and its second number
 pub data Result : Type 0 where

@@ -5,7 +5,7 @@ use mathlib.Core.Bool.{Bool, true, false}
 use lib.ListN.{length, take, drop}
 use lib.Dec.{ltb, leb, eqb}
 use Rattle.format.specs.Tests.{pick}
-use Rattle.format.specs.Bits.{Order, named}
+use Rattle.format.specs.Bits.{Order, orderNamed}
 use Rattle.format.specs.FileAndTags.{Class, opaque, end, container, known, classOf, isEnd, front}
 use Rattle.format.specs.WritingFormats.{unrun}
 use Rattle.format.specs.Possible.{Possible, this, cannot}
@@ -91,4 +91,4 @@ writeFile order level [] = cannot
 writeFile order level (comp ∷ ns) =
     pick (ltb 1023 level) cannot
     (pick (ltb 1 order) cannot
-    (pick (ltb comp 256) (wholeFile comp (unwalkList (named order) (classOf level) 8 ns)) cannot))
+    (pick (ltb comp 256) (wholeFile comp (unwalkList (orderNamed order) (classOf level) 8 ns)) cannot))

@@ -9,7 +9,7 @@ use lib.Seq.{sets, sets-eq, length-sets}
 use lib.Dec.{leb, eqb}
 use borrow.Author.Tests.{lt-ltb, le-ltb, lt-leb, le-leb, eq-eqb, ne-eqb}
 use Rattle.format.specs.Tests.{pick, _and_}
-use Rattle.format.specs.Bits.{Order, named}
+use Rattle.format.specs.Bits.{Order, orderNamed}
 use Rattle.format.specs.FileAndTags.{le32, versionRight, lengthRight, classOf, Outcome, whole, fault, Walk, file, walkList}
 use Rattle.format.specs.TableOfNumbers.{numbers, table, tagTable}
 use Rattle.format.specs.Reasons.{startFault, walkFile, gives, refuses, result, readFile, readTags, into}
@@ -84,7 +84,7 @@ module _ (order level : ℕ) (f : List ℕ) where
   pub fair-file : startFault order level f ≡ 0 → (9 ≤ length f) × (length f ≤ 16777216)
   fair-file e = let s = good-start order level f e in (s .long, s .limit)
 
-  walk-is : startFault order level f ≡ 0 → walkFile order level f ≡ walkList (named order) (classOf level) 8 file 9 (drop 9 f)
+  walk-is : startFault order level f ≡ 0 → walkFile order level f ≡ walkList (orderNamed order) (classOf level) 8 file 9 (drop 9 f)
   unfolding walkFile
   walk-is e = rw (eq-eqb (startFault order level f) 0 e)
 
@@ -99,7 +99,7 @@ module _ (order level : ℕ) (f : List ℕ) where
   pub tags-read : (o : Order) (scope : Scope) (t g : List ℕ) {x : Listed} → x ≡ walkOver t 1 g 0 (walkList o (classBy scope level) 8 file 9 (piece 9 (length f) f)) → x ≡ walkOver t 1 g 0 (walkList o (classBy scope level) 8 file 9 (drop 9 f))
   tags-read o scope t g e = e ∙ ap (λ (r : List ℕ). walkOver t 1 g 0 (walkList o (classBy scope level) 8 file 9 r)) (piece-rest 9 f)
 
-  pub survey-walk : (o : Order) (t g : List ℕ) {t′ g′ : List ℕ} {x : Walked} → o ≡ named order → startFault order level f ≡ 0 → listed t′ g′ x ≡ walkOver t 1 g 0 (walkList o (classOf level) 8 file 9 (drop 9 f)) → x ≡ surveyed (walkFile order level f)
+  pub survey-walk : (o : Order) (t g : List ℕ) {t′ g′ : List ℕ} {x : Walked} → o ≡ orderNamed order → startFault order level f ≡ 0 → listed t′ g′ x ≡ walkOver t 1 g 0 (walkList o (classOf level) 8 file 9 (drop 9 f)) → x ≡ surveyed (walkFile order level f)
   survey-walk o t g q z e = ap (λ (l : Listed). l .answer) e ∙ rw (zero-add, q, walk-is z)
 
   -- ---- what it tells
@@ -156,7 +156,7 @@ module _ (order level : ℕ) (f m : List ℕ) where
   read-short q h = short-of m (table f (walkFile order level f)) (survey-found order level f q .numbers-are) h ∙ ap (into m) (sym (read-is (survey-found order level f q)))
 
   -- the compression byte c was stored first
-  pub read-done : {k j c : ℕ} (o : Order) (g : List ℕ) {t g′ : List ℕ} {x : Walked} → o ≡ named order → Next k j ≡ surveyed (walkFile order level f) → k ≤ length m → c ≡ getD f 8 0
+  pub read-done : {k j c : ℕ} (o : Order) (g : List ℕ) {t g′ : List ℕ} {x : Walked} → o ≡ orderNamed order → Next k j ≡ surveyed (walkFile order level f) → k ≤ length m → c ≡ getD f 8 0
       → listed t g′ x ≡ walkOver (set m 0 c) 1 g 0 (walkList o (classOf level) 8 file 9 (drop 9 f)) → leaves t (Accepted k) ≡ into m (readFile order level f)
   read-done o g n q h e d =
       let u : Found order level f _ _ = survey-found order level f q in
@@ -180,10 +180,10 @@ module _ (order level : ℕ) (f m : List ℕ) where
   tags-short q h = short-of m (tagTable (walkFile order level f .tags)) (survey-found order level f q .rows-are) h ∙ ap (into m) (sym (tags-are (survey-found order level f q)))
 
   -- the run that fills read the lists alone
-  pub tags-done : {k j : ℕ} (o : Order) (t : List ℕ) {t′ g : List ℕ} {x : Walked} → o ≡ named order → Next k j ≡ surveyed (walkFile order level f) → j ≤ length m
+  pub tags-done : {k j : ℕ} (o : Order) (t : List ℕ) {t′ g : List ℕ} {x : Walked} → o ≡ orderNamed order → Next k j ≡ surveyed (walkFile order level f) → j ≤ length m
       → listed t′ g x ≡ walkOver t 1 m 0 (walkList o (classBy Lists level) 8 file 9 (drop 9 f)) → leaves g (Accepted j) ≡ into m (readTags order level f)
   tags-done o t n q h d =
       let u : Found order level f _ _ = survey-found order level f q in
-      let e : walkList (named order) (classOf level) 8 file 9 (drop 9 f) .ended ≡ whole = ap (λ (w : Walk). w .ended) (sym (walk-is order level f (u .start))) ∙ u .ended in
+      let e : walkList (orderNamed order) (classOf level) 8 file 9 (drop 9 f) .ended ≡ whole = ap (λ (w : Walk). w .ended) (sym (walk-is order level f (u .start))) ∙ u .ended in
       laid-in m (tagTable (walkFile order level f .tags)) (u .rows-are) h
-      (ap (λ (l : Listed). l .rows) d ∙ ap (λ (p : Order). sets m 0 (tagTable (walkList p (classBy Lists level) 8 file 9 (drop 9 f) .tags))) n ∙ ap (sets m 0) (skim-rows (named order) level 8 file 9 (drop 9 f) e .1) ∙ rw (walk-is order level f (u .start))) ∙ ap (into m) (sym (tags-are u))
+      (ap (λ (l : Listed). l .rows) d ∙ ap (λ (p : Order). sets m 0 (tagTable (walkList p (classBy Lists level) 8 file 9 (drop 9 f) .tags))) n ∙ ap (sets m 0) (skim-rows (orderNamed order) level 8 file 9 (drop 9 f) e .1) ∙ rw (walk-is order level f (u .start))) ∙ ap (into m) (sym (tags-are u))

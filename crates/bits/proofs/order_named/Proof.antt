@@ -1,7 +1,7 @@
 -- `bits::order_named` meets its contract.
 use mathlib.Core.Path.{refl, _≡_}
 use Prim.Native.Nat.{ℕ, zero, suc}
-use Rattle.format.specs.Bits.{low, named}
+use Rattle.format.specs.Bits.{low, orderNamed}
 use borrow.Author.Needs.{needs}
 use Rattle.bits.proofs.order_named.Statement.{statement}
 use Rattle.bits.proofs.order_named.Tie as tie
@@ -9,7 +9,7 @@ use Rattle.bits.proofs.order_named.Tie as tie
 returns : tie.Need-returns
 returns c = search needs
 
-not-zero : (n : ℕ) → (n ≡ 0 → ⊥) → low ≡ named n
+not-zero : (n : ℕ) → (n ≡ 0 → ⊥) → low ≡ orderNamed n
 not-zero zero h = absurd (h refl)
 not-zero (suc n) h = refl
 
