@@ -1,6 +1,6 @@
 -- Flag numbers as bits, gathered in one number; and what a `match` tells of a content.
 use Prim.Native.Nat.{ℕ, zero, suc, _+_, _*_, _/_, _%_, _^_, _≤_, _<_}
-use mathlib.Core.List.{List, [], _++_, append-nil, append-assoc}
+use mathlib.Core.List.{List, [], _++_, append-nil}
 use mathlib.Core.Path.{_≡_, refl, sym, ap, _∙_}
 use mathlib.Core.Bool.{Bool, true, false}
 use native.Mathlib.Omega.{arith}
@@ -11,14 +11,14 @@ use Rattle.format.specs.Bits.{Order}
 use Rattle.format.specs.Formats.{Format, nothing}
 use Rattle.format.specs.Bodies as bodies
 use Rattle.format.specs.Possible.{Possible, this, cannot}
-use Rattle.format.specs.WritingItems.{dig, before, spellFlag}
+use Rattle.format.specs.WritingItems.{dig, glue, before, spellFlag}
 use Rattle.format.proofs.BitLaws.{dig-append}
 use Rattle.attributes.specs.Rows.{kindOf}
 use Rattle.attributes.specs.declared.Kind.{Kind}
 use Rattle.sink.specs.Laying.{State}
 use Rattle.spelling.specs.Writing.{Seen, here, ran, limit}
 use Rattle.spelling.proofs.RunLaws.{ran-nothing}
-use Rattle.write_blocks.specs.Flags.{flagSpelling, bitsOf, Held, noted, Grown, OneMore}
+use Rattle.write_blocks.specs.Flags.{flagSpelling, bitsOf, Held, noted, Grown, Longer}
 use Rattle.write_blocks.specs.declared.Flags.{Flags}
 use Rattle.write_blocks.specs.declared.Flagged.{Flagged}
 use Rattle.write_blocks.specs.declared.Flagged.the-variants.{With, No}
@@ -52,13 +52,13 @@ pub two-zero : (o : Order) (v : ℕ) → v ≡ 0 → spellFlag o v 2 ≡ this (d
 unfolding spellFlag
 two-zero o v e = rw e
 
-pub two-one : (o : Order) (v : ℕ) → v ≡ 1 → spellFlag o v 2 ≡ this (dig o 1 1 ++ dig o 1 0)
+pub two-one : (o : Order) (v : ℕ) {x : ℕ} → v ≡ 1 → x ≡ glue o 1 1 1 0 → spellFlag o v 2 ≡ this (dig o 2 x)
 unfolding spellFlag dig
-two-one o v e = rw e
+two-one o v e d = rw (e, d) (ap this (sym (dig-append o 1 1 1 0 (omega arith) (omega arith))))
 
-pub two-three : (o : Order) (v : ℕ) → v ≡ 3 → spellFlag o v 2 ≡ this (dig o 1 1 ++ dig o 1 1)
+pub two-three : (o : Order) (v : ℕ) {x : ℕ} → v ≡ 3 → x ≡ glue o 1 1 1 1 → spellFlag o v 2 ≡ this (dig o 2 x)
 unfolding spellFlag dig
-two-three o v e = rw e
+two-three o v e d = rw (e, d) (ap this (sym (dig-append o 1 1 1 1 (omega arith) (omega arith))))
 
 pub two-no : (o : Order) (v : ℕ) → (v ≡ 0 → ⊥) → (v ≡ 1 → ⊥) → (v ≡ 3 → ⊥) → spellFlag o v 2 ≡ cannot
 unfolding spellFlag
@@ -75,25 +75,18 @@ two-no o v a b c = go (eqb (v % 2) 1) refl
 abbrev pub Adds : Order → Flags → Possible (List Bool) → Flagged → Type 0
 Adds o f b r = (noted o r ≡ before (bitsOf o f) b) × Grown (f .width) r
 
--- one bit more
-more-bits : (o : Order) (f : Flags) (x : ℕ) {g : Flags} → Held f → x ≤ 1 → OneMore o f x g → bitsOf o g ≡ bitsOf o f ++ dig o 1 x
-more-bits o f x h l m = rw (m .longer, m .glued) (dig-append o (f .width) 1 (f .bits) x h (omega arith))
-
 module _ (o : Order) (f : Flags) {b : Possible (List Bool)} where
-  pub add-in : (x : ℕ) {g : Flags} → Held f → x ≤ 1 → OneMore o f x g → b ≡ this (dig o 1 x) → Adds o f b (With g)
-  add-in x h l m e = (rw e (ap this (more-bits o f x h l m)), (m .held, omega (arith, m .longer)))
+  -- n bits more, as the field x
+  pub add-in : (n x : ℕ) {g : Flags} → Held f → n ≤ 2 → x < 2 ^ n → Longer o f n x g → b ≡ this (dig o n x) → Adds o f b (With g)
+  add-in n x {g} h l s m e =
+      let d : bitsOf o g ≡ bitsOf o f ++ dig o n x = rw (m .longer, m .glued) (dig-append o (f .width) n (f .bits) x h s) in
+      (rw e (ap this d), (m .held, omega (arith, m .longer)))
 
   pub add-none : {g : Flags} → Held f → g ≡ f → b ≡ this [] → Adds o f b (With g)
   add-none h d e = rw (d, e) (ap this (sym (append-nil (bitsOf o f))), (h, omega arith))
 
   pub add-no : b ≡ cannot → Adds o f b No
   add-no e = rw e (refl, tt)
-
--- two bits more, one after the other
-pub add-two : (o : Order) (f : Flags) {b : Possible (List Bool)} (x y : ℕ) {g h : Flags} → Held f → x ≤ 1 → y ≤ 1 → OneMore o f x g → OneMore o g y h → b ≡ this (dig o 1 x ++ dig o 1 y) → Adds o f b (With h)
-add-two o f x y {g} {h} held lx ly m n e =
-    let d : bitsOf o h ≡ bitsOf o f ++ (dig o 1 x ++ dig o 1 y) = more-bits o g y (m .held) ly n ∙ rw (more-bits o f x held lx m) (append-assoc (bitsOf o f) (dig o 1 x) (dig o 1 y)) in
-    (rw e (ap this d), (n .held, omega (arith, m .longer, n .longer)))
 
 -- no bit
 pub fixed-in : (o : Order) (v : ℕ) → v ≡ 1 → flagSpelling o bodies.Fixed v ≡ this []

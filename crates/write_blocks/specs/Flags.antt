@@ -58,10 +58,10 @@ bitsOf o f = dig o (f .width) (f .bits)
 abbrev pub Held : Flags → Type 0
 Held f = f .bits < 2 ^ f .width
 
--- f with the bit x behind its own
-pub record OneMore (o : Order) (f : Flags) (x : ℕ) (g : Flags) : Type 0 where
-  pub glued : g .bits ≡ glue o (f .width) 1 (f .bits) x
-  pub longer : g .width ≡ f .width + 1
+-- f with n bits more, the field x, behind its own
+pub record Longer (o : Order) (f : Flags) (n x : ℕ) (g : Flags) : Type 0 where
+  pub glued : g .bits ≡ glue o (f .width) n (f .bits) x
+  pub longer : g .width ≡ f .width + n
   pub held : Held g
 
 abbrev pub noted : Order → Flagged → Possible (List Bool)

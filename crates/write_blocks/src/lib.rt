@@ -2,7 +2,7 @@
 // each attribute's flag number stands before its content: so one walk over them finds both, and no content is measured before it is written.
 ghost use mathlib.Core.Path.{_≡_};
 ghost use mathlib.Core.Bool.{true};
-ghost use Prim.Native.Nat.{_+_, _-_, _≤_, _<_};
+ghost use Prim.Native.Nat.{_+_, _-_, _^_, _≤_, _<_};
 ghost use Rattle.format.specs.WritingItems.{before, spellFlag};
 ghost use Rattle.format.specs.Bodies.{content as contentOf, attributes as attributesBody};
 ghost use Rattle.format.specs.WritingBodies.{writeBody};
@@ -11,7 +11,7 @@ ghost use Rattle.attributes.specs.Rows.{kindOf, attributeOf, rowsFrom, AreRows}
 ghost use Rattle.sink.specs.Lain.{lies, lainAs, longest};
 ghost use Rattle.sink.specs.Laying.{at as under};
 ghost use Rattle.spelling.specs.Writing.{seen, ran, Fine};
-ghost use Rattle.write_blocks.specs.Flags.{bitsOf, noted, Held, Grown, OneMore, flagSpelling, flagBytes, anyFlag};
+ghost use Rattle.write_blocks.specs.Flags.{bitsOf, noted, Held, Grown, Longer, flagSpelling, flagBytes, anyFlag};
 ghost use Rattle.write_blocks.specs.Filling.{filled, fills, Ready, underFlags};
 use attributes::Attribute;
 use attributes::Content;
@@ -42,16 +42,16 @@ pub enum Filled {
     No,
 }
 
-// One bit more, behind those that were gathered.
-fn with_bit(order: Order, flags: Flags, bit: u64) -> Flags
-    requires { ⌜ Held flags × (flags .width ≤ 17) × (bit ≤ 1) ⌝ }
-    ensures { λ r. ⌜ OneMore (orderOf order) flags bit r ⌝ }
+// So many bits more, as a field, behind those that were gathered.
+fn with_bits(order: Order, flags: Flags, more: u64, count: usize) -> Flags
+    requires { ⌜ Held flags × (flags .width ≤ 16) × (count ≤ 2) × (more < 2 ^ count) ⌝ }
+    ensures { λ r. ⌜ Longer (orderOf order) flags count more r ⌝ }
 {
     let bits = flags.bits;
     let width = flags.width;
     Flags {
-        bits: sink::glue(order, bits, width, bit, 1),
-        width: width + 1,
+        bits: sink::glue(order, bits, width, more, count),
+        width: width + count,
     }
 }
 
@@ -63,7 +63,7 @@ fn add_flag(order: Order, flags: Flags, number: u64) -> Flagged
     if 1 < number {
         return Flagged::No;
     }
-    Flagged::With(with_bit(order, flags, number))
+    Flagged::With(with_bits(order, flags, number, 1))
 }
 
 // An exist bit; if set, an animatable bit.
@@ -72,14 +72,14 @@ fn add_two_flags(order: Order, flags: Flags, number: u64) -> Flagged
     ensures { λ r. ⌜ (noted (orderOf order) r ≡ before (bitsOf (orderOf order) flags) (spellFlag (orderOf order) number 2)) × Grown (flags .width) r ⌝ }
 {
     match number {
-        0 => Flagged::With(with_bit(order, flags, 0)),
+        0 => Flagged::With(with_bits(order, flags, 0, 1)),
         1 => {
-            let exists = with_bit(order, flags, 1);
-            Flagged::With(with_bit(order, exists, 0))
+            let still = sink::glue(order, 1, 1, 0, 1);
+            Flagged::With(with_bits(order, flags, still, 2))
         }
         3 => {
-            let exists = with_bit(order, flags, 1);
-            Flagged::With(with_bit(order, exists, 1))
+            let moving = sink::glue(order, 1, 1, 1, 1);
+            Flagged::With(with_bits(order, flags, moving, 2))
         }
         _ => Flagged::No,
     }

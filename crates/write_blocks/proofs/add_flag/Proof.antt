@@ -9,11 +9,11 @@ use Rattle.write_blocks.proofs.add_flag.Tie as tie
 returns : tie.Need-returns
 returns c = let a = c .before .args in add-no (orderOf (a .order)) (a .flags) (flag-no (orderOf (a .order)) (a .number) (omega (arith, c .if1 .taken)))
 
-with-bit-requires : tie.Need-with-bit-requires
-with-bit-requires c κs = search needs
+with-bits-requires : tie.Need-with-bits-requires
+with-bits-requires c κs = search needs
 
 returns-2 : tie.Need-returns-2
-returns-2 c = let a = c .before .before .args in add-in (orderOf (a .order)) (a .flags) (a .number) (c .before .before .pre .0) (c .before .if1 .left) (c .with-bit .ensures) (flag-in (orderOf (a .order)) (a .number) (omega (arith, c .before .if1 .left)))
+returns-2 c = let a = c .before .before .args in add-in (orderOf (a .order)) (a .flags) 1 (a .number) (c .before .before .pre .0) (omega arith) (omega (arith, c .before .if1 .left)) (c .with-bits .ensures) (flag-in (orderOf (a .order)) (a .number) (omega (arith, c .before .if1 .left)))
 
 pub add-flag-spec : {M : Type 1} → statement M
-add-flag-spec = tie.close (tie.spec returns with-bit-requires returns-2)
+add-flag-spec = tie.close (tie.spec returns with-bits-requires returns-2)
