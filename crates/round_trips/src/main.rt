@@ -331,7 +331,14 @@ fn next_in(room: &mut [u8], table: &mut [u64], out: &mut [u8]) -> bool {
     if !read_body(room, count) {
         return false;
     }
-    try_record(head.kind, head.level, head.order, &room[0..count], table, out);
+    try_record(
+        head.kind,
+        head.level,
+        head.order,
+        &room[0..count],
+        table,
+        out,
+    );
     say(b"\n");
     true
 }
