@@ -505,7 +505,7 @@ static void try_bits(size_t tries)
         if (len > sizeof bytes) len = 0;
         uint64_t place = i % 16 == 0 ? UINT64_MAX - (state >> 40 & 63) : state >> 40 & 127;
         uint32_t width = state >> 20 & 63, is_signed = (uint32_t)(i % 3);
-        uint32_t order = i % 10 == 9 ? NEITHER[i / 10 % NEITHER_COUNT] : (uint32_t)(i % 2);
+        uint32_t pick = state >> 47 & 15, order = pick == 15 ? NEITHER[i % NEITHER_COUNT] : pick % 2;
         if (width > 39) width -= 32;
         pag_field ours = pag_bits(order, len ? bytes : NULL, len, place, width, is_signed);
         pag_field plain = plain_field(order, bytes, len, place, width, is_signed);
