@@ -176,7 +176,8 @@ static void write_table(struct maker *m, struct how how, const uint8_t *file, si
     peer_read(how.level, how.order, file, len, table, count);
     call_rooms(&WRITE, how, table, count);
     call_rooms(&WRITE, (struct how){how.level, other_order(how.order)}, table, count);
-    call(&WRITE, (struct how){how.level, NEITHER[random_below(m, NEITHER_COUNT)]}, table, count, random_below(m, 2) * bytes);
+    call(&WRITE, (struct how){how.level, NEITHER[random_below(m, NEITHER_COUNT)]}, table, count, 0);
+    call(&WRITE, (struct how){how.level, NEITHER[random_below(m, NEITHER_COUNT)]}, table, count, bytes);
     for (int i = 0; i < 4; i++) {
         size_t place = random_below(m, count);
         uint64_t kept = table[place];
@@ -386,6 +387,14 @@ static void expect_table(const struct given *g)
         bad_line(g->name, "its table is not written as its bytes");
 }
 
+/* The same bytes in the other order: as the peer reads them. */
+static void read_other_order(const struct given *g)
+{
+    struct how how = {g->how.level, other_order(g->how.order)};
+    call(&READ, how, case_bytes, g->len, 16);
+    call(&TAGS, how, case_bytes, g->len, 16);
+}
+
 static void try_cases(const char *path)
 {
     static char line[1 << 16];
@@ -399,6 +408,7 @@ static void try_cases(const char *path)
         struct given g = case_of(field);
         if (g.accepted) expect_table(&g);
         else expect_refusal(&g, &READ), expect_refusal(&g, &TAGS);
+        read_other_order(&g);
         tried++;
     }
     fclose(file);
