@@ -10,7 +10,7 @@ use borrow.Author.Tests.{le-leb, lt-ltb, le-ltb}
 use lib.ListN.{length, set, getD, drop, length-append, length-drop, drop-of-length-le}
 use lib.Seq.{sets, sets-eq, drop-cons}
 use Rattle.format.specs.Tests.{pick}
-use Rattle.format.specs.Bits.{Order, named}
+use Rattle.format.specs.Bits.{Order, orderNamed}
 use Rattle.format.specs.FileAndTags.{classOf}
 use Rattle.format.specs.Possible.{Possible, this, cannot}
 use Rattle.format.specs.WritingFiles.{Made, made, spell32, unwalkList, wholeFile, writeFile}
@@ -71,7 +71,7 @@ module _ (order level : ℕ) (t : List ℕ) where
     no-byte l m = none h g (ap (writeFile order level) cons ∙ rw (le-ltb 1023 level h, le-ltb 1 order g, le-ltb (getD t 0 0) 256 (omega arith))) m
 
     -- o is the order that the number names
-    module _ (l : getD t 0 0 ≤ 255) {o : Order} (names : o ≡ named order) where
+    module _ (l : getD t 0 0 ≤ 255) {o : Order} (names : o ≡ orderNamed order) where
       is : writeFile order level t ≡ wholeFile (getD t 0 0) (tags o level t)
       unfolding writeFile
       is = ap (writeFile order level) cons ∙ rw (le-ltb 1023 level h, le-ltb 1 order g, lt-ltb (getD t 0 0) 256 (omega arith), ← names)
