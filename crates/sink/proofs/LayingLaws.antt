@@ -1,9 +1,9 @@
 -- The laws of `lay`, once over the order. Whoever cites them need not unfold it. Assumes nothing.
-use mathlib.Core.Path.{_≡_, refl, sym, ap, ap₂, _∙_, subst}
+use mathlib.Core.Path.{_≡_, refl, sym, ap, ap₂, _∙_}
 use mathlib.Core.List.{List, [], _∷_, _++_}
 use mathlib.Core.Bool.{Bool, true, false}
 use Prim.Native.Nat.{ℕ, zero, suc, _+_, _-_, _*_, _/_, _%_, _^_, _≤_, _<_}
-use native.Mathlib.Nat.{add-zero, mul-assoc, mul-comm, mul-one, pow-zero, pow-suc, mod-lt, add-mul, div-add-mod', div-lt-iff-lt-mul}
+use native.Mathlib.Nat.{add-zero, mul-assoc, mul-comm, pow-zero, pow-suc, mod-lt, add-mul, div-add-mod'}
 use native.Mathlib.Omega.{arith}
 use lib.ListN.{length, set, drop, length-drop, take-append-drop, drop-of-length-le}
 use lib.Seq.{sets}
@@ -80,9 +80,7 @@ lay-few o u (suc n) p a v h l =
 pub lay-full : (o : Order) (u : List ℕ) (n p a v : ℕ) → p % 8 + suc n ≡ 8 → v < 2 ^ suc n → lay o (mk u p a) (dig o (suc n) v) ≡ mk (set u (p / 8) (glue o (p % 8) (suc n) a v)) (p + suc n) 0
 unfolding lay dig
 lay-full o u zero p a v h l =
-    let z : rest o 0 v ≡ 0 = omega (arith, rw pow-zero at (rest-lt o 0 v l)) in
-    let e : first o 0 v ≡ v = first-only o v l in
-    push-full o u p a (eqb (first o 0 v) 1) (omega arith) ∙ mk-eq (ap (λ (x : ℕ). set u (p / 8) (glue o (p % 8) 1 a x)) (first-bit o 0 v l ∙ e)) refl refl
+    push-full o u p a (eqb (first o 0 v) 1) (omega arith) ∙ mk-eq (ap (λ (x : ℕ). set u (p / 8) (glue o (p % 8) 1 a x)) (first-bit o 0 v l ∙ first-only o v l)) refl refl
   where
     first-only : (o : Order) (v : ℕ) → v < 2 ^ 1 → first o 0 v ≡ v
     first-only high v l = omega arith

@@ -1,6 +1,6 @@
 -- `sink::align` meets its contract.
 use native.Mathlib.Omega.{arith}
-use Prim.Native.Nat.{_+_, _-_, _%_, _^_, _<_}
+use Prim.Native.Nat.{_+_, _-_, _%_}
 use mathlib.Core.Path.{_≡_}
 use lib.Pow.{pow-pos}
 use denote.Ref.{now}
