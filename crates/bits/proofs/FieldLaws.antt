@@ -2,29 +2,34 @@
 -- Each number that code computes is a variable, tied by an equation: omega proves the equation, and what a callee ensures fits as it stands.
 use Prim.Native.Nat.{ℕ, zero, suc, _+_, _-_, _*_, _/_, _%_, _^_, _≤_, _<_}
 use mathlib.Core.Path.{_≡_, refl, sym, ap, ap₂, _∙_, subst}
-use mathlib.Core.List.{List, [], _∷_}
+use mathlib.Core.List.{List, []}
 use mathlib.Core.Bool.{Bool, true, false}
-use native.Mathlib.Nat.{add-zero, add-suc, add-assoc, mul-assoc, mul-one, one-mul, pow-suc, mod-eq-of-lt, mod-eq-sub-mod}
+use native.Mathlib.Nat.{add-zero, add-suc, add-assoc, mul-assoc, mul-one, one-mul, pow-suc, mod-eq-of-lt, mod-eq-sub-mod, div-one, zero-div}
 use native.Mathlib.Omega.{arith}
-use lib.ListN.{length, getD}
+use lib.ListN.{length, getD, List·getD-eq-default}
 use lib.Arith.{digits-div, digits-mod}
 use lib.Pow.{pow-lt, pow-mono}
 use lib.Dec.{leb, ltb, eqb}
 use borrow.Author.Tests.{le-leb, lt-leb, leb-true, ltb-true, ltb-false, ne-eqb}
-use Rattle.format.specs.Bits.{Order, high, low, ub}
+use Rattle.format.specs.Bits.{Order, high, low, bitAt, ub}
 use Rattle.format.specs.WritingItems.{below}
 use Rattle.format.specs.Items.{Num, num, bad, mapNum, readUB, signExtend, skipped, readAlign}
 use Rattle.format.specs.Reading.{shows, stop}
 use Rattle.format.proofs.BitLaws.{ub-lt, ub-split, ub-within}
 use Rattle.format.proofs.ByteLaws.{ub-byte}
 use Rattle.format.proofs.Absurd.{clash}
-use Rattle.bits.specs.Places.{alignedAt, numOf, fromTop, Joined}
+use Rattle.bits.specs.Places.{alignedAt, numOf, turnedOf, orderedBy}
 use Rattle.bits.specs.declared.BitPlace.{BitPlace}
 use Rattle.bits.specs.declared.BytePlace.{BytePlace}
 use Rattle.bits.specs.declared.Aligned.{Aligned}
 use Rattle.bits.specs.declared.Aligned.the-variants.{Clean, Unclean}
 use Rattle.bits.specs.declared.Got.{Got}
 use Rattle.bits.specs.declared.Got.the-variants.{Value, Fault}
+
+-- no bits
+pub skips-none : (o : Order) (b : List ℕ) (p : ℕ) → ub o b p 0 ≡ 0
+unfolding ub
+skips-none o b p = refl
 
 -- ---- fields in fields: a field that code gathered as x, m bits at q, and one that it cut out of x
 pub ub-cut : (o : Order) (b : List ℕ) (q m k n l : ℕ) {p x s r : ℕ} → x ≡ ub o b q m → q + k ≡ p → k + n + l ≡ m → s ≡ below o k l → r ≡ x / 2 ^ s % 2 ^ n → ub o b p n ≡ r
@@ -36,69 +41,86 @@ below-lt low k l m e h g = rw e h
 
 -- ---- bytes gathered into a field: the first, and one more that counts less. High first it stands behind them, low first before them
 
+abbrev pub IsByte : List ℕ → ℕ → ℕ → Type 0
+IsByte b i x = (x ≡ getD b i 0) × (x < 256)
+
 pub ub-first : (o : Order) (b : List ℕ) (i : ℕ) {x : ℕ} → (x ≡ getD b i 0) × (x < 256) → x ≡ ub o b (8 * i) 8
 ub-first o b i h = h .0 ∙ sym (ub-byte o b i ∙ mod-eq-of-lt (rw (h .0) at (h .1)))
 
-ub-more : (b : List ℕ) (q m i : ℕ) {x y : ℕ} → x ≡ ub high b q m → q + m ≡ 8 * i → (y ≡ getD b i 0) × (y < 256) → x * 256 + y ≡ ub high b q (m + 8)
-ub-more b q m i e f h = rw (ub-split high b q m 8, f, ← e, ← ub-first high b i h)
+byte-more : (b : List ℕ) (q m i : ℕ) {x y : ℕ} → x ≡ ub high b q m → q + m ≡ 8 * i → y ≡ ub high b (8 * i) 8 → x * 256 + y ≡ ub high b q (m + 8)
+byte-more b q m i e f h = rw (ub-split high b q m 8, f, ← e, ← h)
 
 ub-less : (b : List ℕ) (q m i : ℕ) {x y : ℕ} → x ≡ ub low b q m → q ≡ 8 * i + 8 → (y ≡ getD b i 0) × (y < 256) → x * 256 + y ≡ ub low b (8 * i) (8 + m)
 ub-less b q m i e f h = rw (ub-split low b (8 * i) 8 m, ← f, ← e, ← ub-first low b i h)
 
--- where the first i of n bytes that count most stand: high first from the start on, low first up to the end
-abbrev pub upTo : Order → ℕ → ℕ → ℕ
-upTo high n i = 0
-upTo low n i = 8 * (n - i)
-
--- i of n bytes are x so far
-pub bytes-none : (o : Order) (b : List ℕ) (n : ℕ) → 0 ≡ ub o b (upTo o n 0) (8 * 0)
-unfolding ub
-bytes-none o b n = refl
-
-pub bytes-more : (o : Order) (b : List ℕ) (n i j : ℕ) {x y : ℕ} → i < n → j ≡ fromTop o i n → x ≡ ub o b (upTo o n i) (8 * i) → (y ≡ getD b j 0) × (y < 256)
-    → x * 256 + y ≡ ub o b (upTo o n (i + 1)) (8 * (i + 1))
-bytes-more high b n i j l t e h =
-    let q : 8 * i + 8 ≡ 8 * (i + 1) = omega arith in
-    ub-more b 0 (8 * i) i e (omega arith) (rw t at h) ∙ ap (ub high b 0) q
-bytes-more low b n i j l t e h =
-    let q : 8 + 8 * i ≡ 8 * (i + 1) = omega arith in
-    let s : n - 1 - i ≡ n - (i + 1) = omega arith in
-    ub-less b (8 * (n - i)) (8 * i) (n - (i + 1)) e (omega arith) (rw (t, s) at h) ∙ ap (ub low b (8 * (n - (i + 1)))) q
+-- low first, the bytes from j on are x so far, down from the last one
+pub bytes-more : (b : List ℕ) (i j n : ℕ) {x y : ℕ} → i + 1 ≡ j → j ≤ n → x ≡ ub low b (8 * j) (8 * (n - j)) → (y ≡ getD b i 0) × (y < 256) → x * 256 + y ≡ ub low b (8 * i) (8 * (n - i))
+bytes-more b i j n s l e h =
+    let q : 8 + 8 * (n - j) ≡ 8 * (n - i) = omega arith in
+    ub-less b (8 * j) (8 * (n - j)) i e (omega arith) h ∙ ap (ub low b (8 * i)) q
 
 -- seven of them leave room for one more in 64 bits
-pub bytes-bound : (o : Order) (b : List ℕ) (q i : ℕ) {x : ℕ} → i < 7 → x ≡ ub o b q (8 * i) → x < 2 ^ 56
-bytes-bound o b q i h e = let l : 8 * i ≤ 56 = omega arith in omega (arith, e, ub-lt o b q (8 * i), pow-mono l)
+pub bytes-bound : (b : List ℕ) (q n : ℕ) {x : ℕ} → n ≤ 56 → x ≡ ub low b q n → x < 2 ^ 56
+bytes-bound b q n l e = omega (arith, e, ub-lt low b q n, pow-mono l)
 
-pub bytes-all : (o : Order) (b : List ℕ) (n i : ℕ) {x : ℕ} → i ≡ n → n ≡ length b → x ≡ ub o b (upTo o n i) (8 * i) → x ≡ ub o b 0 (8 * length b)
-bytes-all high b n i h l e = e ∙ ap (λ (j : ℕ). ub high b 0 (8 * j)) (h ∙ l)
-bytes-all low b n i h l e =
-    let z : 8 * (n - i) ≡ 0 = omega arith in
-    e ∙ ap₂ (λ (p j : ℕ). ub low b p (8 * j)) z (h ∙ l)
+pub bytes-none : (b : List ℕ) (n : ℕ) → 0 ≡ ub low b (8 * n) (8 * (n - n))
+bytes-none b n = let z : 8 * (n - n) ≡ 0 = omega arith in sym (ap (ub low b (8 * n)) z ∙ skips-none low b (8 * n))
 
--- eight bytes by their indexes
-pub eight-high : (b : List ℕ) (i : ℕ) {v : ℕ} → Joined b (i ∷ (i + 1) ∷ (i + 2) ∷ (i + 3) ∷ (i + 4) ∷ (i + 5) ∷ (i + 6) ∷ (i + 7) ∷ []) v → v ≡ ub high b (8 * i) 64
-eight-high b i h =
-    let e0 = ub-first high b i (refl, h .0) in
-    let e1 = ub-more b (8 * i) 8 (i + 1) e0 (omega arith) (refl, h .1 .0) in
-    let e2 = ub-more b (8 * i) 16 (i + 2) e1 (omega arith) (refl, h .1 .1 .0) in
-    let e3 = ub-more b (8 * i) 24 (i + 3) e2 (omega arith) (refl, h .1 .1 .1 .0) in
-    let e4 = ub-more b (8 * i) 32 (i + 4) e3 (omega arith) (refl, h .1 .1 .1 .1 .0) in
-    let e5 = ub-more b (8 * i) 40 (i + 5) e4 (omega arith) (refl, h .1 .1 .1 .1 .1 .0) in
-    let e6 = ub-more b (8 * i) 48 (i + 6) e5 (omega arith) (refl, h .1 .1 .1 .1 .1 .1 .0) in
-    let e7 = ub-more b (8 * i) 56 (i + 7) e6 (omega arith) (refl, h .1 .1 .1 .1 .1 .1 .1 .0) in
-    h .1 .1 .1 .1 .1 .1 .1 .1 ∙ e7
+-- past the end of the bytes stand zeros
+ub-zero : (o : Order) (b : List ℕ) (p n : ℕ) → 8 * length b ≤ p → ub o b p n ≡ 0
+unfolding ub bitAt
+ub-zero o b p zero h = refl
+ub-zero high b p (suc n) h =
+    let z : getD b (p / 8) 0 ≡ 0 = List·getD-eq-default b 0 (omega arith) in
+    rw (z, ub-zero high b (suc p) n (omega arith), zero-div) (omega arith)
+ub-zero low b p (suc n) h =
+    let z : getD b (p / 8) 0 ≡ 0 = List·getD-eq-default b 0 (omega arith) in
+    rw (z, ub-zero low b (suc p) n (omega arith), zero-div) (omega arith)
 
-pub eight-low : (b : List ℕ) (i : ℕ) {v : ℕ} → Joined b ((i + 7) ∷ (i + 6) ∷ (i + 5) ∷ (i + 4) ∷ (i + 3) ∷ (i + 2) ∷ (i + 1) ∷ i ∷ []) v → v ≡ ub low b (8 * i) 64
-eight-low b i h =
-    let e0 = ub-first low b (i + 7) (refl, h .0) in
-    let e1 = ub-less b (8 * (i + 7)) 8 (i + 6) e0 (omega arith) (refl, h .1 .0) in
-    let e2 = ub-less b (8 * (i + 6)) 16 (i + 5) e1 (omega arith) (refl, h .1 .1 .0) in
-    let e3 = ub-less b (8 * (i + 5)) 24 (i + 4) e2 (omega arith) (refl, h .1 .1 .1 .0) in
-    let e4 = ub-less b (8 * (i + 4)) 32 (i + 3) e3 (omega arith) (refl, h .1 .1 .1 .1 .0) in
-    let e5 = ub-less b (8 * (i + 3)) 40 (i + 2) e4 (omega arith) (refl, h .1 .1 .1 .1 .1 .0) in
-    let e6 = ub-less b (8 * (i + 2)) 48 (i + 1) e5 (omega arith) (refl, h .1 .1 .1 .1 .1 .1 .0) in
-    let e7 = ub-less b (8 * (i + 1)) 56 i e6 (omega arith) (refl, h .1 .1 .1 .1 .1 .1 .1 .0) in
-    h .1 .1 .1 .1 .1 .1 .1 .1 ∙ e7
+pub bytes-all : (b : List ℕ) (i n : ℕ) {x : ℕ} → i ≡ 0 → n ≡ length b → n < 8 → x ≡ ub low b (8 * i) (8 * (n - i)) → x ≡ ub low b 0 64
+bytes-all b i n z l h e =
+    let p : 8 * i ≡ 0 = omega arith in
+    let q : 8 * (n - i) ≡ 8 * n = omega arith in
+    let s : 8 * n + (64 - 8 * n) ≡ 64 = omega arith in
+    let u : ub low b (0 + 8 * n) (64 - 8 * n) ≡ 0 = ub-zero low b (0 + 8 * n) (64 - 8 * n) (omega arith) in
+    e ∙ ap₂ (λ (k m : ℕ). ub low b k m) p q ∙ sym (ap (ub low b 0) (sym s) ∙ ub-split low b 0 (8 * n) (64 - 8 * n) ∙ rw u (omega arith))
+
+-- eight bytes low first, from the last one down
+pub eight-low : (b : List ℕ) (i : ℕ) {b0 b1 b2 b3 b4 b5 b6 b7 : ℕ} → IsByte b i b0 → IsByte b (i + 1) b1 → IsByte b (i + 2) b2 → IsByte b (i + 3) b3 → IsByte b (i + 4) b4 → IsByte b (i + 5) b5 → IsByte b (i + 6) b6 → IsByte b (i + 7) b7
+    → ((((((b7 * 256 + b6) * 256 + b5) * 256 + b4) * 256 + b3) * 256 + b2) * 256 + b1) * 256 + b0 ≡ ub low b (8 * i) 64
+eight-low b i h0 h1 h2 h3 h4 h5 h6 h7 =
+    let e0 = ub-first low b (i + 7) h7 in
+    let e1 = ub-less b (8 * (i + 7)) 8 (i + 6) e0 (omega arith) h6 in
+    let e2 = ub-less b (8 * (i + 6)) 16 (i + 5) e1 (omega arith) h5 in
+    let e3 = ub-less b (8 * (i + 5)) 24 (i + 4) e2 (omega arith) h4 in
+    let e4 = ub-less b (8 * (i + 4)) 32 (i + 3) e3 (omega arith) h3 in
+    let e5 = ub-less b (8 * (i + 3)) 40 (i + 2) e4 (omega arith) h2 in
+    let e6 = ub-less b (8 * (i + 2)) 48 (i + 1) e5 (omega arith) h1 in
+    ub-less b (8 * (i + 1)) 56 i e6 (omega arith) h0
+
+-- each of them is cut out of their number; turned, the first counts most
+byte-of : (b : List ℕ) (i k l : ℕ) {x : ℕ} → x ≡ ub low b (8 * i) 64 → 8 * k + 8 + l ≡ 64 → x / 2 ^ (8 * k) % 2 ^ 8 ≡ ub high b (8 * (i + k)) 8
+byte-of b i k l e s =
+    let p : 8 * i + 8 * k ≡ 8 * (i + k) = omega arith in
+    rw (e, ← s, ub-within low b (8 * i) (8 * k) 8 l, p, ub-byte low b (i + k), ub-byte high b (i + k))
+
+turned-high : (b : List ℕ) (i : ℕ) {x : ℕ} → x ≡ ub low b (8 * i) 64 → turnedOf x ≡ ub high b (8 * i) 64
+turned-high b i {x} e =
+    let z : i + 0 ≡ i = omega arith in
+    let one : x / 2 ^ (8 * 0) ≡ x = div-one x in
+    let e0 : x % 256 ≡ ub high b (8 * i) 8 = rw (one, z) at (byte-of b i 0 56 e refl) in
+    let e1 = byte-more b (8 * i) 8 (i + 1) e0 (omega arith) (byte-of b i 1 48 e refl) in
+    let e2 = byte-more b (8 * i) 16 (i + 2) e1 (omega arith) (byte-of b i 2 40 e refl) in
+    let e3 = byte-more b (8 * i) 24 (i + 3) e2 (omega arith) (byte-of b i 3 32 e refl) in
+    let e4 = byte-more b (8 * i) 32 (i + 4) e3 (omega arith) (byte-of b i 4 24 e refl) in
+    let e5 = byte-more b (8 * i) 40 (i + 5) e4 (omega arith) (byte-of b i 5 16 e refl) in
+    let e6 = byte-more b (8 * i) 48 (i + 6) e5 (omega arith) (byte-of b i 6 8 e refl) in
+    byte-more b (8 * i) 56 (i + 7) e6 (omega arith) (byte-of b i 7 0 e refl)
+
+-- so eight bytes in their order are a field of that order
+pub ordered-is : (o : Order) (b : List ℕ) (i : ℕ) {x y : ℕ} → x ≡ ub low b (8 * i) 64 → y ≡ orderedBy o x → y ≡ ub o b (8 * i) 64
+ordered-is high b i e f = f ∙ turned-high b i e
+ordered-is low b i e f = f ∙ e
 
 -- the n bits from a place to the end of its byte x
 pub ub-rest : (o : Order) (b : List ℕ) (p n : ℕ) {x s r : ℕ} → (x ≡ getD b (p / 8) 0) × (x < 256) → p % 8 + n ≡ 8 → s ≡ below o (p % 8) 0 → r ≡ x / 2 ^ s % 2 ^ n → ub o b p n ≡ r
@@ -107,10 +129,6 @@ ub-rest o b p n h e s f = ub-cut o b (8 * (p / 8)) 8 (p % 8) n 0 (ub-first o b (
 -- `1 << n` in 64 bits
 pub one-shl : (n : ℕ) → n < 64 → 1 * 2 ^ n % 2 ^ 64 ≡ 2 ^ n
 one-shl n h = rw one-mul (mod-eq-of-lt (pow-lt h))
-
-pub skips-none : (o : Order) (b : List ℕ) (p : ℕ) → ub o b p 0 ≡ 0
-unfolding ub
-skips-none o b p = refl
 
 -- ---- UB, and what is made of one: SB and a width are `mapNum f` of a UB
 

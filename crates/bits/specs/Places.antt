@@ -1,9 +1,8 @@
 -- What the functions of this crate answer, in the words of the definitions.
-use Prim.Native.Nat.{ℕ, _+_, _-_, _*_, _^_, _≤_, _<_}
-use mathlib.Core.List.{List, [], _∷_}
-use mathlib.Core.Path.{_≡_}
+use Prim.Native.Nat.{ℕ, _+_, _*_, _/_, _%_, _^_, _≤_, _<_}
+use mathlib.Core.List.{List}
 use lib.Dec.{eqb}
-use lib.ListN.{length, getD}
+use lib.ListN.{length}
 use Rattle.format.specs.Tests.{pick}
 use Rattle.format.specs.Bits as paper
 use Rattle.format.specs.Bits.{ub}
@@ -23,24 +22,16 @@ orderOf LowFirst = paper.low
 abbrev pub InEither : (paper.Order → Type 0) → Type 0
 InEither P = (o : paper.Order) → P o
 
--- of n bytes the one that counts most but for i others
-abbrev pub fromTop : paper.Order → ℕ → ℕ → ℕ
-fromTop paper.high i n = i
-fromTop paper.low i n = n - 1 - i
+-- the eight bytes of a number the other way round
+abbrev pub turnedOf : ℕ → ℕ
+turnedOf x =
+    ((((((x % 256 * 256 + x / 256 % 256) * 256 + x / 65536 % 256) * 256 + x / 16777216 % 256) * 256 + x / 4294967296 % 256) * 256
+    + x / 1099511627776 % 256) * 256 + x / 281474976710656 % 256) * 256 + x / 72057594037927936 % 256
 
--- all indexes are below n
-abbrev pub AllIn : ℕ → List ℕ → Type 0
-AllIn n [] = Unit {0}
-AllIn n (i ∷ is) = (i < n) × AllIn n is
-
--- x and the bytes at these indexes are the number v: each byte more counts less than all before it
-abbrev pub JoinedTo : List ℕ → ℕ → List ℕ → ℕ → Type 0
-JoinedTo b x [] v = v ≡ x
-JoinedTo b x (i ∷ is) v = (getD b i 0 < 256) × JoinedTo b (x * 256 + getD b i 0) is v
-
-abbrev pub Joined : List ℕ → List ℕ → ℕ → Type 0
-Joined b [] v = v ≡ 0
-Joined b (i ∷ is) v = (getD b i 0 < 256) × JoinedTo b (getD b i 0) is v
+-- eight bytes that are one number with the first of them lowest, as an order has them
+abbrev pub orderedBy : paper.Order → ℕ → ℕ
+orderedBy paper.high x = turnedOf x
+orderedBy paper.low x = x
 
 -- the bit place p is in the bytes b or at their end, and sums of places fit
 abbrev pub PlaceIn : List ℕ → ℕ → Type 0

@@ -1,12 +1,11 @@
 // UB and SB fields, read by the bytes that they touch.
-ghost use mathlib.Core.List.{[], _∷_};
 ghost use mathlib.Core.Path.{_≡_};
 ghost use Prim.Native.Nat.{_+_, _-_, _*_, _/_, _%_, _^_, _<_, _≤_, min};
 ghost use lib.ListN.{length};
-ghost use Rattle.format.specs.Bits.{ub as fieldAt};
+ghost use Rattle.format.specs.Bits.{low, ub as fieldAt};
 ghost use Rattle.format.specs.Items.{readUB, readSB, readWidth, signExtend};
 ghost use Rattle.format.specs.WritingItems.{below as belowOf};
-ghost use Rattle.bits.specs.Places.{PlaceIn, numOf, orderOf, fromTop, AllIn, Joined};
+ghost use Rattle.bits.specs.Places.{PlaceIn, numOf, orderOf, turnedOf, orderedBy};
 use crate::BitPlace;
 use crate::Got;
 use crate::Order;
@@ -30,66 +29,58 @@ pub(crate) fn bits_below(order: Order, before: u64, behind: u64) -> u64
     }
 }
 
-// Of so many bytes the one that counts most but for i others.
-fn from_top(order: Order, i: usize, count: usize) -> usize
-    requires { ⌜ i < count ⌝ }
-    ensures { λ r. ⌜ (r ≡ fromTop (orderOf order) i count) × (r < count) ⌝ }
-{
-    match order {
-        Order::HighFirst => i,
-        Order::LowFirst => count - 1 - i,
-    }
-}
-
-// The bytes of a slice of fewer than eight as one number.
-fn few(order: Order, bytes: &[u8]) -> u64
+// The bytes of a slice of fewer than eight as one number, the first of them lowest; zeros stand past the end.
+fn few(bytes: &[u8]) -> u64
     requires { ⌜ length (now bytes) < 8 ⌝ }
-    ensures { λ r. ⌜ r ≡ fieldAt (orderOf order) (now (bytes .entry)) 0 (8 * length (now (bytes .entry))) ⌝ }
+    ensures { λ r. ⌜ r ≡ fieldAt low (now (bytes .entry)) 0 64 ⌝ }
 {
-    let count = bytes.len();
-    let mut i = 0;
+    let mut left = bytes.len();
     let mut sum = 0;
-    while i < count {
-        sum = sum * 256 + wide(bytes[from_top(order, i, count)]);
-        i += 1;
+    while 0 < left {
+        left -= 1;
+        sum = sum * 256 + wide(bytes[left]);
     }
     sum
 }
 
-// The bytes at eight indexes as one number: the first of them counts most.
-fn joined(
-    bytes: &[u8],
-    i0: usize,
-    i1: usize,
-    i2: usize,
-    i3: usize,
-    i4: usize,
-    i5: usize,
-    i6: usize,
-    i7: usize,
-) -> u64
-    requires { ⌜ AllIn (length (now bytes)) (i0 ∷ i1 ∷ i2 ∷ i3 ∷ i4 ∷ i5 ∷ i6 ∷ i7 ∷ []) ⌝ }
-    ensures { λ r. ⌜ Joined (now (bytes .entry)) (i0 ∷ i1 ∷ i2 ∷ i3 ∷ i4 ∷ i5 ∷ i6 ∷ i7 ∷ []) r ⌝ }
+// Eight bytes as one number, the first of them lowest, by one load.
+fn eight(bytes: &[u8], i: usize) -> u64
+    requires { ⌜ i + 8 ≤ length (now bytes) ⌝ }
+    ensures { λ r. ⌜ r ≡ fieldAt low (now (bytes .entry)) (8 * i) 64 ⌝ }
 {
-    let b0 = wide(bytes[i0]);
-    let b1 = wide(bytes[i1]);
-    let b2 = wide(bytes[i2]);
-    let b3 = wide(bytes[i3]);
-    let b4 = wide(bytes[i4]);
-    let b5 = wide(bytes[i5]);
-    let b6 = wide(bytes[i6]);
-    let b7 = wide(bytes[i7]);
+    let b0 = wide(bytes[i]);
+    let b1 = wide(bytes[i + 1]);
+    let b2 = wide(bytes[i + 2]);
+    let b3 = wide(bytes[i + 3]);
+    let b4 = wide(bytes[i + 4]);
+    let b5 = wide(bytes[i + 5]);
+    let b6 = wide(bytes[i + 6]);
+    let b7 = wide(bytes[i + 7]);
+    ((((((b7 * 256 + b6) * 256 + b5) * 256 + b4) * 256 + b3) * 256 + b2) * 256 + b1) * 256 + b0
+}
+
+// Eight bytes the other way round, by one instruction.
+fn turned(x: u64) -> u64
+    ensures { λ r. ⌜ r ≡ turnedOf x ⌝ }
+{
+    let b0 = x % 256;
+    let b1 = x / 256 % 256;
+    let b2 = x / 65536 % 256;
+    let b3 = x / 16777216 % 256;
+    let b4 = x / 4294967296 % 256;
+    let b5 = x / 1099511627776 % 256;
+    let b6 = x / 281474976710656 % 256;
+    let b7 = x / 72057594037927936 % 256;
     ((((((b0 * 256 + b1) * 256 + b2) * 256 + b3) * 256 + b4) * 256 + b5) * 256 + b6) * 256 + b7
 }
 
-// The eight bytes from an index on as one number, by one load.
-fn eight(order: Order, bytes: &[u8], i: usize) -> u64
-    requires { ⌜ i + 8 ≤ length (now bytes) ⌝ }
-    ensures { λ r. ⌜ r ≡ fieldAt (orderOf order) (now (bytes .entry)) (8 * i) 64 ⌝ }
+// The eight bytes of a number, the first of them lowest, as the order has them: high first the first counts most.
+fn ordered(order: Order, x: u64) -> u64
+    ensures { λ r. ⌜ r ≡ orderedBy (orderOf order) x ⌝ }
 {
     match order {
-        Order::HighFirst => joined(bytes, i, i + 1, i + 2, i + 3, i + 4, i + 5, i + 6, i + 7),
-        Order::LowFirst => joined(bytes, i + 7, i + 6, i + 5, i + 4, i + 3, i + 2, i + 1, i),
+        Order::HighFirst => turned(x),
+        Order::LowFirst => x,
     }
 }
 
@@ -108,20 +99,14 @@ pub fn field(order: Order, bytes: &[u8], at: BitPlace, width: u64) -> u64
     let place = at.0;
     let len = bytes.len();
     if len < 8 {
-        let behind = (8 * len - place) as u64 - width;
-        return cut(
-            few(order, bytes),
-            bits_below(order, place as u64, behind),
-            width,
-        );
+        let before = place as u64;
+        let below = bits_below(order, before, 64 - before - width);
+        return cut(ordered(order, few(bytes)), below, width);
     }
     let i = lesser(place / 8, len - 8);
     let before = (place - 8 * i) as u64;
-    cut(
-        eight(order, bytes, i),
-        bits_below(order, before, 64 - before - width),
-        width,
-    )
+    let below = bits_below(order, before, 64 - before - width);
+    cut(ordered(order, eight(bytes, i)), below, width)
 }
 
 // UB[n].
