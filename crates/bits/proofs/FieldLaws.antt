@@ -32,8 +32,8 @@ unfolding ub
 skips-none o b p = refl
 
 -- ---- fields in fields: a field that code gathered as x, m bits at q, and one that it cut out of x
-pub ub-cut : (o : Order) (b : List ℕ) (q m k n l : ℕ) {p x s r : ℕ} → x ≡ ub o b q m → q + k ≡ p → k + n + l ≡ m → s ≡ below o k l → r ≡ x / 2 ^ s % 2 ^ n → ub o b p n ≡ r
-ub-cut o b q m k n l e f g s h = sym (h ∙ rw (s, e, ← g, ← f) (ub-within o b q k n l))
+ub-cut : (o : Order) (b : List ℕ) (q m k n l : ℕ) {p x r : ℕ} → x ≡ ub o b q m → q + k ≡ p → k + n + l ≡ m → r ≡ x / 2 ^ below o k l % 2 ^ n → ub o b p n ≡ r
+ub-cut o b q m k n l e f g h = sym (h ∙ rw (e, ← g, ← f) (ub-within o b q k n l))
 
 pub below-lt : (o : Order) (k l m : ℕ) {s : ℕ} → s ≡ below o k l → k < m → l < m → s < m
 below-lt high k l m e h g = rw e g
@@ -118,13 +118,17 @@ turned-high b i {x} e =
     byte-more b (8 * i) 56 (i + 7) e6 (omega arith) (byte-of b i 7 0 e refl)
 
 -- so eight bytes in their order are a field of that order
-pub ordered-is : (o : Order) (b : List ℕ) (i : ℕ) {x y : ℕ} → x ≡ ub low b (8 * i) 64 → y ≡ orderedBy o x → y ≡ ub o b (8 * i) 64
-ordered-is high b i e f = f ∙ turned-high b i e
-ordered-is low b i e f = f ∙ e
+ordered-is : (o : Order) (b : List ℕ) (i : ℕ) {x : ℕ} → x ≡ ub low b (8 * i) 64 → orderedBy o x ≡ ub o b (8 * i) 64
+ordered-is high b i e = turned-high b i e
+ordered-is low b i e = e
+
+-- and a field is cut out of them
+pub field-cut : (o : Order) (b : List ℕ) (i k n : ℕ) {p x r : ℕ} → x ≡ ub low b (8 * i) 64 → 8 * i + k ≡ p → k + n ≤ 64 → r ≡ orderedBy o x / 2 ^ below o k (64 - k - n) % 2 ^ n → r ≡ ub o b p n
+field-cut o b i k n e f g h = sym (ub-cut o b (8 * i) 64 k n (64 - k - n) (ordered-is o b i e) f (omega arith) h)
 
 -- the n bits from a place to the end of its byte x
 pub ub-rest : (o : Order) (b : List ℕ) (p n : ℕ) {x s r : ℕ} → (x ≡ getD b (p / 8) 0) × (x < 256) → p % 8 + n ≡ 8 → s ≡ below o (p % 8) 0 → r ≡ x / 2 ^ s % 2 ^ n → ub o b p n ≡ r
-ub-rest o b p n h e s f = ub-cut o b (8 * (p / 8)) 8 (p % 8) n 0 (ub-first o b (p / 8) h) (omega arith) (omega arith) s f
+ub-rest o b p n {x} h e s f = ub-cut o b (8 * (p / 8)) 8 (p % 8) n 0 (ub-first o b (p / 8) h) (omega arith) (omega arith) (f ∙ ap (λ (m : ℕ). x / 2 ^ m % 2 ^ n) s)
 
 -- `1 << n` in 64 bits
 pub one-shl : (n : ℕ) → n < 64 → 1 * 2 ^ n % 2 ^ 64 ≡ 2 ^ n

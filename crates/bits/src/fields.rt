@@ -74,13 +74,14 @@ fn turned(x: u64) -> u64
     ((((((b0 * 256 + b1) * 256 + b2) * 256 + b3) * 256 + b4) * 256 + b5) * 256 + b6) * 256 + b7
 }
 
-// The eight bytes of a number, the first of them lowest, as the order has them: high first the first counts most.
-fn ordered(order: Order, x: u64) -> u64
-    ensures { λ r. ⌜ r ≡ orderedBy (orderOf order) x ⌝ }
+// A field out of eight bytes that are one number, the first of them lowest; so many bits stand before it. High first the first byte counts most.
+fn cut_out(order: Order, x: u64, before: u64, width: u64) -> u64
+    requires { ⌜ (before + width ≤ 64) × (before < 64) × (1 ≤ width) × (width ≤ 32) ⌝ }
+    ensures { λ r. ⌜ (r ≡ orderedBy (orderOf order) x / 2 ^ belowOf (orderOf order) before (64 - before - width) % 2 ^ width) × (r < 2 ^ width) ⌝ }
 {
     match order {
-        Order::HighFirst => turned(x),
-        Order::LowFirst => x,
+        Order::HighFirst => cut(turned(x), 64 - before - width, width),
+        Order::LowFirst => cut(x, before, width),
     }
 }
 
@@ -99,14 +100,10 @@ pub fn field(order: Order, bytes: &[u8], at: BitPlace, width: u64) -> u64
     let place = at.0;
     let len = bytes.len();
     if len < 8 {
-        let before = place as u64;
-        let below = bits_below(order, before, 64 - before - width);
-        return cut(ordered(order, few(bytes)), below, width);
+        return cut_out(order, few(bytes), place as u64, width);
     }
     let i = lesser(place / 8, len - 8);
-    let before = (place - 8 * i) as u64;
-    let below = bits_below(order, before, 64 - before - width);
-    cut(ordered(order, eight(bytes, i)), below, width)
+    cut_out(order, eight(bytes, i), (place - 8 * i) as u64, width)
 }
 
 // UB[n].

@@ -1,3 +1,4 @@
+-- `bit_reader::field_of` meets its contract.
 use denote.Ref.{now}
 use mathlib.Core.Path.{ap, _∙_}
 use native.Mathlib.Omega.{arith}
@@ -12,27 +13,21 @@ use Rattle.bit_reader.proofs.field_of.Lts as lts
 use Rattle.bit_reader.proofs.read_near.Reads as read-near-reads
 use Rattle.bits.proofs.order_named.Reads as order-named-reads
 
--- src/lib.rt:90:9
 returns : tie.Need-returns
 returns c = order-neither (c .before .before .args .order) (c .before .before .args .signed) (now (c .before .before .args .bytes)) (c .before .before .args .place .0) (c .before .before .args .width) (c .if1 .taken)
 
--- src/lib.rt:93:9
 returns-2 : tie.Need-returns-2
 returns-2 c = width-low (c .before .before .before .args .order) (c .before .before .before .args .signed) (now (c .before .before .before .args .bytes)) (c .before .before .before .args .place .0) (c .before .before .before .args .width) (omega (arith, c .before .if1 .left)) (omega (arith, c .if2 .taken))
 
--- src/lib.rt:96:9
 returns-3 : tie.Need-returns-3
 returns-3 c = width-high (c .before .before .before .before .args .order) (c .before .before .before .before .args .signed) (now (c .before .before .before .before .args .bytes)) (c .before .before .before .before .args .place .0) (c .before .before .before .before .args .width) (omega (arith, c .before .before .if1 .left)) (omega (arith, c .if3 .taken))
 
--- src/lib.rt:98:9
 order-named-requires : tie.Need-order-named-requires
 order-named-requires c κs = search needs
 
--- src/lib.rt:99:5
 read-near-requires : tie.Need-read-near-requires
 read-near-requires c κs = (omega (arith, c .before .before .if2 .left), omega (arith, c .before .if3 .left))
 
--- src/lib.rt:86:1
 returns-4 : tie.Need-returns-4
 returns-4 c = width-right (c .before .before .before .before .before .before .args .order) (c .before .before .before .before .before .before .args .signed) (now (c .before .before .before .before .before .before .args .bytes)) (c .before .before .before .before .before .before .args .place .0) (c .before .before .before .before .before .before .args .width) (omega (arith, c .before .before .before .before .if1 .left)) (omega (arith, c .before .before .before .if2 .left)) (omega (arith, c .before .before .if3 .left)) (c .read-near .ensures ∙ ap (λ (o : Order). inBytes o (c .before .before .before .before .before .before .args .signed) (now (c .before .before .before .before .before .before .args .bytes)) (c .before .before .before .before .before .before .args .place .0) (c .before .before .before .before .before .before .args .width)) (c .before .order-named .ensures))
 

@@ -1,3 +1,4 @@
+-- `reader::read` meets its contract.
 use denote.Ref.{now}
 use mathlib.Core.Path.{sym, _∙_}
 use native.Mathlib.Omega.{arith}
@@ -13,55 +14,42 @@ use Rattle.bits.proofs.order_named.Reads as order-named-reads
 use Rattle.reader.proofs.read_tags.Reads as read-tags-reads
 use Rattle.reader.proofs.survey.Reads as survey-reads
 
--- src/lib.rt:108:11
 survey-requires : tie.Need-survey-requires
 survey-requires c κs = search needs
 
--- src/lib.rt:109:23
 enum-known-why : tie.Need-enum-known-why
 enum-known-why c = search needs
 
--- src/lib.rt:110:22
 enum-known-in-table : tie.Need-enum-known-in-table
 enum-known-in-table c = search needs
 
--- src/lib.rt:112:17
 returns : tie.Need-returns
 returns c = read-short (c .before .before .before .before .before .before .before .args .order) (c .before .before .before .before .before .before .before .args .level) (now (c .before .before .before .before .before .before .before .args .file)) (now (c .before .before .before .before .before .before .before .args .table)) (sym (c .before .before .in-table .given .1) ∙ c .before .before .before .before .survey .ensures) (c .if1 .taken)
 
--- src/lib.rt:114:24
 byte-at-requires : tie.Need-byte-at-requires
 byte-at-requires c κs = search needs
 
--- src/lib.rt:114:13
 slice-write-table : tie.Need-slice-write-table
 slice-write-table c = omega (arith, c .before .if1 .left, survey-found (c .before .before .before .before .before .before .before .before .args .order) (c .before .before .before .before .before .before .before .before .args .level) (now (c .before .before .before .before .before .before .before .before .args .file)) (sym (c .before .before .before .in-table .given .1) ∙ c .before .before .before .before .before .survey .ensures) .numbers-are)
 
--- src/lib.rt:116:17
 order-named-requires : tie.Need-order-named-requires
 order-named-requires c κs = search needs
 
--- src/lib.rt:117:62
 array-borrow-prefix-none : tie.Need-array-borrow-prefix-none
 array-borrow-prefix-none c = search needs
 
--- src/lib.rt:117:62
 slice-aggregate-read-tags : tie.Need-slice-aggregate-read-tags
 slice-aggregate-read-tags c = search needs
 
--- src/lib.rt:117:13
 read-tags-requires : tie.Need-read-tags-requires
 read-tags-requires c κs = fair-file (c .before .before .before .before .before .before .before .before .before .before .before .args .order) (c .before .before .before .before .before .before .before .before .before .before .before .args .level) (now (c .before .before .before .before .before .before .before .before .before .before .before .args .file)) (survey-found (c .before .before .before .before .before .before .before .before .before .before .before .args .order) (c .before .before .before .before .before .before .before .before .before .before .before .args .level) (now (c .before .before .before .before .before .before .before .before .before .before .before .args .file)) (sym (c .before .before .before .before .before .before .in-table .given .1) ∙ c .before .before .before .before .before .before .before .before .survey .ensures) .start)
 
--- src/lib.rt:105:1
 returns-2 : tie.Need-returns-2
 returns-2 c = read-refused (c .before .before .before .before .before .before .args .order) (c .before .before .before .before .before .before .args .level) (now (c .before .before .before .before .before .before .args .file)) (now (c .before .before .before .before .before .before .args .table)) (sym (c .before .why .given .1) ∙ c .before .before .before .survey .ensures)
 
--- src/lib.rt:105:1
 same-length : tie.Need-same-length
 same-length c = read-size (c .before .before .before .before .before .before .before .before .before .before .before .before .before .before .before .args .order) (c .before .before .before .before .before .before .before .before .before .before .before .before .before .before .before .args .level) (now (c .before .before .before .before .before .before .before .before .before .before .before .before .before .before .before .args .file)) (now (c .before .before .before .before .before .before .before .before .before .before .before .before .before .before .before .args .table)) (orderOf (c .before .before .before .before .before .before .order-named .result)) _ (c .before .before .before .before .before .before .before .byte-at .ensures .0) (c .before .before .before .read-tags .ensures)
 
--- src/lib.rt:105:1
 returns-3 : tie.Need-returns-3
 returns-3 c = read-done (c .before .before .before .before .before .before .before .before .before .before .before .before .before .before .before .args .order) (c .before .before .before .before .before .before .before .before .before .before .before .before .before .before .before .args .level) (now (c .before .before .before .before .before .before .before .before .before .before .before .before .before .before .before .args .file)) (now (c .before .before .before .before .before .before .before .before .before .before .before .before .before .before .before .args .table)) (orderOf (c .before .before .before .before .before .before .order-named .result)) _ (c .before .before .before .before .before .before .order-named .ensures) (sym (c .before .before .before .before .before .before .before .before .before .before .in-table .given .1) ∙ c .before .before .before .before .before .before .before .before .before .before .before .before .survey .ensures) (c .before .before .before .before .before .before .before .before .if1 .left) (c .before .before .before .before .before .before .before .byte-at .ensures .0) (c .before .before .before .read-tags .ensures)
 

@@ -1,3 +1,4 @@
+-- `reader::start_fault` meets its contract.
 use native.Mathlib.Omega.{arith}
 use denote.Ref.{now}
 use Rattle.reader.proofs.FileLaws.{start-1, start-24, start-2, start-3-first, start-3-second, start-3, start-4, start-5, start-5-long, start-0}
@@ -9,67 +10,51 @@ use Rattle.reader.proofs.start_fault.Lts as lts
 use Rattle.bits.proofs.byte_at.Reads as byte-at-reads
 use Rattle.headers.proofs.le32_at.Reads as le32-at-reads
 
--- src/lib.rt:24:9
 returns : tie.Need-returns
 returns c = start-1 (c .before .before .args .order) (c .before .before .args .level) (now (c .before .before .args .file)) (c .if1 .taken)
 
--- src/lib.rt:27:9
 returns-2 : tie.Need-returns-2
 returns-2 c = start-24 (c .before .before .before .args .order) (c .before .before .before .args .level) (now (c .before .before .before .args .file)) (omega (arith, c .before .if1 .left)) (c .if2 .taken)
 
--- src/lib.rt:31:9
 returns-3 : tie.Need-returns-3
 returns-3 c = start-2 (c .before .before .before .before .args .order) (c .before .before .before .before .args .level) (now (c .before .before .before .before .args .file)) (omega (arith, c .before .before .if1 .left)) (omega (arith, c .before .if2 .left)) (c .if3 .taken)
 
--- src/lib.rt:33:8
 byte-at-requires : tie.Need-byte-at-requires
 byte-at-requires c κs = search needs
 
--- src/lib.rt:34:9
 returns-4 : tie.Need-returns-4
 returns-4 c = start-3-first (c .before .before .before .before .before .before .args .order) (c .before .before .before .before .before .before .args .level) (now (c .before .before .before .before .before .before .args .file)) (omega (arith, c .before .before .before .before .if1 .left)) (omega (arith, c .before .before .before .if2 .left)) (omega (arith, c .before .before .if3 .left)) (c .before .byte-at .ensures .0) (c .if4 .taken)
 
--- src/lib.rt:36:8
 byte-at-requires-2 : tie.Need-byte-at-requires-2
 byte-at-requires-2 c κs = search needs
 
--- src/lib.rt:37:9
 returns-5 : tie.Need-returns-5
 returns-5 c = start-3-second (c .before .before .before .before .before .before .before .before .args .order) (c .before .before .before .before .before .before .before .before .args .level) (now (c .before .before .before .before .before .before .before .before .args .file)) (omega (arith, c .before .before .before .before .before .before .if1 .left)) (omega (arith, c .before .before .before .before .before .if2 .left)) (omega (arith, c .before .before .before .before .if3 .left)) (c .before .before .before .byte-at .ensures .0) (c .before .before .if4 .left) (c .before .byte-at2 .ensures .0) (c .if5 .taken)
 
--- src/lib.rt:39:8
 byte-at-requires-3 : tie.Need-byte-at-requires-3
 byte-at-requires-3 c κs = search needs
 
--- src/lib.rt:40:9
 returns-6 : tie.Need-returns-6
 returns-6 c = start-3 (c .before .before .before .before .before .before .before .before .before .before .args .order) (c .before .before .before .before .before .before .before .before .before .before .args .level) (now (c .before .before .before .before .before .before .before .before .before .before .args .file)) (omega (arith, c .before .before .before .before .before .before .before .before .if1 .left)) (omega (arith, c .before .before .before .before .before .before .before .if2 .left)) (omega (arith, c .before .before .before .before .before .before .if3 .left)) (c .before .before .before .before .before .byte-at .ensures .0) (c .before .before .before .before .if4 .left) (c .before .before .before .byte-at2 .ensures .0) (c .before .before .if5 .left) (c .before .byte-at3 .ensures .0) (c .if6 .taken)
 
--- src/lib.rt:42:8
 byte-at-requires-4 : tie.Need-byte-at-requires-4
 byte-at-requires-4 c κs = search needs
 
--- src/lib.rt:43:9
 returns-7 : tie.Need-returns-7
 returns-7 c = start-4 (c .before .before .before .before .before .before .before .before .before .before .before .before .args .order) (c .before .before .before .before .before .before .before .before .before .before .before .before .args .level) (now (c .before .before .before .before .before .before .before .before .before .before .before .before .args .file)) (omega (arith, c .before .before .before .before .before .before .before .before .before .before .if1 .left)) (omega (arith, c .before .before .before .before .before .before .before .before .before .if2 .left)) (omega (arith, c .before .before .before .before .before .before .before .before .if3 .left)) (c .before .before .before .before .before .before .before .byte-at .ensures .0) (c .before .before .before .before .before .before .if4 .left) (c .before .before .before .before .before .byte-at2 .ensures .0) (c .before .before .before .before .if5 .left) (c .before .before .before .byte-at3 .ensures .0) (c .before .before .if6 .left) (c .before .byte-at4 .ensures .0) (c .if7 .taken)
 
--- src/lib.rt:45:8
 le32-at-requires : tie.Need-le32-at-requires
 le32-at-requires c κs = search needs
 
--- src/lib.rt:45:8
 cast-if8 : tie.Need-cast-if8
 cast-if8 c = search needs
 
--- src/lib.rt:46:9
 returns-8 : tie.Need-returns-8
 returns-8 c = start-5 (c .before .before .before .before .before .before .before .before .before .before .before .before .before .before .args .order) (c .before .before .before .before .before .before .before .before .before .before .before .before .before .before .args .level) (now (c .before .before .before .before .before .before .before .before .before .before .before .before .before .before .args .file)) (omega (arith, c .before .before .before .before .before .before .before .before .before .before .before .before .if1 .left)) (omega (arith, c .before .before .before .before .before .before .before .before .before .before .before .if2 .left)) (omega (arith, c .before .before .before .before .before .before .before .before .before .before .if3 .left)) (c .before .before .before .before .before .before .before .before .before .byte-at .ensures .0) (c .before .before .before .before .before .before .before .before .if4 .left) (c .before .before .before .before .before .before .before .byte-at2 .ensures .0) (c .before .before .before .before .before .before .if5 .left) (c .before .before .before .before .before .byte-at3 .ensures .0) (c .before .before .before .before .if6 .left) (c .before .before .before .byte-at4 .ensures .0) (c .before .before .if7 .left) (c .before .le32-at .ensures) (c .if8 .taken)
 
--- src/lib.rt:49:9
 returns-9 : tie.Need-returns-9
 returns-9 c = start-5-long (c .before .before .before .before .before .before .before .before .before .before .before .before .before .before .before .args .order) (c .before .before .before .before .before .before .before .before .before .before .before .before .before .before .before .args .level) (now (c .before .before .before .before .before .before .before .before .before .before .before .before .before .before .before .args .file)) (omega (arith, c .before .before .before .before .before .before .before .before .before .before .before .before .before .if1 .left)) (omega (arith, c .before .before .before .before .before .before .before .before .before .before .before .before .if2 .left)) (omega (arith, c .before .before .before .before .before .before .before .before .before .before .before .if3 .left)) (c .before .before .before .before .before .before .before .before .before .before .byte-at .ensures .0) (c .before .before .before .before .before .before .before .before .before .if4 .left) (c .before .before .before .before .before .before .before .before .byte-at2 .ensures .0) (c .before .before .before .before .before .before .before .if5 .left) (c .before .before .before .before .before .before .byte-at3 .ensures .0) (c .before .before .before .before .before .if6 .left) (c .before .before .before .before .byte-at4 .ensures .0) (c .before .before .before .if7 .left) (c .before .before .le32-at .ensures) (c .before .if8 .left) (c .if9 .taken)
 
--- src/lib.rt:20:1
 returns-10 : tie.Need-returns-10
 returns-10 c = start-0 (c .before .before .before .before .before .before .before .before .before .before .before .before .before .before .before .args .order) (c .before .before .before .before .before .before .before .before .before .before .before .before .before .before .before .args .level) (now (c .before .before .before .before .before .before .before .before .before .before .before .before .before .before .before .args .file)) (omega (arith, c .before .before .before .before .before .before .before .before .before .before .before .before .before .if1 .left)) (omega (arith, c .before .before .before .before .before .before .before .before .before .before .before .before .if2 .left)) (omega (arith, c .before .before .before .before .before .before .before .before .before .before .before .if3 .left)) (c .before .before .before .before .before .before .before .before .before .before .byte-at .ensures .0) (c .before .before .before .before .before .before .before .before .before .if4 .left) (c .before .before .before .before .before .before .before .before .byte-at2 .ensures .0) (c .before .before .before .before .before .before .before .if5 .left) (c .before .before .before .before .before .before .byte-at3 .ensures .0) (c .before .before .before .before .before .if6 .left) (c .before .before .before .before .byte-at4 .ensures .0) (c .before .before .before .if7 .left) (c .before .before .le32-at .ensures) (c .before .if8 .left) (c .if9 .left)
 

@@ -1,3 +1,4 @@
+-- `reader::survey` meets its contract.
 use denote.Ref.{now}
 use mathlib.Core.Path.{sym, _∙_}
 use Rattle.bits.specs.Places.{orderOf}
@@ -11,39 +12,30 @@ use Rattle.bits.proofs.order_named.Reads as order-named-reads
 use Rattle.reader.proofs.read_tags.Reads as read-tags-reads
 use Rattle.reader.proofs.start_fault.Reads as start-fault-reads
 
--- src/lib.rt:87:9
 start-fault-requires : tie.Need-start-fault-requires
 start-fault-requires c κs = search needs
 
--- src/lib.rt:89:9
 returns : tie.Need-returns
 returns c = survey-start (c .before .before .before .args .order) (c .before .before .before .args .level) (now (c .before .before .before .args .file)) (c .before .start-fault .ensures) (c .if1 .taken)
 
--- src/lib.rt:93:9
 order-named-requires : tie.Need-order-named-requires
 order-named-requires c κs = search needs
 
--- src/lib.rt:99:9
 array-borrow-prefix-table : tie.Need-array-borrow-prefix-table
 array-borrow-prefix-table c = search needs
 
--- src/lib.rt:99:9
 slice-aggregate-read-tags : tie.Need-slice-aggregate-read-tags
 slice-aggregate-read-tags c = search needs
 
--- src/lib.rt:100:9
 array-borrow-prefix-rows : tie.Need-array-borrow-prefix-rows
 array-borrow-prefix-rows c = search needs
 
--- src/lib.rt:100:9
 slice-aggregate-read-tags-2 : tie.Need-slice-aggregate-read-tags-2
 slice-aggregate-read-tags-2 c = search needs
 
--- src/lib.rt:94:5
 read-tags-requires : tie.Need-read-tags-requires
 read-tags-requires c κs = fair-file (c .before .before .before .before .before .before .args .order) (c .before .before .before .before .before .before .args .level) (now (c .before .before .before .before .before .before .args .file)) (sym (c .before .before .before .before .start-fault .ensures) ∙ c .before .before .before .if1 .left)
 
--- src/lib.rt:84:1
 returns-2 : tie.Need-returns-2
 returns-2 c = survey-walk (c .before .before .before .before .before .before .before .before .before .args .order) (c .before .before .before .before .before .before .before .before .before .args .level) (now (c .before .before .before .before .before .before .before .before .before .args .file)) (orderOf (c .before .before .before .before .before .order-named .result)) _ _ (c .before .before .before .before .before .order-named .ensures) (sym (c .before .before .before .before .before .before .before .start-fault .ensures) ∙ c .before .before .before .before .before .before .if1 .left) (c .before .before .read-tags .ensures)
 

@@ -1,3 +1,4 @@
+-- `reader::tags` meets its contract.
 use denote.Ref.{now}
 use mathlib.Core.Path.{sym, _∙_}
 use Rattle.bits.specs.Places.{orderOf}
@@ -11,47 +12,36 @@ use Rattle.bits.proofs.order_named.Reads as order-named-reads
 use Rattle.reader.proofs.read_tags.Reads as read-tags-reads
 use Rattle.reader.proofs.survey.Reads as survey-reads
 
--- src/lib.rt:127:11
 survey-requires : tie.Need-survey-requires
 survey-requires c κs = search needs
 
--- src/lib.rt:128:23
 enum-known-why : tie.Need-enum-known-why
 enum-known-why c = search needs
 
--- src/lib.rt:129:25
 enum-known-in-rows : tie.Need-enum-known-in-rows
 enum-known-in-rows c = search needs
 
--- src/lib.rt:131:17
 returns : tie.Need-returns
 returns c = tags-short (c .before .before .before .before .before .before .before .args .order) (c .before .before .before .before .before .before .before .args .level) (now (c .before .before .before .before .before .before .before .args .file)) (now (c .before .before .before .before .before .before .before .args .tags)) (sym (c .before .before .in-rows .given .1) ∙ c .before .before .before .before .survey .ensures) (c .if1 .taken)
 
--- src/lib.rt:134:17
 order-named-requires : tie.Need-order-named-requires
 order-named-requires c κs = search needs
 
--- src/lib.rt:135:57
 array-borrow-prefix-none : tie.Need-array-borrow-prefix-none
 array-borrow-prefix-none c = search needs
 
--- src/lib.rt:135:57
 slice-aggregate-read-tags : tie.Need-slice-aggregate-read-tags
 slice-aggregate-read-tags c = search needs
 
--- src/lib.rt:135:13
 read-tags-requires : tie.Need-read-tags-requires
 read-tags-requires c κs = fair-file (c .before .before .before .before .before .before .before .before .before .before .args .order) (c .before .before .before .before .before .before .before .before .before .before .args .level) (now (c .before .before .before .before .before .before .before .before .before .before .args .file)) (survey-found (c .before .before .before .before .before .before .before .before .before .before .args .order) (c .before .before .before .before .before .before .before .before .before .before .args .level) (now (c .before .before .before .before .before .before .before .before .before .before .args .file)) (sym (c .before .before .before .before .before .in-rows .given .1) ∙ c .before .before .before .before .before .before .before .survey .ensures) .start)
 
--- src/lib.rt:124:1
 returns-2 : tie.Need-returns-2
 returns-2 c = tags-refused (c .before .before .before .before .before .before .args .order) (c .before .before .before .before .before .before .args .level) (now (c .before .before .before .before .before .before .args .file)) (now (c .before .before .before .before .before .before .args .tags)) (sym (c .before .why .given .1) ∙ c .before .before .before .survey .ensures)
 
--- src/lib.rt:124:1
 same-length : tie.Need-same-length
 same-length c = search needs
 
--- src/lib.rt:124:1
 returns-3 : tie.Need-returns-3
 returns-3 c = tags-done (c .before .before .before .before .before .before .before .before .before .before .before .before .before .before .args .order) (c .before .before .before .before .before .before .before .before .before .before .before .before .before .before .args .level) (now (c .before .before .before .before .before .before .before .before .before .before .before .before .before .before .args .file)) (now (c .before .before .before .before .before .before .before .before .before .before .before .before .before .before .args .tags)) (orderOf (c .before .before .before .before .before .before .order-named .result)) _ (c .before .before .before .before .before .before .order-named .ensures) (sym (c .before .before .before .before .before .before .before .before .before .in-rows .given .1) ∙ c .before .before .before .before .before .before .before .before .before .before .before .survey .ensures) (c .before .before .before .before .before .before .before .if1 .left) (c .before .before .before .read-tags .ensures)
 

@@ -1,161 +1,121 @@
+-- `bits::fields::eight` meets its contract: a field grows by a byte at a time, from the last one down.
 use denote.Ref.{now}
 use Rattle.bits.proofs.FieldLaws.{eight-low}
 use borrow.Author.Needs.{needs}
 use Rattle.bits.proofs.fields.eight.Statement.{statement}
 use Rattle.bits.proofs.fields.eight.Tie as tie
-use Rattle.bits.proofs.fields.eight.Reads as reads
-use Rattle.bits.proofs.fields.eight.Lts as lts
-use Rattle.bits.proofs.wide.Reads as wide-reads
 
--- src/fields.rt:51:19
 shared-slice-read-wide : tie.Need-shared-slice-read-wide
 shared-slice-read-wide c = search needs
 
--- src/fields.rt:51:9
 wide-requires : tie.Need-wide-requires
 wide-requires c κs = search needs
 
--- src/fields.rt:52:25
 add-wide : tie.Need-add-wide
 add-wide c = search needs
 
--- src/fields.rt:52:19
 shared-slice-read-wide-2 : tie.Need-shared-slice-read-wide-2
 shared-slice-read-wide-2 c = search needs
 
--- src/fields.rt:52:9
 wide-requires-2 : tie.Need-wide-requires-2
 wide-requires-2 c κs = search needs
 
--- src/fields.rt:53:25
 add-wide-2 : tie.Need-add-wide-2
 add-wide-2 c = search needs
 
--- src/fields.rt:53:19
 shared-slice-read-wide-3 : tie.Need-shared-slice-read-wide-3
 shared-slice-read-wide-3 c = search needs
 
--- src/fields.rt:53:9
 wide-requires-3 : tie.Need-wide-requires-3
 wide-requires-3 c κs = search needs
 
--- src/fields.rt:54:25
 add-wide-3 : tie.Need-add-wide-3
 add-wide-3 c = search needs
 
--- src/fields.rt:54:19
 shared-slice-read-wide-4 : tie.Need-shared-slice-read-wide-4
 shared-slice-read-wide-4 c = search needs
 
--- src/fields.rt:54:9
 wide-requires-4 : tie.Need-wide-requires-4
 wide-requires-4 c κs = search needs
 
--- src/fields.rt:55:25
 add-wide-4 : tie.Need-add-wide-4
 add-wide-4 c = search needs
 
--- src/fields.rt:55:19
 shared-slice-read-wide-5 : tie.Need-shared-slice-read-wide-5
 shared-slice-read-wide-5 c = search needs
 
--- src/fields.rt:55:9
 wide-requires-5 : tie.Need-wide-requires-5
 wide-requires-5 c κs = search needs
 
--- src/fields.rt:56:25
 add-wide-5 : tie.Need-add-wide-5
 add-wide-5 c = search needs
 
--- src/fields.rt:56:19
 shared-slice-read-wide-6 : tie.Need-shared-slice-read-wide-6
 shared-slice-read-wide-6 c = search needs
 
--- src/fields.rt:56:9
 wide-requires-6 : tie.Need-wide-requires-6
 wide-requires-6 c κs = search needs
 
--- src/fields.rt:57:25
 add-wide-6 : tie.Need-add-wide-6
 add-wide-6 c = search needs
 
--- src/fields.rt:57:19
 shared-slice-read-wide-7 : tie.Need-shared-slice-read-wide-7
 shared-slice-read-wide-7 c = search needs
 
--- src/fields.rt:57:9
 wide-requires-7 : tie.Need-wide-requires-7
 wide-requires-7 c κs = search needs
 
--- src/fields.rt:58:25
 add-wide-7 : tie.Need-add-wide-7
 add-wide-7 c = search needs
 
--- src/fields.rt:58:19
 shared-slice-read-wide-8 : tie.Need-shared-slice-read-wide-8
 shared-slice-read-wide-8 c = search needs
 
--- src/fields.rt:58:9
 wide-requires-8 : tie.Need-wide-requires-8
 wide-requires-8 c κs = search needs
 
--- src/fields.rt:59:11
 mul-result : tie.Need-mul-result
 mul-result c = search needs
 
--- src/fields.rt:59:11
 add-result : tie.Need-add-result
 add-result c = search needs
 
--- src/fields.rt:59:10
 mul-result-2 : tie.Need-mul-result-2
 mul-result-2 c = search needs
 
--- src/fields.rt:59:10
 add-result-2 : tie.Need-add-result-2
 add-result-2 c = search needs
 
--- src/fields.rt:59:9
 mul-result-3 : tie.Need-mul-result-3
 mul-result-3 c = search needs
 
--- src/fields.rt:59:9
 add-result-3 : tie.Need-add-result-3
 add-result-3 c = search needs
 
--- src/fields.rt:59:8
 mul-result-4 : tie.Need-mul-result-4
 mul-result-4 c = search needs
 
--- src/fields.rt:59:8
 add-result-4 : tie.Need-add-result-4
 add-result-4 c = search needs
 
--- src/fields.rt:59:7
 mul-result-5 : tie.Need-mul-result-5
 mul-result-5 c = search needs
 
--- src/fields.rt:59:7
 add-result-5 : tie.Need-add-result-5
 add-result-5 c = search needs
 
--- src/fields.rt:59:6
 mul-result-6 : tie.Need-mul-result-6
 mul-result-6 c = search needs
 
--- src/fields.rt:59:6
 add-result-6 : tie.Need-add-result-6
 add-result-6 c = search needs
 
--- src/fields.rt:59:5
 mul-result-7 : tie.Need-mul-result-7
 mul-result-7 c = search needs
 
--- src/fields.rt:59:5
 add-result-7 : tie.Need-add-result-7
 add-result-7 c = search needs
 
--- src/fields.rt:47:1
 returns : tie.Need-returns
 returns c = eight-low (now (c .before .before .before .before .before .before .before .before .before .before .before .before .before .before .before .before .before .args .bytes)) (c .before .before .before .before .before .before .before .before .before .before .before .before .before .before .before .before .before .args .i) (c .before .before .before .before .before .before .before .before .before .before .before .before .before .before .wide .ensures) (c .before .before .before .before .before .before .before .before .before .before .before .before .wide2 .ensures) (c .before .before .before .before .before .before .before .before .before .before .wide3 .ensures) (c .before .before .before .before .before .before .before .before .wide4 .ensures) (c .before .before .before .before .before .before .wide5 .ensures) (c .before .before .before .before .wide6 .ensures) (c .before .before .wide7 .ensures) (c .wide8 .ensures)
 
