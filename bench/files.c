@@ -28,12 +28,14 @@ static uint64_t random_sized(struct maker *m, unsigned most)
     return random_word(m) >> (63 - random_below(m, most));
 }
 
+/* The first bit is the highest of its field and of its byte or, low first, the lowest of both. */
 static void put_bits(struct maker *m, unsigned width, uint64_t value)
 {
-    for (unsigned i = width; i-- > 0;) {
+    for (unsigned i = 0; i < width; i++) {
+        unsigned in_field = m->low ? i : width - 1 - i, in_byte = m->low ? m->begun_bits : 7 - m->begun_bits;
         if (m->begun_bits == 0) m->bytes[m->len++] = 0;
+        m->bytes[m->len - 1] |= (uint8_t)((value >> in_field & 1) << in_byte);
         m->begun_bits = (m->begun_bits + 1) % 8;
-        m->bytes[m->len - 1] |= (uint8_t)((value >> i & 1) << ((8 - m->begun_bits) % 8));
     }
 }
 

@@ -1,4 +1,5 @@
-/* Generated PAG files, the same for the same seed: small random ones for tests, and long ones of one kind for measurements. */
+/* Generated PAG files, the same for the same seed: small random ones for tests, and long ones of one kind for measurements. In the two bit orders the same seed
+ * makes files with the same items. */
 #ifndef FILES_H
 #define FILES_H
 
@@ -11,6 +12,7 @@ struct maker {
     size_t len;
     unsigned begun_bits;
     uint64_t seed;
+    int low; /* bytes are filled from their lowest bit */
 };
 
 enum kind { OPAQUE_BYTES, LONG_PATHS, SMALL_TAGS, NESTED, FONT_TABLES, KINDS };
@@ -20,7 +22,7 @@ extern const char *const KIND_NAMES[KINDS];
 /* A random number below `limit`, which is above 0. */
 uint64_t random_below(struct maker *m, uint64_t limit);
 
-/* A random file that is good at every level, of at most RANDOM_FILE_MAX bytes. */
+/* A random file that is good at every level in its order, of at most RANDOM_FILE_MAX bytes. */
 enum { RANDOM_FILE_MAX = 1 << 20 };
 void make_random_file(struct maker *m);
 

@@ -1,8 +1,8 @@
 /*
- * measure FILE ROUNDS: times the library and the peer on a good file in turns, best of ROUNDS, in processor time.
+ * measure FILE ORDER ROUNDS: times the library and the peer on a good file in a bit order in turns, best of ROUNDS, in processor time.
  * Prints a line for each call: its name, the file's bytes, and nanoseconds of the library and of the peer (0: not there).
  *
- * measure FILE CALL ours|peer: makes one call once, for an instruction counter, and prints the file's bytes.
+ * measure FILE ORDER CALL ours|peer: makes one call once, for an instruction counter, and prints the file's bytes.
  */
 #define _GNU_SOURCE
 #include "peer.h"
@@ -15,6 +15,7 @@
 
 /* What all calls work on: a file, its two tables with exact room, and the bytes written back. */
 struct bench {
+    uint32_t order;
     uint8_t *file;
     size_t len;
     uint64_t *table;
@@ -28,32 +29,32 @@ typedef pag_answer timed(const struct bench *b);
 
 static pag_answer our_read(const struct bench *b)
 {
-    return pag_read(PAG_LEVEL_MAX, b->file, b->len, b->table, b->table_len);
+    return pag_read(PAG_LEVEL_MAX, b->order, b->file, b->len, b->table, b->table_len);
 }
 
 static pag_answer peers_read(const struct bench *b)
 {
-    return peer_read(PAG_LEVEL_MAX, b->file, b->len, b->table, b->table_len);
+    return peer_read(PAG_LEVEL_MAX, b->order, b->file, b->len, b->table, b->table_len);
 }
 
 static pag_answer our_tags(const struct bench *b)
 {
-    return pag_tags(PAG_LEVEL_MAX, b->file, b->len, b->tags, b->tags_len);
+    return pag_tags(PAG_LEVEL_MAX, b->order, b->file, b->len, b->tags, b->tags_len);
 }
 
 static pag_answer peers_tags(const struct bench *b)
 {
-    return peer_tags(PAG_LEVEL_MAX, b->file, b->len, b->tags, b->tags_len);
+    return peer_tags(PAG_LEVEL_MAX, b->order, b->file, b->len, b->tags, b->tags_len);
 }
 
 static pag_answer our_write(const struct bench *b)
 {
-    return pag_write(PAG_LEVEL_MAX, b->table, b->table_len, b->out, b->len);
+    return pag_write(PAG_LEVEL_MAX, b->order, b->table, b->table_len, b->out, b->len);
 }
 
 static pag_answer peers_write(const struct bench *b)
 {
-    return peer_write(PAG_LEVEL_MAX, b->table, b->table_len, b->out, b->len);
+    return peer_write(PAG_LEVEL_MAX, b->order, b->table, b->table_len, b->out, b->len);
 }
 
 struct pair {
@@ -90,9 +91,9 @@ static size_t room_of(pag_answer asked)
     return (size_t)asked.number;
 }
 
-static struct bench load(const char *name)
+static struct bench load(const char *name, const char *order)
 {
-    struct bench b = {.file = touched(PAG_FILE_MAX)};
+    struct bench b = {.order = (uint32_t)strtoul(order, NULL, 10), .file = touched(PAG_FILE_MAX)};
     FILE *in = fopen(name, "rb");
     if (!in) stop("the file can't be read");
     b.len = fread(b.file, 1, PAG_FILE_MAX, in);
@@ -103,8 +104,8 @@ static struct bench load(const char *name)
 /* Exact rooms, touched before. */
 static void lend(struct bench *b)
 {
-    b->table_len = room_of(peer_read(PAG_LEVEL_MAX, b->file, b->len, NULL, 0));
-    b->tags_len = room_of(peer_tags(PAG_LEVEL_MAX, b->file, b->len, NULL, 0));
+    b->table_len = room_of(peer_read(PAG_LEVEL_MAX, b->order, b->file, b->len, NULL, 0));
+    b->tags_len = room_of(peer_tags(PAG_LEVEL_MAX, b->order, b->file, b->len, NULL, 0));
     b->table = touched(b->table_len * sizeof *b->table);
     b->tags = touched(b->tags_len * sizeof *b->tags);
     b->out = touched(b->len);
@@ -180,13 +181,13 @@ static void call_once(struct bench *b, const char *name, int ours)
 
 int main(int argc, char **argv)
 {
-    if (argc != 3 && argc != 4) stop("usage: measure FILE ROUNDS, or measure FILE CALL ours|peer");
-    struct bench b = load(argv[1]);
-    if (argc == 4) {
-        call_once(&b, argv[2], strcmp(argv[3], "ours") == 0);
+    if (argc != 4 && argc != 5) stop("usage: measure FILE ORDER ROUNDS, or measure FILE ORDER CALL ours|peer");
+    struct bench b = load(argv[1], argv[2]);
+    if (argc == 5) {
+        call_once(&b, argv[3], strcmp(argv[4], "ours") == 0);
         return 0;
     }
     lend(&b);
-    for (int i = 0; i < PAIR_COUNT; i++) compare(&PAIRS[i], &b, strtol(argv[2], NULL, 10));
+    for (int i = 0; i < PAIR_COUNT; i++) compare(&PAIRS[i], &b, strtol(argv[3], NULL, 10));
     return 0;
 }

@@ -1,5 +1,5 @@
 /*
- * The peer of bench/run: a plain reader and writer of PAG files, made from document 01 ("What is to be built") and the open points of
+ * The peer of bench/run: a plain reader and writer of PAG files, made from document 01 ("What is to be built"), document 02's C-18 (bit order) and the open points of
  * docs/DECISIONS.md, with bounds checks and without proofs. Its author had seen the library and the reference, so it is no independent reading of the paper.
  *
  * A refusal may change nothing lent, so each call walks twice: once to judge and to count, and once to fill. One function serves both walks:
@@ -105,6 +105,7 @@ struct body {
     size_t at;
     uint64_t *out;
     size_t count;
+    int low; /* the bits of a byte from the lowest on */
 };
 
 static void show(struct body *b, uint64_t number)
@@ -118,7 +119,8 @@ static int align(struct body *b)
 {
     unsigned used = b->at % 8;
     if (used == 0) return 0;
-    if (b->bytes[b->at / 8] & (0xFF >> used)) return PAG_SKIPPED_BIT_NOT_ZERO;
+    unsigned byte = b->bytes[b->at / 8];
+    if (b->low ? byte >> used : byte & (0xFF >> used)) return PAG_SKIPPED_BIT_NOT_ZERO;
     b->at += 8 - used;
     return 0;
 }
@@ -206,23 +208,27 @@ static size_t fitting(const struct body *b, unsigned width, size_t n)
     return n < room ? n : room;
 }
 
-/* The field at a bit that stands in the body: by one load of eight bytes where there are so many, else byte by byte. */
-static uint64_t field_at(const uint8_t *bytes, size_t len, size_t at, unsigned width)
+/* The eight bytes from `first` on as a number, the first of them lowest; past the end 0. By one load where there are so many, else byte by byte. */
+static inline uint64_t eight_bytes(const uint8_t *bytes, size_t len, size_t first)
 {
-    size_t first = at / 8;
     uint64_t word = 0;
-    if (len - first >= 8) {
-        memcpy(&word, bytes + first, 8);
-        word = __builtin_bswap64(word);
-    } else {
-        for (size_t i = first; i < len; i++) word |= (uint64_t)bytes[i] << (56 - 8 * (i - first));
-    }
-    return (word << at % 8) >> (64 - width);
+    if (len - first >= 8) memcpy(&word, bytes + first, 8);
+    else
+        for (size_t i = first; i < len; i++) word |= (uint64_t)bytes[i] << (8 * (i - first));
+    return word;
+}
+
+/* The field at a bit that stands in the body. */
+static inline uint64_t field_at(const uint8_t *bytes, size_t len, size_t at, unsigned width, int low)
+{
+    uint64_t word = eight_bytes(bytes, len, at / 8);
+    if (low) return word >> at % 8 & (((uint64_t)1 << width) - 1);
+    return (__builtin_bswap64(word) << at % 8) >> (64 - width);
 }
 
 static uint64_t next_field(struct body *b, unsigned width)
 {
-    uint64_t value = field_at(b->bytes, b->len, b->at, width);
+    uint64_t value = field_at(b->bytes, b->len, b->at, width, b->low);
     b->at += width;
     return value;
 }
@@ -236,6 +242,15 @@ static int read_width(struct body *b, unsigned *width)
     return 0;
 }
 
+/* n signed fields of one width from a bit on. The order is known where it is called, so that no field asks for it. */
+static inline void fill_signed(uint64_t *out, const struct body *b, unsigned width, size_t n, int low)
+{
+    const uint8_t *bytes = b->bytes;
+    size_t len = b->len, at = b->at;
+    uint64_t half = (uint64_t)1 << (width - 1);
+    for (size_t i = 0; i < n; i++, at += width) out[i] = (field_at(bytes, len, at, width, low) ^ half) - half;
+}
+
 /* A width, and n signed fields of it. They have no values to judge, so a walk that only counts steps over them. */
 static int read_signed_fields(struct body *b, size_t n)
 {
@@ -243,12 +258,8 @@ static int read_signed_fields(struct body *b, size_t n)
     int why = read_width(b, &width);
     if (why) return why;
     if (fitting(b, width, n) < n) return PAG_ITEM_PAST_THE_BODY;
-    if (b->out) {
-        uint64_t *out = b->out + b->count;
-        uint64_t half = (uint64_t)1 << (width - 1);
-        size_t at = b->at;
-        for (size_t i = 0; i < n; i++, at += width) out[i] = (field_at(b->bytes, b->len, at, width) ^ half) - half;
-    }
+    if (b->out && b->low) fill_signed(b->out + b->count, b, width, n, 1);
+    else if (b->out) fill_signed(b->out + b->count, b, width, n, 0);
     b->at += n * width;
     b->count += n;
     return 0;
@@ -451,6 +462,7 @@ static int read_leaf(struct body *b, enum tag_class class, uint32_t code)
 /* A walk of a file's tags. A table that is not there is only counted; leaves that were judged before need not be read for the tag table. */
 struct walk {
     uint32_t level;
+    int low;
     const uint8_t *file;
     uint64_t *table;
     size_t numbers;
@@ -511,7 +523,7 @@ static void show_row(struct walk *w, unsigned depth, size_t place, const struct 
 static int show_tag(struct walk *w, enum tag_class class, size_t start, const struct header *h, size_t *inside)
 {
     uint64_t *head = w->table ? w->table + w->numbers : NULL;
-    struct body b = {w->file + start, h->len, 0, head ? head + 3 : NULL, 0};
+    struct body b = {w->file + start, h->len, 0, head ? head + 3 : NULL, 0, w->low};
     int why = 0;
     if (class == OPAQUE) show_bytes(&b, b.bytes, b.len);
     else if (class == CONTAINER) why = read_items(&b, h->code);
@@ -550,9 +562,15 @@ static pag_answer walk_list(struct walk *w, size_t place, size_t end, unsigned d
     return refused(PAG_LIST_WITHOUT_END, blamed ? *blamed : end);
 }
 
-static uint32_t start_fault(uint32_t level, const uint8_t *file, size_t len)
+/* 1 and 24, which every call with a level tries first. */
+static uint32_t call_fault(uint32_t level, uint32_t order)
 {
     if (level > PAG_LEVEL_MAX) return PAG_LEVEL_ABOVE_1023;
+    return order == PAG_HIGH_FIRST || order == PAG_LOW_FIRST ? 0 : PAG_ORDER_UNKNOWN;
+}
+
+static uint32_t start_fault(const uint8_t *file, size_t len)
+{
     if (len < HEADER_BYTES) return PAG_FEWER_THAN_9_BYTES;
     if (memcmp(file, "PAG", 3) != 0) return PAG_SIGNATURE_WRONG;
     if (file[3] != 1) return PAG_VERSION_NOT_1;
@@ -569,16 +587,18 @@ static pag_answer walk_file(struct walk *w, size_t len)
 }
 
 /* The walk that judges and counts. */
-static pag_answer survey(struct walk *w, size_t len)
+static pag_answer survey(struct walk *w, uint32_t order, size_t len)
 {
-    uint32_t why = start_fault(w->level, w->file, len);
+    uint32_t why = call_fault(w->level, order);
+    if (!why) why = start_fault(w->file, len);
+    w->low = order == PAG_LOW_FIRST;
     return why ? refused(why, 0) : walk_file(w, len);
 }
 
-pag_answer peer_read(uint32_t level, const uint8_t *file, size_t file_len, uint64_t *table, size_t table_len)
+pag_answer peer_read(uint32_t level, uint32_t order, const uint8_t *file, size_t file_len, uint64_t *table, size_t table_len)
 {
     struct walk w = {.level = level, .file = file};
-    pag_answer judged = survey(&w, file_len);
+    pag_answer judged = survey(&w, order, file_len);
     if (judged.reason) return judged;
     if (table_len < w.numbers) return refused(PAG_TABLE_TOO_SHORT, w.numbers);
     w.table = table;
@@ -586,16 +606,28 @@ pag_answer peer_read(uint32_t level, const uint8_t *file, size_t file_len, uint6
     return accepted(w.numbers);
 }
 
-pag_answer peer_tags(uint32_t level, const uint8_t *file, size_t file_len, uint32_t *tags, size_t tags_len)
+pag_answer peer_tags(uint32_t level, uint32_t order, const uint8_t *file, size_t file_len, uint32_t *tags, size_t tags_len)
 {
     struct walk w = {.level = level, .file = file};
-    pag_answer judged = survey(&w, file_len);
+    pag_answer judged = survey(&w, order, file_len);
     if (judged.reason) return judged;
     if (tags_len < w.row_numbers) return refused(PAG_TABLE_TOO_SHORT, w.row_numbers);
     w.rows = tags;
     w.leaves_judged = 1;
     walk_file(&w, file_len);
     return accepted(w.row_numbers);
+}
+
+/* ------------------------------------------------------------ the bit reader */
+
+pag_field peer_bits(uint32_t order, const uint8_t *file, size_t file_len, uint64_t place, uint32_t width, uint32_t is_signed)
+{
+    uint64_t bits = 8 * (uint64_t)file_len;
+    if (order != PAG_HIGH_FIRST && order != PAG_LOW_FIRST) return (pag_field){PAG_ORDER_UNKNOWN, 0, place};
+    if (width < 1 || width > 32) return (pag_field){PAG_COUNT_OUTSIDE_ITS_RANGE, 0, place};
+    if (place > bits || bits - place < width) return (pag_field){PAG_ITEM_PAST_THE_BODY, 0, place};
+    uint64_t value = field_at(file, file_len, (size_t)place, width, order == PAG_LOW_FIRST), half = (uint64_t)1 << (width - 1);
+    return (pag_field){PAG_ACCEPTED, is_signed ? (value ^ half) - half : value, place + width};
 }
 
 /* ------------------------------------------------------------ writing: items */
@@ -606,12 +638,13 @@ struct numbers {
     size_t left;
 };
 
-/* Bytes under way: whole bytes, and the bits of a byte begun. Without memory they are only counted. */
+/* Bytes under way: whole bytes, and the bits of a byte begun, the lowest bits of `begun`. Without memory they are only counted. */
 struct output {
     uint8_t *bytes;
     size_t len;
     uint64_t begun;
     unsigned begun_bits;
+    int low; /* a byte is filled from its lowest bit */
 };
 
 /* The next number, if there is one from least to most. From here on 0 says that no file has this table. */
@@ -631,23 +664,51 @@ static void put_byte(struct output *o, uint64_t byte)
     o->len++;
 }
 
-static void put_bits(struct output *o, unsigned width, uint64_t value)
+static void put_high(struct output *o, unsigned width, uint64_t value)
 {
     o->begun = o->begun << width | value;
     o->begun_bits += width;
-    if (!o->bytes) {
-        o->len += o->begun_bits / 8;
-        o->begun_bits %= 8;
-    }
     while (o->begun_bits >= 8) {
         o->begun_bits -= 8;
-        put_byte(o, o->begun >> o->begun_bits);
+        o->bytes[o->len++] = (uint8_t)(o->begun >> o->begun_bits);
     }
 }
 
+static void put_low(struct output *o, unsigned width, uint64_t value)
+{
+    o->begun |= value << o->begun_bits;
+    o->begun_bits += width;
+    while (o->begun_bits >= 8) {
+        o->begun_bits -= 8;
+        o->bytes[o->len++] = (uint8_t)o->begun;
+        o->begun >>= 8;
+    }
+}
+
+static void put_bits(struct output *o, unsigned width, uint64_t value)
+{
+    if (o->bytes) {
+        if (o->low) put_low(o, width, value);
+        else put_high(o, width, value);
+    } else {
+        o->begun_bits += width;
+        o->len += o->begun_bits / 8;
+        o->begun_bits %= 8;
+    }
+}
+
+/* Most items stand on a whole byte already, so this is kept out of their way. */
+__attribute__((noinline)) static void end_byte(struct output *o)
+{
+    put_byte(o, o->low ? o->begun : o->begun << (8 - o->begun_bits));
+    o->begun = 0;
+    o->begun_bits = 0;
+}
+
+/* Zero bits up to a whole byte. */
 static void put_zero_bits(struct output *o)
 {
-    if (o->begun_bits) put_bits(o, 8 - o->begun_bits, 0);
+    if (o->begun_bits) end_byte(o);
 }
 
 /* The shortest spelling, from a whole byte on. */
@@ -812,7 +873,7 @@ static int write_keyframed(struct numbers *from, struct output *o, enum attribut
     return write_signed_fields(from, o, 4 * beziers);
 }
 
-/* The flags of a block, which stand before its contents and are known after them. */
+/* The flags of a block, which stand before its contents and are known after them: the first is the highest bit. */
 struct flags {
     uint32_t bits;
     unsigned count;
@@ -886,6 +947,23 @@ static void put_le(uint8_t *to, uint32_t value, unsigned bytes)
     for (unsigned i = 0; i < bytes; i++) to[i] = (uint8_t)(value >> (8 * i));
 }
 
+/* The bits of a byte in the other order. */
+static uint8_t turned(uint32_t byte)
+{
+    byte = (byte & 0x0F) << 4 | (byte & 0xF0) >> 4;
+    byte = (byte & 0x33) << 2 | (byte & 0xCC) >> 2;
+    return (uint8_t)((byte & 0x55) << 1 | (byte & 0xAA) >> 1);
+}
+
+/* One byte of flags or two. */
+static void put_flags(uint8_t *to, size_t bytes, struct flags flags, int low)
+{
+    uint32_t bits = flags.bits << (8 * bytes - flags.count);
+    if (bytes == 2) to[0] = (uint8_t)(bits >> 8);
+    to[bytes - 1] = (uint8_t)bits;
+    for (size_t i = 0; low && i < bytes; i++) to[i] = turned(to[i]);
+}
+
 /*
  * A tag's header and flags are known after its contents. So the contents are written as near to the tag's place as they can come, behind a short header
  * and one byte of flags, and are moved on where the header is long or the flags take two bytes: never past where the tag ends.
@@ -899,9 +977,7 @@ static void close_tag(struct output *o, size_t place, uint32_t code, size_t cont
         if (place + size + flag_bytes != contents) memmove(to + size + flag_bytes, o->bytes + contents, n);
         put_le(to, code * 64 + (size == 2 ? (uint32_t)len : LONG_LENGTH), 2);
         if (size == 6) put_le(to + 2, (uint32_t)len, 4);
-        uint32_t bits = flags.bits << (8 * flag_bytes - flags.count);
-        if (flag_bytes == 2) to[size] = (uint8_t)(bits >> 8);
-        if (flag_bytes > 0) to[size + flag_bytes - 1] = (uint8_t)bits;
+        if (flag_bytes > 0) put_flags(to + size, flag_bytes, flags, o->low);
     }
     o->len = place + size + len;
 }
@@ -965,11 +1041,12 @@ static int write_file(struct numbers from, struct output *o, uint32_t level)
     return 1;
 }
 
-pag_answer peer_write(uint32_t level, const uint64_t *table, size_t table_len, uint8_t *out, size_t out_len)
+pag_answer peer_write(uint32_t level, uint32_t order, const uint64_t *table, size_t table_len, uint8_t *out, size_t out_len)
 {
     struct numbers from = {table, table_len};
-    struct output counted = {NULL, 0, 0, 0}, written = {out, 0, 0, 0};
-    if (level > PAG_LEVEL_MAX) return refused(PAG_LEVEL_ABOVE_1023, 0);
+    struct output counted = {.bytes = NULL}, written = {.bytes = out, .low = order == PAG_LOW_FIRST};
+    uint32_t why = call_fault(level, order);
+    if (why) return refused(why, 0);
     if (!write_file(from, &counted, level)) return refused(PAG_NO_FILE_HAS_THIS_TABLE, 0);
     if (out_len < counted.len) return refused(PAG_OUTPUT_TOO_SHORT, counted.len);
     write_file(from, &written, level);

@@ -1,5 +1,5 @@
 /*
- * example FILE: reads a PAG file, prints its listing, and writes it back and compares. Copy what you need.
+ * example [--low] FILE: reads a PAG file, prints its listing, and writes it back and compares. --low: the file's bits are low first. Copy what you need.
  *
  * Exit status: 0, 1 if the file is refused, 2 if it can't be read or there is no memory, 3 if what was written back differs.
  */
@@ -62,10 +62,10 @@ static void list(const struct file *file, const uint64_t *table, const uint32_t 
 }
 
 /* The table gives the file back, byte by byte. */
-static int writes_back(const struct file *file, const uint64_t *table, size_t table_len)
+static int writes_back(const struct file *file, uint32_t order, const uint64_t *table, size_t table_len)
 {
     uint8_t *out = memory_for(file->len, 1);
-    pag_answer written = pag_write(PAG_LEVEL_MAX, table, table_len, out, file->len);
+    pag_answer written = pag_write(PAG_LEVEL_MAX, order, table, table_len, out, file->len);
     int same = written.reason == PAG_ACCEPTED && written.number == file->len && memcmp(out, file->bytes, file->len) == 0;
     free(out);
     return same;
@@ -73,20 +73,22 @@ static int writes_back(const struct file *file, const uint64_t *table, size_t ta
 
 int main(int argc, char **argv)
 {
-    if (argc != 2) {
-        fputs("usage: example FILE\n", stderr);
+    int low = argc == 3 && strcmp(argv[1], "--low") == 0;
+    if (argc != 2 && !low) {
+        fputs("usage: example [--low] FILE\n", stderr);
         return 2;
     }
-    struct file file = load(argv[1]);
-    size_t table_len = room_or_exit(pag_read(PAG_LEVEL_MAX, file.bytes, file.len, NULL, 0));
-    size_t tags_len = room_or_exit(pag_tags(PAG_LEVEL_MAX, file.bytes, file.len, NULL, 0));
+    uint32_t order = low ? PAG_LOW_FIRST : PAG_HIGH_FIRST;
+    struct file file = load(argv[argc - 1]);
+    size_t table_len = room_or_exit(pag_read(PAG_LEVEL_MAX, order, file.bytes, file.len, NULL, 0));
+    size_t tags_len = room_or_exit(pag_tags(PAG_LEVEL_MAX, order, file.bytes, file.len, NULL, 0));
     uint64_t *table = memory_for(table_len, sizeof *table);
     uint32_t *tags = memory_for(tags_len, sizeof *tags);
-    pag_read(PAG_LEVEL_MAX, file.bytes, file.len, table, table_len);
-    pag_tags(PAG_LEVEL_MAX, file.bytes, file.len, tags, tags_len);
+    pag_read(PAG_LEVEL_MAX, order, file.bytes, file.len, table, table_len);
+    pag_tags(PAG_LEVEL_MAX, order, file.bytes, file.len, tags, tags_len);
     list(&file, table, tags, tags_len);
     int status = 0;
-    if (!writes_back(&file, table, table_len)) {
+    if (!writes_back(&file, order, table, table_len)) {
         fputs("what was written back differs\n", stderr);
         status = 3;
     }

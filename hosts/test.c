@@ -1,6 +1,6 @@
 /*
- * test [--checked | --cases] CASES: calls every export of the library with good, damaged, empty and random input, the same on every run, and with the files
- * of CASES (tests/cases.txt), each against the expectation that stands there; the two files at the size limit are run nowhere else.
+ * test [--checked | --cases] CASES: calls every export of the library with good, damaged, empty and random input, in both bit orders and in orders that are neither, the same on
+ * every run, and with the files of CASES (tests/cases.txt), each against the expectation that stands there; the two files at the size limit are run nowhere else.
  *
  * Each call is made with the input right before a page that cannot be read, and with lent memory between two guards. Checked of each: the answer and the
  * lent memory are the peer's (bench/peer.c), a refusal has changed nothing, an acceptance nothing behind its count, and no call the guards or its
@@ -21,12 +21,21 @@ enum { GUARD = 64, PAGE = 4096, SMALL_ROOM = 80, RANDOM_FILES = 1500, CHECKED_FI
 static const uint32_t LEVELS[] = {0, 1, 2, 4, 5, 6, 8, 9, 13, 14, 1023, 1024, UINT32_MAX};
 enum { LEVEL_COUNT = sizeof LEVELS / sizeof *LEVELS };
 
-static size_t calls;
-static size_t answers[PAG_OUTPUT_TOO_SHORT + 1];
+static const uint32_t NEITHER[] = {2, 3, 255, 256, 257, 65536, UINT32_MAX};
+enum { NEITHER_COUNT = sizeof NEITHER / sizeof *NEITHER };
 
-static void fail(const char *why, const char *call, uint32_t level, size_t input_len, size_t room_len)
+/* What goes with each call but its input and its room. */
+struct how {
+    uint32_t level;
+    uint32_t order;
+};
+
+static size_t calls;
+static size_t answers[2][PAG_ORDER_UNKNOWN + 1]; /* by order: high first or neither, low first */
+
+static void fail(const char *why, const char *call, struct how how, size_t input_len, size_t room_len)
 {
-    printf("%s: %s at level %u, input of %zu, room of %zu\n", why, call, (unsigned)level, input_len, room_len);
+    printf("%s: %s at level %u in order %u, input of %zu, room of %zu\n", why, call, (unsigned)how.level, (unsigned)how.order, input_len, room_len);
     exit(1);
 }
 
@@ -76,14 +85,14 @@ struct call {
     const char *name;
     size_t input_size;
     size_t room_size;
-    pag_answer (*ours)(uint32_t level, const void *input, size_t input_len, void *room, size_t room_len);
-    pag_answer (*peer)(uint32_t level, const void *input, size_t input_len, void *room, size_t room_len);
+    pag_answer (*ours)(struct how how, const void *input, size_t input_len, void *room, size_t room_len);
+    pag_answer (*peer)(struct how how, const void *input, size_t input_len, void *room, size_t room_len);
 };
 
 #define AS_CALL(name, input_type, room_type)                                                                        \
-    static pag_answer as_##name(uint32_t level, const void *input, size_t input_len, void *room, size_t room_len)   \
+    static pag_answer as_##name(struct how how, const void *input, size_t input_len, void *room, size_t room_len)   \
     {                                                                                                               \
-        return name(level, (const input_type *)input, input_len, (room_type *)room, room_len);                      \
+        return name(how.level, how.order, (const input_type *)input, input_len, (room_type *)room, room_len);       \
     }
 AS_CALL(pag_read, uint8_t, uint64_t)
 AS_CALL(peer_read, uint8_t, uint64_t)
@@ -100,16 +109,16 @@ static const struct call WRITE = {"pag_write", 8, 1, as_pag_write, as_peer_write
 enum { LARGEST_INPUT = PAG_FILE_MAX + 8, LARGEST_ROOM = 1 << 23 };
 static uint8_t *input_end, *our_room, *peer_room;
 
-static void check_memory(const struct call *c, uint32_t level, size_t input_len, size_t room_len, size_t start, pag_answer answer)
+static void check_memory(const struct call *c, struct how how, size_t input_len, size_t room_len, size_t start, pag_answer answer)
 {
     size_t bytes = room_len * c->room_size;
     size_t used = answer.reason ? 0 : (size_t)answer.number * c->room_size;
-    if (used > bytes) fail("count above the room", c->name, level, input_len, room_len);
-    if (!is_painted(our_room, 0, start)) fail("memory before the room changed", c->name, level, input_len, room_len);
-    if (!is_painted(our_room, start + bytes, start + bytes + GUARD)) fail("memory behind the room changed", c->name, level, input_len, room_len);
+    if (used > bytes) fail("count above the room", c->name, how, input_len, room_len);
+    if (!is_painted(our_room, 0, start)) fail("memory before the room changed", c->name, how, input_len, room_len);
+    if (!is_painted(our_room, start + bytes, start + bytes + GUARD)) fail("memory behind the room changed", c->name, how, input_len, room_len);
     if (!is_painted(our_room, start + used, start + bytes))
-        fail(answer.reason ? "a refusal changed lent memory" : "memory past the count changed", c->name, level, input_len, room_len);
-    if (memcmp(our_room + start, peer_room + start, bytes) != 0) fail("other numbers than the peer's", c->name, level, input_len, room_len);
+        fail(answer.reason ? "a refusal changed lent memory" : "memory past the count changed", c->name, how, input_len, room_len);
+    if (memcmp(our_room + start, peer_room + start, bytes) != 0) fail("other numbers than the peer's", c->name, how, input_len, room_len);
 }
 
 /* Where lent memory starts: it is aligned as its type asks, and not always better. */
@@ -119,65 +128,82 @@ static size_t room_start(void)
 }
 
 /* One call with all checks. */
-static pag_answer call(const struct call *c, uint32_t level, const void *input, size_t input_len, size_t room_len)
+static pag_answer call(const struct call *c, struct how how, const void *input, size_t input_len, size_t room_len)
 {
     size_t start = room_start(), input_bytes = input_len * c->input_size, room_bytes = start + room_len * c->room_size + GUARD;
     void *given = input_end - input_bytes;
     if (input_bytes) memcpy(given, input, input_bytes);
     paint_all(our_room, room_bytes);
     paint_all(peer_room, room_bytes);
-    pag_answer ours = c->ours(level, given, input_len, our_room + start, room_len);
-    if (input_bytes && memcmp(given, input, input_bytes) != 0) fail("input changed", c->name, level, input_len, room_len);
-    pag_answer peer = c->peer(level, given, input_len, peer_room + start, room_len);
-    if (ours.reason != peer.reason || ours.number != peer.number) fail("another answer than the peer's", c->name, level, input_len, room_len);
-    check_memory(c, level, input_len, room_len, start, ours);
-    answers[ours.reason]++;
+    pag_answer ours = c->ours(how, given, input_len, our_room + start, room_len);
+    if (input_bytes && memcmp(given, input, input_bytes) != 0) fail("input changed", c->name, how, input_len, room_len);
+    pag_answer peer = c->peer(how, given, input_len, peer_room + start, room_len);
+    if (ours.reason != peer.reason || ours.number != peer.number) fail("another answer than the peer's", c->name, how, input_len, room_len);
+    check_memory(c, how, input_len, room_len, start, ours);
+    answers[how.order == PAG_LOW_FIRST][ours.reason]++;
     calls++;
     return ours;
 }
 
 /* A call with no room, for what it needs; then with every room up to a little more, if that is small, else with some. */
-static pag_answer call_rooms(const struct call *c, uint32_t level, const void *input, size_t input_len)
+static pag_answer call_rooms(const struct call *c, struct how how, const void *input, size_t input_len)
 {
-    pag_answer first = call(c, level, input, input_len, 0);
+    pag_answer first = call(c, how, input, input_len, 0);
     int short_room = first.reason == PAG_TABLE_TOO_SHORT || first.reason == PAG_OUTPUT_TOO_SHORT;
     size_t needed = short_room ? (size_t)first.number : 5;
     if (needed * c->room_size + 4 * GUARD > LARGEST_ROOM) return first;
     if (needed <= SMALL_ROOM)
-        for (size_t room = 1; room < needed; room++) call(c, level, input, input_len, room);
-    else call(c, level, input, input_len, needed - 1);
-    call(c, level, input, input_len, needed + 3);
-    return call(c, level, input, input_len, needed);
+        for (size_t room = 1; room < needed; room++) call(c, how, input, input_len, room);
+    else call(c, how, input, input_len, needed - 1);
+    call(c, how, input, input_len, needed + 3);
+    return call(c, how, input, input_len, needed);
 }
 
 /* ------------------------------------------------------------ inputs */
 
-/* A file's table written back; and damaged tables. */
-static void write_table(struct maker *m, uint32_t level, const uint8_t *file, size_t len, size_t count)
+/* The other order for one that is known. */
+static uint32_t other_order(uint32_t order)
+{
+    return order == PAG_HIGH_FIRST ? PAG_LOW_FIRST : PAG_HIGH_FIRST;
+}
+
+/* A file's table written back, in its order, in the other and in one that is neither; and damaged tables. */
+static void write_table(struct maker *m, struct how how, const uint8_t *file, size_t len, size_t count)
 {
     size_t bytes = count * 8;
     uint64_t *table = malloc(bytes + 8);
     if (!table) exit(2);
-    peer_read(level, file, len, table, count);
-    call_rooms(&WRITE, level, table, count);
+    peer_read(how.level, how.order, file, len, table, count);
+    call_rooms(&WRITE, how, table, count);
+    call_rooms(&WRITE, (struct how){how.level, other_order(how.order)}, table, count);
+    call(&WRITE, (struct how){how.level, NEITHER[random_below(m, NEITHER_COUNT)]}, table, count, 0);
+    call(&WRITE, (struct how){how.level, NEITHER[random_below(m, NEITHER_COUNT)]}, table, count, bytes);
     for (int i = 0; i < 4; i++) {
         size_t place = random_below(m, count);
         uint64_t kept = table[place];
         table[place] = random_below(m, 2) ? random_below(m, 300) : kept + 1 - 2 * random_below(m, 2);
-        call_rooms(&WRITE, level, table, count);
+        call_rooms(&WRITE, how, table, count);
         table[place] = kept;
     }
-    call(&WRITE, level, table, count - 1, bytes);
+    call(&WRITE, how, table, count - 1, bytes);
     table[count] = 0;
-    call(&WRITE, level, table, count + 1, bytes);
+    call(&WRITE, how, table, count + 1, bytes);
     free(table);
 }
 
-static void read_file(struct maker *m, uint32_t level, const uint8_t *file, size_t len)
+static void read_file(struct maker *m, struct how how, const uint8_t *file, size_t len)
 {
-    call_rooms(&TAGS, level, file, len);
-    pag_answer answer = call_rooms(&READ, level, file, len);
-    if (answer.reason == PAG_ACCEPTED) write_table(m, level, file, len, (size_t)answer.number);
+    call_rooms(&TAGS, how, file, len);
+    pag_answer answer = call_rooms(&READ, how, file, len);
+    if (answer.reason == PAG_ACCEPTED) write_table(m, how, file, len, (size_t)answer.number);
+}
+
+/* A file in its order, in the other, and in one that is neither. */
+static void read_in_orders(struct maker *m, struct how how, const uint8_t *file, size_t len)
+{
+    read_file(m, how, file, len);
+    read_file(m, (struct how){how.level, other_order(how.order)}, file, len);
+    read_file(m, (struct how){how.level, NEITHER[random_below(m, NEITHER_COUNT)]}, file, len);
 }
 
 /* A changed copy: bits flipped, bytes cut off or bytes put in, with the length field made to fit in most. */
@@ -202,18 +228,20 @@ static size_t damage(struct maker *m, const uint8_t *file, size_t len, uint8_t *
     return len;
 }
 
-/* Random files, each good, damaged, and cut raw at some length. */
+/* Random files of either order, each good, damaged, and cut raw at some length. */
 static void try_random_files(struct maker *m, int files)
 {
     uint8_t *damaged = malloc(RANDOM_FILE_MAX + 1);
     if (!damaged) exit(2);
     for (int i = 0; i < files; i++) {
+        m->low = i % 2;
         make_random_file(m);
         size_t len = m->len;
-        read_file(m, LEVELS[i % LEVEL_COUNT], m->bytes, len);
-        read_file(m, PAG_LEVEL_MAX, m->bytes, len);
-        for (int j = 0; j < 4; j++) read_file(m, PAG_LEVEL_MAX, damaged, damage(m, m->bytes, len, damaged));
-        call(&READ, PAG_LEVEL_MAX, m->bytes, random_below(m, len), 3);
+        struct how how = {PAG_LEVEL_MAX, m->low ? PAG_LOW_FIRST : PAG_HIGH_FIRST};
+        read_file(m, (struct how){LEVELS[i / 2 % LEVEL_COUNT], how.order}, m->bytes, len);
+        read_in_orders(m, how, m->bytes, len);
+        for (int j = 0; j < 4; j++) read_file(m, how, damaged, damage(m, m->bytes, len, damaged));
+        call(&READ, how, m->bytes, random_below(m, len), 3);
     }
     free(damaged);
 }
@@ -230,18 +258,21 @@ static void try_random_bytes(struct maker *m)
             memset(bytes + 4, 0, 4);
             bytes[4] = (uint8_t)len;
         }
-        call(&READ, LEVELS[i % LEVEL_COUNT], bytes, len, random_below(m, 100));
-        call(&TAGS, LEVELS[i % LEVEL_COUNT], bytes, len, random_below(m, 100));
-        call(&WRITE, LEVELS[i % LEVEL_COUNT], bytes, len / 8, random_below(m, 100));
+        struct how how = {LEVELS[i % LEVEL_COUNT], (uint32_t)random_below(m, 3)};
+        call(&READ, how, bytes, len, random_below(m, 100));
+        call(&TAGS, how, bytes, len, random_below(m, 100));
+        call(&WRITE, how, bytes, len / 8, random_below(m, 100));
     }
 }
+
+static const struct how HIGH = {PAG_LEVEL_MAX, PAG_HIGH_FIRST};
 
 /* P2 of document 01, cut at every length and read at every level that changes something. */
 static void try_small_file(struct maker *m)
 {
     static const uint8_t P2[] = {0x50, 0x41, 0x47, 1, 0x13, 0, 0, 0, 0, 0xC6, 1, 0xFF, 0x80, 0, 0x80, 0x0A, 3, 0, 0};
-    for (size_t i = 0; i < LEVEL_COUNT; i++) read_file(m, LEVELS[i], P2, sizeof P2);
-    for (size_t len = 0; len < sizeof P2; len++) call_rooms(&READ, PAG_LEVEL_MAX, P2, len);
+    for (size_t i = 0; i < LEVEL_COUNT; i++) read_in_orders(m, (struct how){LEVELS[i], PAG_HIGH_FIRST}, P2, sizeof P2);
+    for (size_t len = 0; len < sizeof P2; len++) call_rooms(&READ, HIGH, P2, len);
 }
 
 /* Two faults that damage seldom makes: a long header with length 62, and a container at depth 8. */
@@ -254,8 +285,8 @@ static void try_rare_faults(struct maker *m)
         deep[place] = (uint8_t)(2 * 64 + body);
         deep[place + 1] = (2 * 64) >> 8;
     }
-    read_file(m, PAG_LEVEL_MAX, LONG_62, sizeof LONG_62);
-    read_file(m, PAG_LEVEL_MAX, deep, sizeof deep);
+    read_in_orders(m, HIGH, LONG_62, sizeof LONG_62);
+    read_in_orders(m, HIGH, deep, sizeof deep);
 }
 
 /* NULL with length 0, for what is read and for what is lent. */
@@ -264,24 +295,24 @@ static void try_null(void)
     static const uint8_t P1[] = {0x50, 0x41, 0x47, 1, 0x0B, 0, 0, 0, 0, 0, 0};
     static const struct call *const CALLS[] = {&READ, &TAGS, &WRITE};
     for (int i = 0; i < 3; i++) {
-        pag_answer empty = CALLS[i]->ours(PAG_LEVEL_MAX, NULL, 0, NULL, 0);
+        pag_answer empty = CALLS[i]->ours(HIGH, NULL, 0, NULL, 0);
         if (empty.reason != (CALLS[i] == &WRITE ? PAG_NO_FILE_HAS_THIS_TABLE : PAG_FEWER_THAN_9_BYTES) || empty.number != 0)
-            fail("wrong answer for NULL", CALLS[i]->name, PAG_LEVEL_MAX, 0, 0);
+            fail("wrong answer for NULL", CALLS[i]->name, HIGH, 0, 0);
         calls++;
     }
-    pag_answer read = READ.ours(PAG_LEVEL_MAX, P1, sizeof P1, NULL, 0), tags = TAGS.ours(PAG_LEVEL_MAX, P1, sizeof P1, NULL, 0);
-    if (read.reason != PAG_TABLE_TOO_SHORT || read.number != 4) fail("wrong answer for no room", READ.name, PAG_LEVEL_MAX, sizeof P1, 0);
-    if (tags.reason != PAG_TABLE_TOO_SHORT || tags.number != 5) fail("wrong answer for no room", TAGS.name, PAG_LEVEL_MAX, sizeof P1, 0);
+    pag_answer read = READ.ours(HIGH, P1, sizeof P1, NULL, 0), tags = TAGS.ours(HIGH, P1, sizeof P1, NULL, 0);
+    if (read.reason != PAG_TABLE_TOO_SHORT || read.number != 4) fail("wrong answer for no room", READ.name, HIGH, sizeof P1, 0);
+    if (tags.reason != PAG_TABLE_TOO_SHORT || tags.number != 5) fail("wrong answer for no room", TAGS.name, HIGH, sizeof P1, 0);
     calls += 2;
 }
 
 /* ------------------------------------------------------------ cases */
 
-/* A line of CASES: name | level | bytes | expected | .., where `x*n` is n times x. */
-enum { FIELDS = 4, NUMBERS = 1 << 16 };
+/* A line of CASES: name | level | order | bytes | expected | .., where `x*n` is n times x. */
+enum { NAME, LEVEL, ORDER, BYTES, EXPECTED, FIELDS, NUMBERS = 1 << 16 };
 struct given {
     const char *name;
-    uint32_t level;
+    struct how how;
     size_t len, count;
     int accepted;
 };
@@ -326,20 +357,20 @@ static int fields_of(char *line, char *field[FIELDS])
 
 static struct given case_of(char *field[FIELDS])
 {
-    struct given g = {.name = field[0], .level = (uint32_t)strtoul(field[1], NULL, 10)};
-    char *rest = strchr(field[3], ' ');
+    struct given g = {field[NAME], {(uint32_t)strtoul(field[LEVEL], NULL, 10), (uint32_t)strtoul(field[ORDER], NULL, 10)}, 0, 0, 0};
+    char *rest = strchr(field[EXPECTED], ' ');
     if (!rest) bad_line(g.name, "nothing is expected");
     *rest++ = 0;
-    g.len = numbers_of(g.name, field[2], 16, PAG_FILE_MAX + 1);
+    g.len = numbers_of(g.name, field[BYTES], 16, PAG_FILE_MAX + 1);
     g.count = numbers_of(g.name, rest, 10, NUMBERS);
-    g.accepted = strcmp(field[3], "table") == 0;
-    if (!g.accepted && (strcmp(field[3], "refused") != 0 || g.count != 2)) bad_line(g.name, "neither a table nor a refusal is expected");
+    g.accepted = strcmp(field[EXPECTED], "table") == 0;
+    if (!g.accepted && (strcmp(field[EXPECTED], "refused") != 0 || g.count != 2)) bad_line(g.name, "neither a table nor a refusal is expected");
     return g;
 }
 
 static void expect_refusal(const struct given *g, const struct call *c)
 {
-    pag_answer answer = call(c, g->level, case_bytes, g->len, 16);
+    pag_answer answer = call(c, g->how, case_bytes, g->len, 16);
     if (answer.reason != case_numbers[0] || answer.number != case_numbers[1]) bad_line(g->name, "another answer is expected");
 }
 
@@ -347,13 +378,21 @@ static void expect_refusal(const struct given *g, const struct call *c)
 static void expect_table(const struct given *g)
 {
     size_t start = room_start();
-    pag_answer read = call(&READ, g->level, case_bytes, g->len, g->count);
+    pag_answer read = call(&READ, g->how, case_bytes, g->len, g->count);
     if (read.reason || read.number != g->count || memcmp(our_room + start, case_numbers, 8 * g->count) != 0)
         bad_line(g->name, "another table is expected");
     start = room_start();
-    pag_answer written = call(&WRITE, g->level, case_numbers, g->count, g->len);
+    pag_answer written = call(&WRITE, g->how, case_numbers, g->count, g->len);
     if (written.reason || written.number != g->len || memcmp(our_room + start, case_bytes, g->len) != 0)
         bad_line(g->name, "its table is not written as its bytes");
+}
+
+/* The same bytes in the other order: as the peer reads them. */
+static void read_other_order(const struct given *g)
+{
+    struct how how = {g->how.level, other_order(g->how.order)};
+    call(&READ, how, case_bytes, g->len, 16);
+    call(&TAGS, how, case_bytes, g->len, 16);
 }
 
 static void try_cases(const char *path)
@@ -369,6 +408,7 @@ static void try_cases(const char *path)
         struct given g = case_of(field);
         if (g.accepted) expect_table(&g);
         else expect_refusal(&g, &READ), expect_refusal(&g, &TAGS);
+        read_other_order(&g);
         tried++;
     }
     fclose(file);
@@ -382,12 +422,13 @@ static void try_cases(const char *path)
 enum { STACK = 1 << 18 };
 static ucontext_t here, there;
 static const struct call *measured;
+static struct how measured_how;
 static const void *measured_input;
 static size_t measured_len;
 
 static void call_there(void)
 {
-    measured->ours(PAG_LEVEL_MAX, measured_input, measured_len, our_room, LARGEST_ROOM / measured->room_size);
+    measured->ours(measured_how, measured_input, measured_len, our_room, LARGEST_ROOM / measured->room_size);
 }
 
 static void nothing_there(void)
@@ -410,26 +451,34 @@ static size_t stack_of(void (*run)(void))
     return STACK - left;
 }
 
-/* Files that go through all the code at every depth: containers nested to the deepest, with blocks and fonts, and long paths. */
+static void measure_call(const struct call *c, struct how how, const void *input, size_t len, size_t own, size_t *most)
+{
+    measured = c, measured_how = how, measured_input = input, measured_len = len;
+    size_t used = stack_of(call_there) - own;
+    if (used > *most) *most = used;
+}
+
+/* Files that go through all the code at every depth: containers nested to the deepest, with blocks and fonts, and long paths; and the table of the first, written. */
+static void measure_order(struct maker *m, uint32_t order, size_t own, size_t *most)
+{
+    struct how how = {PAG_LEVEL_MAX, order};
+    m->low = order == PAG_LOW_FIRST;
+    make_long_file(m, LONG_PATHS, 1 << 17);
+    measure_call(&READ, how, m->bytes, m->len, own, most);
+    measure_call(&TAGS, how, m->bytes, m->len, own, most);
+    make_long_file(m, NESTED, 1 << 17);
+    measure_call(&TAGS, how, m->bytes, m->len, own, most);
+    measure_call(&READ, how, m->bytes, m->len, own, most);
+    size_t numbers = (size_t)pag_read(how.level, order, m->bytes, m->len, (uint64_t *)our_room, LARGEST_ROOM / 8).number;
+    memcpy(peer_room, our_room, 8 * numbers);
+    measure_call(&WRITE, how, peer_room, numbers, own, most);
+}
+
 static void measure_stack(struct maker *m)
 {
-    static const enum kind INPUTS[] = {NESTED, LONG_PATHS};
     size_t most = 0, own = stack_of(nothing_there);
-    for (size_t i = 0; i < 2; i++) {
-        make_long_file(m, INPUTS[i], 1 << 17);
-        static const struct call *const CALLS[] = {&READ, &TAGS};
-        for (int j = 0; j < 2; j++) {
-            measured = CALLS[j], measured_input = m->bytes, measured_len = m->len;
-            size_t used = stack_of(call_there) - own;
-            if (used > most) most = used;
-        }
-    }
-    make_long_file(m, NESTED, 1 << 17);
-    size_t bytes = 8 * (size_t)pag_read(PAG_LEVEL_MAX, m->bytes, m->len, (uint64_t *)our_room, LARGEST_ROOM / 8).number;
-    memcpy(peer_room, our_room, bytes);
-    measured = &WRITE, measured_input = peer_room, measured_len = bytes / 8;
-    size_t used = stack_of(call_there) - own;
-    if (used > most) most = used;
+    measure_order(m, PAG_HIGH_FIRST, own, &most);
+    measure_order(m, PAG_LOW_FIRST, own, &most);
     printf("stack: %zu bytes at most, above the %zu of an empty function\n", most, own);
     if (most > PAG_STACK_BYTES) {
         printf("the stack is above PAG_STACK_BYTES\n");
@@ -438,19 +487,24 @@ static void measure_stack(struct maker *m)
 }
 
 /* A field read one bit at a time, to compare with. */
-static pag_field plain_field(const uint8_t *file, size_t len, uint64_t place, uint32_t width, uint32_t is_signed)
+static pag_field plain_field(uint32_t order, const uint8_t *file, size_t len, uint64_t place, uint32_t width, uint32_t is_signed)
 {
     pag_field f = {0, 0, place};
-    if (width < 1 || width > 32) f.reason = PAG_COUNT_OUTSIDE_ITS_RANGE;
+    if (order > PAG_LOW_FIRST) f.reason = PAG_ORDER_UNKNOWN;
+    else if (width < 1 || width > 32) f.reason = PAG_COUNT_OUTSIDE_ITS_RANGE;
     else if (place > 8 * (uint64_t)len || 8 * (uint64_t)len - place < width) f.reason = PAG_ITEM_PAST_THE_BODY;
     if (f.reason) return f;
-    for (uint32_t k = 0; k < width; k++) f.value = f.value * 2 + (file[(place + k) / 8] >> (7 - (place + k) % 8) & 1);
+    for (uint32_t i = 0; i < width; i++) {
+        unsigned byte = file[(place + i) / 8], bit = (place + i) % 8;
+        if (order == PAG_LOW_FIRST) f.value += (uint64_t)(byte >> bit & 1) << i;
+        else f.value = f.value * 2 + (byte >> (7 - bit) & 1);
+    }
     if (is_signed && f.value >> (width - 1)) f.value -= (uint64_t)1 << width;
     f.place = place + width;
     return f;
 }
 
-/* Bytes of every length up to 11, NULL for none; places in them, past them and near 2^64; widths 0 to 39; flags 0 to 2. */
+/* Bytes of every length up to 11, NULL for none; places in them, past them and near 2^64; widths 0 to 39; flags 0 to 2; both orders and neither. */
 static void try_bits(size_t tries)
 {
     uint64_t state = 20260102;
@@ -461,10 +515,12 @@ static void try_bits(size_t tries)
         if (len > sizeof bytes) len = 0;
         uint64_t place = i % 16 == 0 ? UINT64_MAX - (state >> 40 & 63) : state >> 40 & 127;
         uint32_t width = state >> 20 & 63, is_signed = (uint32_t)(i % 3);
+        uint32_t pick = state >> 47 & 15, order = pick == 15 ? NEITHER[i % NEITHER_COUNT] : pick % 2;
         if (width > 39) width -= 32;
-        pag_field ours = pag_bits(len ? bytes : NULL, len, place, width, is_signed), plain = plain_field(bytes, len, place, width, is_signed);
+        pag_field ours = pag_bits(order, len ? bytes : NULL, len, place, width, is_signed);
+        pag_field plain = plain_field(order, bytes, len, place, width, is_signed);
         if (ours.reason == plain.reason && ours.value == plain.value && ours.place == plain.place) continue;
-        printf("pag_bits: %zu bytes, place %llu, width %u, flag %u\n", len, (unsigned long long)place, width, is_signed);
+        printf("pag_bits: order %u, %zu bytes, place %llu, width %u, flag %u\n", order, len, (unsigned long long)place, width, is_signed);
         exit(1);
     }
 }
@@ -476,7 +532,7 @@ int main(int argc, char **argv)
         puts("usage: test [--checked | --cases] CASES");
         return 2;
     }
-    struct maker m = {pages(RANDOM_FILE_MAX), 0, 0, 20260101};
+    struct maker m = {.bytes = pages(RANDOM_FILE_MAX), .seed = 20260101};
     input_end = fenced_end(LARGEST_INPUT);
     our_room = pages(LARGEST_ROOM);
     peer_room = pages(LARGEST_ROOM);
@@ -489,9 +545,10 @@ int main(int argc, char **argv)
     try_random_files(&m, checked ? CHECKED_FILES : RANDOM_FILES);
     try_bits(checked ? 20000 : 200000);
     if (!checked) measure_stack(&m);
-    for (size_t reason = 0; reason <= PAG_OUTPUT_TOO_SHORT; reason++) {
-        if (answers[reason]) continue;
-        printf("no input was answered by %zu\n", reason);
+    for (size_t reason = 0; reason <= PAG_ORDER_UNKNOWN; reason++) {
+        int is_given = reason <= PAG_OUTPUT_TOO_SHORT || reason == PAG_ORDER_UNKNOWN;
+        if (!is_given || (answers[0][reason] && (answers[1][reason] || reason == PAG_ORDER_UNKNOWN))) continue;
+        printf("no input was answered by %zu in each order\n", reason);
         return 1;
     }
     printf("%zu calls, each as the peer's\n", calls);

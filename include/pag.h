@@ -13,6 +13,8 @@
  * - A pointer with a length above 0 points to that many elements, aligned as C asks of its type. What is read and what is filled do not overlap.
  * - Threads. Calls may run at the same time if no lent memory is shared; input that nobody changes may be shared.
  * - Level: 0 to 1023. Listed tags with a code above the level are carried as plain bytes. 1023 hides none.
+ * - Bit order: PAG_HIGH_FIRST or PAG_LOW_FIRST. High first: the first bit is the top bit of its byte, and the highest of its field. Low first: the lowest of
+ *   both; the bits that are skipped up to a whole byte are then the high ones. Items of whole bytes are the same in both. Any other order is refused by 24.
  * - Room. A file of n bytes needs at most 8 * n numbers and 5 * n tag numbers, and n is at most 16,777,216. To know the room, call
  *   with length 0: the answer is PAG_TABLE_TOO_SHORT with the numbers needed, if nothing else is wrong.
  * - Stack: at most PAG_STACK_BYTES. hosts/test.c measures it: it runs the calls on a stack that it has painted and looks how far the paint is gone.
@@ -24,6 +26,8 @@
 #include <stdint.h>
 
 #define PAG_LEVEL_MAX 1023u
+#define PAG_HIGH_FIRST 0u
+#define PAG_LOW_FIRST 1u
 #define PAG_FILE_MAX 16777216u
 #define PAG_STACK_BYTES 16384u
 
@@ -54,7 +58,8 @@ enum pag_reason {
     PAG_BODY_NOT_USED_UP = 18,         /* body of a read tag not used up: tag's place */
     PAG_TABLE_TOO_SHORT = 19,          /* numbers needed */
     PAG_NO_FILE_HAS_THIS_TABLE = 20,   /* writer: no file at this level has this table: 0 */
-    PAG_OUTPUT_TOO_SHORT = 21          /* writer: bytes needed */
+    PAG_OUTPUT_TOO_SHORT = 21,         /* writer: bytes needed */
+    PAG_ORDER_UNKNOWN = 24             /* the bit order is neither: 0 */
 };
 
 /* Accepted with its count (reason 0), or refused with reason and number. */
@@ -63,25 +68,25 @@ typedef struct pag_answer {
     uint64_t number;
 } pag_answer;
 
-/* Reads a file into its table of numbers. Refusals: 1 to 19. */
-pag_answer pag_read(uint32_t level, const uint8_t *file, size_t file_len, uint64_t *table, size_t table_len);
+/* Reads a file into its table of numbers. Refusals: 1, 24, 2 to 19; 1, 24 and 2 to 5 are tried in this order. */
+pag_answer pag_read(uint32_t level, uint32_t order, const uint8_t *file, size_t file_len, uint64_t *table, size_t table_len);
 
 /* Reads a file's tags into the tag table. Refusals: those of pag_read, with 19 for this room. */
-pag_answer pag_tags(uint32_t level, const uint8_t *file, size_t file_len, uint32_t *tags, size_t tags_len);
+pag_answer pag_tags(uint32_t level, uint32_t order, const uint8_t *file, size_t file_len, uint32_t *tags, size_t tags_len);
 
-/* Writes the one file that this level reads as this table: all table_len numbers of it. Refusals: 1, 20, 21. */
-pag_answer pag_write(uint32_t level, const uint64_t *table, size_t table_len, uint8_t *out, size_t out_len);
+/* Writes the one file that is read as this table at this level and in this order: all table_len numbers of it. Refusals, tried in this order: 1, 24, 20, 21. */
+pag_answer pag_write(uint32_t level, uint32_t order, const uint64_t *table, size_t table_len, uint8_t *out, size_t out_len);
 
-/* A bit field: UB[width], or SB[width] where is_signed is not 0 (a negative number is kept modulo 2^64: read value as int64_t). The first bit is the
- * top bit of the first byte; place counts bits from the start. reason 0: value is the field, place the next place. Else value is 0 and place is the
- * one that was passed: 17: width is not 1 to 32; then 13: the field runs past the end of the bytes. Bytes of any length are taken; nothing is written. */
+/* A bit field: UB[width], or SB[width] where is_signed is not 0 (a negative number is kept modulo 2^64: read value as int64_t). place counts bits from the
+ * start, in the bit order. reason 0: value is the field, place the next place. Else value is 0 and place is the one that was passed: 24: the order is
+ * neither; then 17: width is not 1 to 32; then 13: the field runs past the end of the bytes. Bytes of any length are taken; nothing is written. */
 typedef struct pag_field {
     uint32_t reason;
     uint64_t value;
     uint64_t place;
 } pag_field;
 
-pag_field pag_bits(const uint8_t *file, size_t file_len, uint64_t place, uint32_t width, uint32_t is_signed);
+pag_field pag_bits(uint32_t order, const uint8_t *file, size_t file_len, uint64_t place, uint32_t width, uint32_t is_signed);
 
 #ifdef __cplusplus
 }

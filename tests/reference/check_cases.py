@@ -46,38 +46,38 @@ def fields(path):
 
 
 def load(path=CASES):
-    """[(name, level, bytes, expected, note)] in the file's order."""
+    """[(name, level, bit order, bytes, expected, note)], a case a line."""
     cases = []
-    for name, level, data, expected, note, *mark in fields(path):
+    for name, level, order, data, expected, note, *mark in fields(path):
         if mark not in ([], [PROVED]):
             raise ValueError('%s: not a mark: %s' % (name, mark))
-        cases.append((name, int(level), parse_bytes(data),
+        cases.append((name, int(level), int(order), parse_bytes(data),
                       parse_expected(expected), note))
     return cases
 
 
 def proved(path=CASES):
     """The names of the cases that are marked: crates/format/proofs/Tested.antt has them too."""
-    return [line[0] for line in fields(path) if line[5:] == [PROVED]]
+    return [line[0] for line in fields(path) if line[6:] == [PROVED]]
 
 
 def length_field_right(data, expected):
-    """The length field is right wherever it is not the point (1 to 5)."""
-    if expected[0] == 'refused' and expected[1] <= 5:
+    """The length field is right wherever it is not the point (1 to 5, 24)."""
+    if expected[0] == 'refused' and (expected[1] <= 5 or expected[1] == 24):
         return True
     return int.from_bytes(data[4:8], 'little') == len(data)
 
 
 def disagreements(case):
-    name, level, data, expected, _ = case
+    name, level, order, data, expected, _ = case
     found = []
-    answer = pag_reference.read(level, data)
+    answer = pag_reference.read(level, order, data)
     if answer[:2] != expected if answer[0] == 'table' else answer != expected:
         found.append('reads as %s, expected %s' % (str(answer)[:300], str(expected)[:300]))
     if not length_field_right(data, expected):
         found.append('length field is wrong')
     if expected[0] == 'table':
-        if pag_reference.write(level, expected[1]) != ('file', data):
+        if pag_reference.write(level, order, expected[1]) != ('file', data):
             found.append('write does not give back the file')
     return ['%s: %s' % (name, text) for text in found]
 

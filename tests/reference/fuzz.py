@@ -1,6 +1,6 @@
-"""Random valid files, damaged variants of them, and a self-check of
-pag_reference with both. The files are made here from document 01's items as
-strings of bits, without pag_reference's writer."""
+"""Random valid files in either bit order, damaged variants of them, and a
+self-check of pag_reference with both. The files are made here from document
+01's items as rows of bit fields, without pag_reference's writer."""
 
 import random
 import sys
@@ -11,23 +11,34 @@ COVERED = (0, 1, 2, 3, 5, 6, 7, 9, 11, 12, 14)
 LEAVES = (1, 3, 6, 7, 9, 11, 12, 14)
 
 
-# ------------------------------------------------------------ items as bits
+# ------------------------------------------------------------ items as fields
 
 def ub(value, width):
-    return format(value, '0%db' % width)
+    """A row of one field."""
+    return [(value, width)]
 
 
 def sb(value, width):
     return ub(value % (1 << width), width)
 
 
-def pad(bits):
-    return bits + '0' * (-len(bits) % 8)
+def row(parts):
+    """The fields of all parts, one part after the other."""
+    return [field for part in parts for field in part]
 
 
-def as_bytes(bits):
-    bits = pad(bits)
-    return bytes(int(bits[i:i + 8], 2) for i in range(0, len(bits), 8))
+def pad(fields):
+    """Zero bits up to a whole byte."""
+    left = -sum(width for _, width in fields) % 8
+    return fields + ub(0, left) if left else fields
+
+
+def as_bytes(order, fields):
+    """The bits of all fields in the order of a file, and then the bytes that
+    they fill from their top bit or, low first, from their lowest bit."""
+    turn = -1 if order == pag.LOW_FIRST else 1
+    bits = ''.join(format(value, '0%db' % width)[::turn] for value, width in pad(fields))
+    return bytes(int(bits[i:i + 8][::turn], 2) for i in range(0, len(bits), 8))
 
 
 def sized(rng, top_bits):
@@ -36,11 +47,11 @@ def sized(rng, top_bits):
 
 
 def spelled(value):
-    bits = ''
+    fields = []
     while value > 127:
-        bits += ub(128 + value % 128, 8)
+        fields += ub(128 + value % 128, 8)
         value //= 128
-    return bits + ub(value, 8)
+    return fields + ub(value, 8)
 
 
 def u32(rng):
@@ -61,7 +72,7 @@ def byte(rng):
 
 
 def float_(rng):
-    return ub(rng.getrandbits(32), 32)
+    return row(byte(rng) for _ in range(4))
 
 
 def bool_(rng):
@@ -90,40 +101,40 @@ def mask_mode(rng):
 
 def signed_fields(rng, width, count):
     half = 1 << (width - 1)
-    return ''.join(sb(rng.randint(-half, half - 1), width) for _ in range(count))
+    return row(sb(rng.randint(-half, half - 1), width) for _ in range(count))
 
 
 def path(rng):
     verbs = [rng.randint(0, 7) for _ in range(rng.choice((0, 1, 2, 3, 5, 9)))]
     width = rng.randint(1, 32)
     coordinates = sum((0, 2, 2, 1, 1, 4, 4, 6)[verb] for verb in verbs)
-    bits = spelled(len(verbs)) + ''.join(ub(verb, 3) for verb in verbs)
-    return bits + ub(width - 1, 5) + signed_fields(rng, width, coordinates)
+    fields = spelled(len(verbs)) + row(ub(verb, 3) for verb in verbs)
+    return fields + ub(width - 1, 5) + signed_fields(rng, width, coordinates)
 
 
 # ------------------------------------------------------------ bodies
 
 def frame_values(rng, data_type, count):
     if data_type is bool_:
-        return ''.join(ub(rng.getrandbits(1), 1) for _ in range(count))
+        return row(ub(rng.getrandbits(1), 1) for _ in range(count))
     if data_type is byte:
         width = rng.randint(1, 32)
         values = [rng.getrandbits(min(width, 8)) for _ in range(count)]
-        return ub(width - 1, 5) + ''.join(ub(value, width) for value in values)
-    return ''.join(pad(data_type(rng)) for _ in range(count))
+        return ub(width - 1, 5) + row(ub(value, width) for value in values)
+    return row(pad(data_type(rng)) for _ in range(count))
 
 
 def keyframed(rng, kind, data_type):
     frames = rng.choice((1, 1, 2, 3, 4, 7))
-    bits, beziers = spelled(frames), 0
+    fields, beziers = spelled(frames), 0
     if kind == 'Simple':
         interpolations = [rng.randint(1, 3) for _ in range(frames)]
         beziers = interpolations.count(2)
-        bits += pad(''.join(ub(one, 2) for one in interpolations))
-    bits += ''.join(time(rng) for _ in range(frames + 1))
-    bits += pad(frame_values(rng, data_type, frames + 1))
+        fields += pad(row(ub(one, 2) for one in interpolations))
+    fields += row(time(rng) for _ in range(frames + 1))
+    fields += pad(frame_values(rng, data_type, frames + 1))
     width = rng.randint(1, 32)
-    return bits + ub(width - 1, 5) + signed_fields(rng, width, 4 * beziers)
+    return fields + ub(width - 1, 5) + signed_fields(rng, width, 4 * beziers)
 
 
 LAYER = [('BitFlag', None), ('BitFlag', None), ('Value', u32), ('Value', ratio),
@@ -136,7 +147,7 @@ MASK = [('Fixed', u32), ('BitFlag', None), ('Value', mask_mode),
 
 
 def block(rng, attributes):
-    flags, contents = '', ''
+    flags, contents = [], []
     for kind, data_type in attributes:
         exist = 1 if kind == 'Fixed' else rng.getrandbits(1)
         animatable = kind in ('Simple', 'Discrete') and exist and rng.getrandbits(1)
@@ -153,15 +164,15 @@ def block(rng, attributes):
 
 def string(rng):
     count = rng.choice((0, 0, 1, 3, 20))
-    return ''.join(ub(rng.randint(1, 255), 8) for _ in range(count)) + '0' * 8
+    return row(ub(rng.randint(1, 255), 8) for _ in range(count)) + ub(0, 8)
 
 
 def fonts(rng):
     count = rng.choice((0, 1, 1, 2, 4))
-    return spelled(count) + ''.join(string(rng) for _ in range(2 * count))
+    return spelled(count) + row(string(rng) for _ in range(2 * count))
 
 
-def leaf_bits(rng, code):
+def leaf_fields(rng, code):
     if code == 1:
         return fonts(rng)
     if code == 3:
@@ -175,8 +186,8 @@ def leaf_bits(rng, code):
     return block(rng, {6: LAYER, 9: TEXT, 14: MASK}[code])
 
 
-def leaf_body(rng, code):
-    return as_bytes(leaf_bits(rng, code))
+def leaf_body(rng, order, code):
+    return as_bytes(order, leaf_fields(rng, code))
 
 
 # ------------------------------------------------------------ tags and files
@@ -195,24 +206,24 @@ def opaque_tag(rng):
     return tag(code, rng.randbytes(rng.choice((0, 1, 2, 5, 61, 62, 63, 64, 100))))
 
 
-def container(rng, depth):
+def container(rng, order, depth):
     head = b'' if rng.getrandbits(1) else rng.randbytes(1)
     code = 5 if head else 2
-    return tag(code, head + as_bytes(u32(rng)) + tag_list(rng, depth + 1))
+    return tag(code, head + as_bytes(order, u32(rng)) + tag_list(rng, order, depth + 1))
 
 
-def tag_list(rng, depth):
+def tag_list(rng, order, depth):
     """Tags and End; containers stand at depth 0 to 7."""
     out = b''
     for _ in range(rng.choice((0, 1, 1, 2, 3))):
         pick = rng.random()
         if pick < 0.35 and depth < 8:
-            out += container(rng, depth)
+            out += container(rng, order, depth)
         elif pick < 0.5:
             out += opaque_tag(rng)
         else:
             code = rng.choice(LEAVES)
-            out += tag(code, leaf_body(rng, code))
+            out += tag(code, leaf_body(rng, order, code))
     return out + b'\0\0'
 
 
@@ -221,12 +232,12 @@ def file_of(tags, compression=0):
             + bytes([compression]) + tags)
 
 
-def random_file(rng):
-    """A random file that is good at every level."""
+def random_file(rng, order=pag.HIGH_FIRST):
+    """A random file that is good at every level in this order."""
     if rng.random() < 0.3:      # one tag alone, so that damage hits its body
         code = rng.choice(LEAVES)
-        return file_of(tag(code, leaf_body(rng, code)) + b'\0\0', rng.getrandbits(8))
-    return file_of(tag_list(rng, 0), rng.getrandbits(8))
+        return file_of(tag(code, leaf_body(rng, order, code)) + b'\0\0', rng.getrandbits(8))
+    return file_of(tag_list(rng, order, 0), rng.getrandbits(8))
 
 
 # ------------------------------------------------------------ damage
@@ -310,6 +321,10 @@ def any_level(rng):
     return rng.choice((0, 1, 2, 4, 5, 6, 8, 11, 13, 1023, 1023, 1023))
 
 
+def any_order(rng):
+    return rng.choice((pag.HIGH_FIRST, pag.LOW_FIRST))
+
+
 def check_rows(data, table, rows):
     """The tag table agrees with the bytes and the headers of the table."""
     place = 1
@@ -321,21 +336,39 @@ def check_rows(data, table, rows):
     assert place == len(table)
 
 
+def check_neither(rng, level, data):
+    """An order that is neither is refused, whatever the bytes are."""
+    order = rng.choice((2, 3, 255, 256, 65536, (1 << 32) - 1))
+    assert pag.read(level, order, data) == ('refused', 24, 0)
+    assert pag.read(level + 1024, order, data) == ('refused', 1, 0)
+    assert pag.write(level, order, list(data)) == ('refused', 24, 0)
+    assert pag.write(level + 1024, order, list(data)) == ('refused', 1, 0)
+
+
 def check_good(rng):
-    data, level = random_file(rng), any_level(rng)
-    answer = pag.read(level, data)
-    assert answer[0] == 'table', (level, data.hex(), answer)
-    assert pag.write(level, answer[1]) == ('file', data), (level, data.hex())
-    assert pag.read(level, data) == answer
-    check_rows(data, answer[1], answer[2])
-    assert pag.listing(data).endswith('\n')
+    """The table of a file; and of the same items in both orders, since their
+    numbers know no order."""
+    seed, level = rng.getrandbits(32), any_level(rng)
+    tables = []
+    for order in (pag.HIGH_FIRST, pag.LOW_FIRST):
+        data = random_file(random.Random(seed), order)
+        answer = pag.read(level, order, data)
+        assert answer[0] == 'table', (level, order, data.hex(), answer)
+        assert pag.write(level, order, answer[1]) == ('file', data), (level, order, data.hex())
+        check_rows(data, answer[1], answer[2])
+        assert pag.listing(data).endswith('\n')
+        tables.append(answer[1])
+    if level == pag.TOP_LEVEL:
+        assert tables[0] == tables[1], (level, seed)
+    check_neither(rng, level, data)
 
 
 def check_damaged(rng, tally):
-    data, level = damage(rng, random_file(rng)), any_level(rng)
-    answer = pag.read(level, data)
+    order, level = any_order(rng), any_level(rng)
+    data = damage(rng, random_file(rng, order))
+    answer = pag.read(level, order, data)
     if answer[0] == 'table':
-        assert pag.write(level, answer[1]) == ('file', data), (level, data.hex())
+        assert pag.write(level, order, answer[1]) == ('file', data), (level, order, data.hex())
         check_rows(data, answer[1], answer[2])
         tally['taken'] = tally.get('taken', 0) + 1
     else:
@@ -346,25 +379,44 @@ def check_damaged(rng, tally):
 
 def check_table(rng, tally):
     """A file the writer gives reads as the very table."""
-    level = any_level(rng)
-    table = damaged_table(rng, pag.read(level, random_file(rng))[1])
-    answer = pag.write(level, table)
+    level, order = any_level(rng), any_order(rng)
+    table = damaged_table(rng, pag.read(level, order, random_file(rng, order))[1])
+    answer = pag.write(level, order, table)
     if answer[0] == 'file':
-        assert pag.read(level, answer[1])[1] == table, (level, table)
+        assert pag.read(level, order, answer[1])[1] == table, (level, order, table)
     else:
         assert answer == ('refused', 20, 0)
     tally[answer[0]] = tally.get(answer[0], 0) + 1
+
+
+def check_field(rng):
+    """A field of the bit reader, against its bits one by one."""
+    data = rng.randbytes(rng.randint(0, 11))
+    place, width, signed = rng.randint(0, 100), rng.randint(0, 33), rng.random() < 0.5
+    bits = {order: ''.join(format(byte, '08b')[::turn] for byte in data)[place:place + width]
+            for order, turn in ((pag.HIGH_FIRST, 1), (pag.LOW_FIRST, -1))}
+    bits[pag.LOW_FIRST] = bits[pag.LOW_FIRST][::-1]
+    assert pag.field(2, data, place, width, signed) == ('refused', 24, 0)
+    for order, digits in bits.items():
+        answer = pag.field(order, data, place, width, signed)
+        if not 1 <= width <= 32:
+            assert answer == ('refused', 17, 0)
+        elif len(digits) < width:
+            assert answer == ('refused', 13, 0)
+        else:
+            value = int(digits, 2) - ((1 << width) if signed and digits[0] == '1' else 0)
+            assert answer == ('value', value % (1 << 64), place + width), (order, data.hex(), place, width)
 
 
 def show(tally):
     return ', '.join('%s: %d' % (key, tally[key]) for key in sorted(tally, key=str))
 
 
-def main(seed=1, good=5000, damaged=20000, tables=10000):
+def main(seed=1, good=5000, damaged=20000, tables=10000, fields=20000):
     rng = random.Random(seed)
     for _ in range(good):
         check_good(rng)
-    print('%d good files: read, write, read agree' % good)
+    print('%d good files in both orders: read, write, read agree' % good)
     tally = {}
     for _ in range(damaged):
         check_damaged(rng, tally)
@@ -373,6 +425,9 @@ def main(seed=1, good=5000, damaged=20000, tables=10000):
     for _ in range(tables):
         check_table(rng, tally)
     print('%d damaged tables: %s' % (tables, show(tally)))
+    for _ in range(fields):
+        check_field(rng)
+    print('%d bit fields in both orders' % fields)
 
 
 if __name__ == '__main__':

@@ -1,6 +1,6 @@
 #!/usr/bin/env python3
 """Writes what the program cases is run on, and what it must print: args, data/ and stdout of crates/cases, from those of tests/cases.txt that
-have at most 65,535 bytes. What is printed comes from a case's own expectation; only the depth, the place, the header size and the body length
+are high first, as the program is, and have at most 65,535 bytes. What is printed comes from a case's own expectation; only the depth, the place, the header size and the body length
 of a tag come from pag_reference, and its codes, states and values must be the expectation's.
 `make_cases.py --check` writes nothing, and says whether the files are what the cases make."""
 
@@ -17,10 +17,10 @@ CRATE = os.path.join(HERE, '..', '..', 'crates', 'cases')
 
 def records(case):
     """The lines' fields: the listing of the expected table, or the expected refusal."""
-    name, level, data, expected, _ = case
+    name, level, order, data, expected, _ = case
     if expected[0] == 'refused':
         return [expected]
-    answer = pag_reference.read(level, data)
+    answer = pag_reference.read(level, order, data)
     if answer[:2] != expected:
         sys.exit('%s: the reference does not read the expected table' % name)
     lines = list(pag_reference.tag_lines(expected[1], answer[2]))
@@ -39,7 +39,7 @@ def printed(case):
 
 def made(cases):
     """{path below crates/cases: bytes}"""
-    files = {os.path.join('data', case[0]): case[2] for case in cases}
+    files = {os.path.join('data', case[0]): case[3] for case in cases}
     files['args'] = ''.join('%d\n%s\n' % (case[1], case[0]) for case in cases).encode()
     files['stdout'] = ''.join(map(printed, cases)).encode()
     return files
@@ -68,7 +68,7 @@ def write(files):
 def main():
     if sys.argv[1:] not in ([], ['--check']):
         sys.exit(__doc__)
-    cases = [case for case in check_cases.load() if len(case[2]) <= LONGEST]
+    cases = [case for case in check_cases.load() if case[2] == pag_reference.HIGH_FIRST and len(case[3]) <= LONGEST]
     files = made(cases)
     if not sys.argv[1:]:
         write(files)

@@ -2,9 +2,11 @@
 """Writes crates/round_trips/stdin, the records that the program round_trips reads, and stdout, what it has to print for them.
 `make_round_trips.py --check` writes nothing, and says whether the files are what the cases and the tables make.
 
-Files are those of tests/cases.txt that fit the program's room, each at its own level, and those of at most SHORT bytes at LEVELS too; and the samples at LEVELS. Tables are those of tests/tables.txt, whose expectations were
-derived by hand, and the tables of the accepted cases with one number changed. What the program has to print comes from pag_reference: `kept` says that
-lent memory is as it was, all of it after a refusal, and what is past the count after an acceptance."""
+A record is a head of eight bytes (its kind: 0 file, 1 table; its bit order; its level in two bytes; the count of the bytes that follow in four) and a file, or a table's numbers in eight bytes each.
+
+Files are those of tests/cases.txt that fit the program's room, each at its own level and in its own order; those of at most SHORT bytes at LEVELS, too, and at their own level in the other
+order and in one that is neither; and the samples at LEVELS. Tables are those of tests/tables.txt, whose expectations were derived by hand, in their own order, in the other and in one that is neither; and the tables
+of the accepted cases with one number changed. What the program has to print comes from pag_reference: `kept` says that lent memory is as it was, all of it after a refusal, and what is past the count after an acceptance."""
 
 import os
 import sys
@@ -13,6 +15,9 @@ import check_cases
 import pag_reference
 
 LEVELS = [0, 1, 2, 5, 6, 10, 13, 1023]
+LOW_LEVELS = [13, 1023]
+NEITHER = [2, 255]
+TOP_ORDER = 255
 ROOM = 16384
 SHORT = 2000
 CHANGED = 40
@@ -23,53 +28,64 @@ TABLES = os.path.join(HERE, '..', 'tables.txt')
 SAMPLES = os.path.join(HERE, '..', '..', 'samples')
 
 
-def head(kind, level, count):
-    return bytes([kind, 0]) + level.to_bytes(2, 'little') + count.to_bytes(4, 'little')
+def head(kind, level, order, count):
+    return bytes([kind, order]) + level.to_bytes(2, 'little') + count.to_bytes(4, 'little')
 
 
-def file_record(level, data):
+def file_record(level, order, data):
     """A file's record, and its line: read, read with room for one number less, written back, and written with one byte too few."""
-    answer = pag_reference.read(level, data)
+    answer = pag_reference.read(level, order, data)
+    line = 'file %d %d ' % (level, order)
     if answer[0] == 'refused':
-        line = 'file %d refused %d %d kept' % (level, answer[1], answer[2])
+        line += 'refused %d %d kept' % answer[1:]
     else:
-        assert pag_reference.write(level, answer[1]) == ('file', data)
+        assert pag_reference.write(level, order, answer[1]) == ('file', data)
         count, size = len(answer[1]), len(data)
         assert count <= ROOM
-        line = 'file %d read %d kept short 19 %d kept write %d same kept short 21 %d kept' % (level, count, count, size, size)
-    return head(FILE, level, len(data)) + data, line
+        line += 'read %d kept short 19 %d kept write %d same kept short 21 %d kept' % (count, count, size, size)
+    return head(FILE, level, order, len(data)) + data, line
 
 
-def table_record(level, table):
+def table_record(level, order, table):
     """A table's record, and its line: written, and read back."""
-    answer = pag_reference.write(level, table)
+    answer = pag_reference.write(level, order, table)
+    line = 'table %d %d ' % (level, order)
     if answer[0] == 'refused':
-        line = 'table %d refused %d %d kept' % (level, answer[1], answer[2])
+        line += 'refused %d %d kept' % answer[1:]
     else:
-        assert pag_reference.read(level, answer[1])[:2] == ('table', list(table))
-        line = 'table %d write %d kept read %d same kept' % (level, len(answer[1]), len(table))
-    return head(TABLE, level, 8 * len(table)) + b''.join(n.to_bytes(8, 'little') for n in table), line
+        assert pag_reference.read(level, order, answer[1])[:2] == ('table', list(table))
+        line += 'write %d kept read %d same kept' % (len(answer[1]), len(table))
+    return head(TABLE, level, order, 8 * len(table)) + b''.join(n.to_bytes(8, 'little') for n in table), line
 
 
 def tables():
-    """[(name, level, numbers)] of tests/tables.txt, each compared with its expectation."""
+    """[(level, order, numbers)] of tests/tables.txt, each compared with its expectation."""
     found = []
-    with open(TABLES, encoding='utf-8') as lines:
-        for line in lines:
-            name, level, numbers, expected, _ = line.rstrip('\n').split(' | ')
-            table = check_cases.repeats(numbers, int)
-            answer = pag_reference.write(int(level), table)
-            said = 'file %d' % len(answer[1]) if answer[0] == 'file' else 'refused %d %d' % answer[1:]
-            if said != expected:
-                sys.exit('%s: %s, expected %s' % (name, said, expected))
-            found.append((name, int(level), table))
+    for name, level, order, numbers, expected, _ in check_cases.fields(TABLES):
+        table = check_cases.repeats(numbers, int)
+        answer = pag_reference.write(int(level), int(order), table)
+        said = 'file %d' % len(answer[1]) if answer[0] == 'file' else 'refused %d %d' % answer[1:]
+        if said != expected:
+            sys.exit('%s: %s, expected %s' % (name, said, expected))
+        found.append((int(level), int(order), table))
     return found
 
 
-def changed(level, table):
+def other_orders(order, number):
+    """The other order, and one that is neither, each of NEITHER in turn; none where the order is neither itself."""
+    if order not in (pag_reference.HIGH_FIRST, pag_reference.LOW_FIRST):
+        return []
+    return [1 - order, NEITHER[number % len(NEITHER)]]
+
+
+def other_levels(order):
+    return {pag_reference.HIGH_FIRST: LEVELS, pag_reference.LOW_FIRST: LOW_LEVELS}.get(order, [])
+
+
+def changed(table):
     """The table with each number in turn one more."""
     for i in range(len(table)):
-        yield level, table[:i] + [(table[i] + 1) % 2 ** 64] + table[i + 1:]
+        yield table[:i] + [(table[i] + 1) % 2 ** 64] + table[i + 1:]
 
 
 def samples():
@@ -79,20 +95,32 @@ def samples():
                 yield sample.read()
 
 
+def case_records(number, case):
+    _, level, order, data, _, _ = case
+    if len(data) > SHORT:
+        yield file_record(level, order, data)
+        return
+    for other in sorted({level, *other_levels(order)}):
+        yield file_record(other, order, data)
+    for other in other_orders(order, number):
+        yield file_record(level, other, data)
+
+
 def records():
-    cases = [case for case in check_cases.load() if len(case[2]) <= ROOM]
-    for _, level, data, expected, _ in cases:
-        for other in sorted({level, *LEVELS}) if len(data) <= SHORT else [level]:
-            yield file_record(other, data)
-    for _, level, table in tables():
-        yield table_record(level, table)
+    # An order has one byte in a record.
+    cases = [case for case in check_cases.load() if len(case[3]) <= ROOM and case[2] <= TOP_ORDER]
+    for number, case in enumerate(cases):
+        yield from case_records(number, case)
+    for number, (level, order, table) in enumerate(tables()):
+        for other in [order, *other_orders(order, number)]:
+            yield table_record(level, other, table)
     for data in samples():
         for level in LEVELS:
-            yield file_record(level, data)
-    for _, level, _, expected, _ in cases:
+            yield file_record(level, pag_reference.HIGH_FIRST, data)
+    for _, level, order, _, expected, _ in cases:
         if expected[0] == 'table' and len(expected[1]) <= CHANGED:
-            for other, table in changed(level, expected[1]):
-                yield table_record(other, table)
+            for table in changed(expected[1]):
+                yield table_record(level, order, table)
 
 
 def main():

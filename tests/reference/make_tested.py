@@ -13,19 +13,20 @@ HERE = os.path.dirname(os.path.abspath(__file__))
 OUT = os.path.join(HERE, '..', '..', 'crates', 'format', 'proofs', 'Tested.antt')
 
 TOP = """-- Test files that wrong definitions would fail on (must-fail/), with what document 01 makes of them, as one table that the definitions compute.
--- Made by tests/reference/make_tested.py from the lines of tests/cases.txt that are marked as proved. All of its lines are run by the program `cases`.
+-- Made by tests/reference/make_tested.py from the lines of tests/cases.txt that are marked as proved. All of its lines are run by programs.
 use Prim.Native.Nat.{ℕ}
 use mathlib.Core.List.{List, [], _∷_, map}
 use mathlib.Core.Path.{_≡_, refl}
-use Rattle.format.specs.Bits.{high, bitAt, ub}
+use Rattle.format.specs.Bits.{bitAt, ub}
 use Rattle.format.specs.Formats.{times}
 use Rattle.format.specs.Items.{readVar, readLE, readText, readFlag, readItem, run}
 use Rattle.format.specs.Bodies.{allFlags, rows, readBlock, readPart, readBody}
 use Rattle.format.specs.FileAndTags.{classOf, walk}
 use Rattle.format.specs.Reasons.{startFault, walkFile, Result, gives, refuses, readFile}
 
--- a file at a level, and what it gives
+-- a file in an order and at a level, and what it gives
 pub record Test : Type 0 where
+  pub order : ℕ
   pub level : ℕ
   pub file : List ℕ
   pub result : Result
@@ -35,7 +36,7 @@ tests =
 """
 
 BOTTOM = """
-pub tested : map (λ (t : Test). readFile high (t .level) (t .file)) tests ≡ map (λ (t : Test). t .result) tests
+pub tested : map (λ (t : Test). readFile (t .order) (t .level) (t .file)) tests ≡ map (λ (t : Test). t .result) tests
 unfolding readFile walkFile startFault classOf walk readBody readPart readBlock allFlags rows run times readItem readVar readLE readText readFlag ub bitAt
 tested = refl
 """
@@ -52,10 +53,10 @@ def result(expected):
 
 
 def row(case, cons):
-    name, level, data, expected, note = case
+    name, level, order, data, expected, note = case
     file = antt_list('0x%02X' % byte for byte in data)
-    return ('    -- %s: %s\n    %srecord { level = %d; file = %s; result = %s }\n'
-            % (name, note, cons, level, file, result(expected)))
+    return ('    -- %s: %s\n    %srecord { order = %d; level = %d; file = %s; result = %s }\n'
+            % (name, note, cons, order, level, file, result(expected)))
 
 
 def made(cases):

@@ -1,6 +1,7 @@
-"""An independent reference of the PAG reader and writer, made from document 01.
+"""An independent reference of the PAG reader and writer, made from document 01
+and from document 02's C-18 (bit order).
 
-Lines in quotation marks in the comments are document 01's sentences.
+Lines in quotation marks in the comments are their sentences.
 Decision n is point n of docs/DECISIONS.md.
 """
 
@@ -12,6 +13,7 @@ WORD = 1 << 64              # "A negative number is kept modulo 2^64"
 LISTING_BYTES = 32768       # "reads at most 32,768 bytes from standard input"
 LISTING_NUMBERS = 8192      # "needing more than 8,192 numbers is refused by 19"
 
+HIGH_FIRST, LOW_FIRST = 0, 1        # C-18: "high first or low first"
 LINEAR, BEZIER, HOLD = 1, 2, 3      # "1 linear, 2 Bezier, 3 hold"
 CONTAINERS = (2, 5)                 # "Tags 2 and 5 are containers."
 COVERED = (0, 1, 2, 3, 5, 6, 7, 9, 11, 12, 14)
@@ -82,33 +84,72 @@ def tag_is_read(level, code):
     return code in COVERED and code <= level
 
 
+def check_call(order, level=0):
+    """"24 for an order that is neither, tried after 1 or, without a level,
+    first." """
+    if level > TOP_LEVEL:
+        raise Refusal(1)
+    if order not in (HIGH_FIRST, LOW_FIRST):
+        raise Refusal(24)
+
+
 # ---------------------------------------------------------------- reading
+
+def bits_at(order, data, place, width):
+    """The number that `width` bits from a bit place on make; they are there.
+    High first: "the first bit is the top bit of the byte, and the first bit of
+    a field is its highest". Low first: "the first bit read is the low bit of
+    the byte and the lowest of its field". So the bytes that they touch are one
+    number, big-endian or little-endian, and the bits stand together in it."""
+    first, last = place // 8, (place + width + 7) // 8
+    if order == HIGH_FIRST:
+        below = 8 * last - (place + width)
+        chunk = int.from_bytes(data[first:last], 'big')
+    else:
+        below = place - 8 * first
+        chunk = int.from_bytes(data[first:last], 'little')
+    return (chunk >> below) % (1 << width)
+
+
+def sign_extended(value, width):
+    """"sign-extended from its top bit", modulo 2^64."""
+    if value >> (width - 1):
+        value -= 1 << width
+    return value % WORD
+
+
+def field(order, data, place, width, signed):
+    """The bit reader: ('value', number, next place), or ('refused', reason, 0).
+    24, then "a width outside 1 to 32 gives 17, then a field past the end 13"."""
+    if order not in (HIGH_FIRST, LOW_FIRST):
+        return ('refused', 24, 0)
+    if not 1 <= width <= 32:
+        return ('refused', 17, 0)
+    if place + width > 8 * len(data):
+        return ('refused', 13, 0)
+    value = bits_at(order, data, place, width)
+    return ('value', sign_extended(value, width) if signed else value, place + width)
+
 
 class BodyReader:
     """One body and a bit place in it; `values` are the numbers read so far."""
 
-    def __init__(self, body):
+    def __init__(self, order, body):
+        self.order = order
         self.body = body
         self.bit = 0
         self.values = []
 
     def unsigned(self, width):
-        """UB[width]: "the first bit is the top bit of the byte, and the first
-        bit of a field is its highest"; past the body is 13."""
-        end = self.bit + width
-        if end > 8 * len(self.body):
+        """UB[width]; past the body is 13."""
+        if self.bit + width > 8 * len(self.body):
             raise Fault(13)
-        first, last = self.bit // 8, (end + 7) // 8
-        chunk = int.from_bytes(self.body[first:last], 'big')
-        self.bit = end
-        return (chunk >> (8 * last - end)) & ((1 << width) - 1)
+        self.bit += width
+        return bits_at(self.order, self.body, self.bit - width, width)
 
     def signed(self, width):
-        """SB[width], "sign-extended from its top bit", modulo 2^64."""
-        value = self.unsigned(width)
-        if value >> (width - 1):
-            value -= 1 << width
-        return value % WORD
+        """SB[width]"""
+        return sign_extended(self.unsigned(width), width)
 
     def width(self):
         """"A width is UB[5] plus 1, everywhere: 1 to 32." """
@@ -121,8 +162,12 @@ class BodyReader:
             raise Fault(15)
 
     def byte(self):
+        """A whole byte, the same in both orders."""
         self.align()
-        return self.unsigned(8)
+        if not self.bytes_left():
+            raise Fault(13)
+        self.bit += 8
+        return self.body[self.bit // 8 - 1]
 
     def bytes_left(self):
         return len(self.body) - (self.bit + 7) // 8
@@ -321,9 +366,9 @@ def read_fonts(reader):
         read_string(reader)
 
 
-def read_leaf(code, body):
+def read_leaf(order, code, body):
     """The values of a read tag that is no container."""
-    reader = BodyReader(body)
+    reader = BodyReader(order, body)
     if code in BLOCKS:
         read_block(reader, BLOCKS[code])
     elif code == 1:
@@ -337,7 +382,7 @@ def read_leaf(code, body):
     return reader.values
 
 
-def read_body(code, body):
+def read_body(order, code, body):
     """The values of a body alone, at level 1023. For 2 and 5 the values are
     the container's own items; what follows them is not looked at."""
     if code not in COVERED:
@@ -347,13 +392,14 @@ def read_body(code, body):
     try:
         if code in CONTAINERS:
             return ('values', read_container_items(code, body).values)
-        return ('values', read_leaf(code, body))
+        return ('values', read_leaf(order, code, body))
     except Fault as fault:
         return ('fault', fault.reason)
 
 
 def read_container_items(code, body):
-    reader = BodyReader(body)
+    """Byte items, so any order reads them alike."""
+    reader = BodyReader(HIGH_FIRST, body)
     for data_type in PLAIN[code]:
         read_item(reader, data_type)
     return reader
@@ -364,10 +410,10 @@ def little_endian(data, place, size):
 
 
 class FileReader:
-    """A walk of the tag lists of one file at one level."""
+    """A walk of the tag lists of one file at one level and in one order."""
 
-    def __init__(self, level, data):
-        self.level, self.data = level, data
+    def __init__(self, level, order, data):
+        self.level, self.order, self.data = level, order, data
         self.table = [data[8]]
         self.rows = []
 
@@ -422,7 +468,7 @@ class FileReader:
                 self.put_tag(code, 1, items.values)
                 self.tag_list(start + items.bit // 8, end, depth + 1, place)
             else:
-                self.put_tag(code, 1, read_leaf(code, body))
+                self.put_tag(code, 1, read_leaf(self.order, code, body))
         except Fault as fault:
             raise Refusal(fault.reason, place) from None
 
@@ -431,10 +477,8 @@ class FileReader:
         self.table.extend(values)
 
 
-def check_file_header(level, data):
-    """"1 to 5 are tried in this order." """
-    if level > TOP_LEVEL:
-        raise Refusal(1)
+def check_file_header(data):
+    """"1 to 5 are tried in this order.": 2 to 5 here."""
     if len(data) < 9:
         raise Refusal(2)
     if data[0:3] != b'PAG':
@@ -445,13 +489,14 @@ def check_file_header(level, data):
         raise Refusal(5)
 
 
-def read(level, data):
+def read(level, order, data):
     """('table', numbers, tag rows) or ('refused', reason, number); the rooms
     (19) are the caller's."""
     data = bytes(data)
     try:
-        check_file_header(level, data)
-        reader = FileReader(level, data)
+        check_call(order, level)
+        check_file_header(data)
+        reader = FileReader(level, order, data)
         reader.tag_list(9, len(data), 0, None)
     except Refusal as refusal:
         return ('refused', refusal.reason, refusal.number)
@@ -492,21 +537,33 @@ class Numbers:
 
 
 class BodyWriter:
-    """A body under way: whole bytes, and the bits of a byte begun."""
+    """A body under way: whole bytes, and the bits of a byte begun: a number
+    whose highest bit (high first) or lowest bit (low first) was put first."""
 
-    def __init__(self, numbers):
+    def __init__(self, order, numbers):
+        self.order = order
         self.numbers = Numbers(numbers)
         self.out = bytearray()
         self.begun = 0
         self.begun_bits = 0
 
     def bits(self, width, value):
-        self.begun = (self.begun << width) | value
+        if self.order == HIGH_FIRST:
+            self.begun = (self.begun << width) | value
+        else:
+            self.begun |= value << self.begun_bits
         self.begun_bits += width
         while self.begun_bits >= 8:
             self.begun_bits -= 8
-            self.out.append(self.begun >> self.begun_bits)
-            self.begun &= (1 << self.begun_bits) - 1
+            self.out.append(self.first_byte())
+
+    def first_byte(self):
+        """The byte that was put first, taken away from the bits begun."""
+        if self.order == HIGH_FIRST:
+            byte, self.begun = divmod(self.begun, 1 << self.begun_bits)
+        else:
+            self.begun, byte = divmod(self.begun, 256)
+        return byte
 
     def align(self):
         """Skipped bits are zero."""
@@ -666,7 +723,7 @@ def write_block(writer, attributes):
     """The table gives flags and content attribute by attribute; the file gives
     all flags first. So the contents go to a writer of their own: they start
     on a whole byte, because every content starts with a byte item."""
-    contents = BodyWriter(())
+    contents = BodyWriter(writer.order, ())
     contents.numbers = writer.numbers
     for _, kind, data_type in attributes:
         flag = writer.take()
@@ -688,9 +745,9 @@ def write_fonts(writer):
         write_string(writer)
 
 
-def write_values(code, values):
+def write_values(order, code, values):
     """The body, or a container's own items, that reads as these values."""
-    writer = BodyWriter(values)
+    writer = BodyWriter(order, values)
     if code in BLOCKS:
         write_block(writer, BLOCKS[code])
     elif code == 1:
@@ -719,7 +776,7 @@ def write_tag_header(code, length):
     return (code * 64 + 63).to_bytes(2, 'little') + length.to_bytes(4, 'little')
 
 
-def write_list(level, numbers, depth):
+def write_list(level, order, numbers, depth):
     """The bytes of one tag list, its End included."""
     out = bytearray()
     while True:
@@ -730,25 +787,24 @@ def write_list(level, numbers, depth):
         if not is_read:
             body = write_opaque(values)
         else:
-            body = write_values(code, values)
+            body = write_values(order, code, values)
         if is_read and code in CONTAINERS:
             if depth == TOP_DEPTH:
                 raise no_file()
-            body += write_list(level, numbers, depth + 1)
+            body += write_list(level, order, numbers, depth + 1)
         out += write_tag_header(code, len(body)) + body
         if code == 0:
             return bytes(out)
 
 
-def write(level, table):
-    """('file', bytes) or ('refused', 1 or 20, 0); the output's room (21) is
-    the caller's. "the whole lent table slice is the table" """
-    if level > TOP_LEVEL:
-        return ('refused', 1, 0)
+def write(level, order, table):
+    """('file', bytes) or ('refused', 1, 24 or 20, 0); the output's room (21)
+    is the caller's. "the whole lent table slice is the table" """
     numbers = Numbers(table)
     try:
+        check_call(order, level)
         compression = numbers.take(most=255)
-        tags = write_list(level, numbers, 0)
+        tags = write_list(level, order, numbers, 0)
         length = 9 + len(tags)
         if not numbers.used_up() or length > FILE_LIMIT:
             raise no_file()
@@ -771,10 +827,11 @@ def tag_lines(table, rows):
 
 
 def listing(data):
-    """The listing program's output for these bytes of standard input."""
+    """The listing program's output for these bytes of standard input: "the
+    programs are high first"."""
     if len(data) > LISTING_BYTES:
         return 'too long\n'
-    answer = read(TOP_LEVEL, data)
+    answer = read(TOP_LEVEL, HIGH_FIRST, data)
     if answer[0] == 'table' and len(answer[1]) > LISTING_NUMBERS:
         answer = ('refused', 19, len(answer[1]))
     if answer[0] == 'refused':

@@ -11,7 +11,7 @@ use lib.Seq.{sets-eq, slice-cons, slice-empty, length-slice, take-at}
 use lib.Dec.{eqb}
 use borrow.Author.Tests.{ne-eqb}
 use Rattle.format.specs.Tests.{pick}
-use Rattle.format.specs.Bits.{high, ub}
+use Rattle.format.specs.Bits.{Order, ub}
 use Rattle.format.specs.Reading.{Ending, Reading, At, Fault, shows}
 use Rattle.format.specs.Formats.{Item, item, _▸_}
 use Rattle.format.specs.Items.{Num, num, bad, room, exist, readUB, readFlag, readItem, showNum, run}
@@ -93,73 +93,73 @@ rows-many {start} {end} a = length-slice start end allAttributes (a .inside)
 -- ---- flag bits
 
 -- the first bit, and at most n after it
-abbrev onward : List ℕ → ℕ → Num → Num
-onward b n (num v q) = pick (eqb v 0) (num 0 q) (exist (readFlag high b q n))
-onward b n (bad e) = bad e
+abbrev onward : Order → List ℕ → ℕ → Num → Num
+onward o b n (num v q) = pick (eqb v 0) (num 0 q) (exist (readFlag o b q n))
+onward o b n (bad e) = bad e
 
-flag-bit : (b : List ℕ) (p n : ℕ) → readFlag high b p (suc n) ≡ onward b n (readUB high b p 1)
+flag-bit : (o : Order) (b : List ℕ) (p n : ℕ) → readFlag o b p (suc n) ≡ onward o b n (readUB o b p 1)
 unfolding readFlag
-flag-bit b p n = go (room b p 1)
+flag-bit o b p n = go (room b p 1)
   where
-    go : (t : truth.Bool) → pick t (pick (eqb (ub high b p 1) 0) (num 0 (p + 1)) (exist (readFlag high b (p + 1) n))) (bad 13)
-        ≡ onward b n (pick t (num (ub high b p 1) (p + 1)) (bad 13))
+    go : (t : truth.Bool) → pick t (pick (eqb (ub o b p 1) 0) (num 0 (p + 1)) (exist (readFlag o b (p + 1) n))) (bad 13)
+        ≡ onward o b n (pick t (num (ub o b p 1) (p + 1)) (bad 13))
     go true = refl
     go false = refl
 
 -- one bit is a field of one bit
-flag-one : (b : List ℕ) (p : ℕ) → readFlag high b p 1 ≡ readUB high b p 1
+flag-one : (o : Order) (b : List ℕ) (p : ℕ) → readFlag o b p 1 ≡ readUB o b p 1
 unfolding readFlag
-flag-one b p = flag-bit b p 0 ∙ go (room b p 1) (ub high b p 1) (ub-lt high b p 1)
+flag-one o b p = flag-bit o b p 0 ∙ go (room b p 1) (ub o b p 1) (ub-lt o b p 1)
   where
-    go : (t : truth.Bool) (v : ℕ) → v < 2 → onward b 0 (pick t (num v (p + 1)) (bad 13)) ≡ pick t (num v (p + 1)) (bad 13)
+    go : (t : truth.Bool) (v : ℕ) → v < 2 → onward o b 0 (pick t (num v (p + 1)) (bad 13)) ≡ pick t (num v (p + 1)) (bad 13)
     go true zero h = refl
     go true (suc zero) h = refl
     go true (suc (suc v)) h = absurd (omega arith)
     go false v h = refl
 
-pub one-bit : (b : List ℕ) (p : ℕ) {n : Num} → n ≡ readUB high b p 1 → showNum n ≡ run high b (item (Item.flag 1)) p
+pub one-bit : (o : Order) (b : List ℕ) (p : ℕ) {n : Num} → n ≡ readUB o b p 1 → showNum n ≡ run o b (item (Item.flag 1)) p
 unfolding run readItem
-one-bit b p e = ap showNum (e ∙ sym (flag-one b p))
+one-bit o b p e = ap showNum (e ∙ sym (flag-one o b p))
 
 -- two bits, by what the first gave
-module _ (b : List ℕ) (p : ℕ) (r : Got) (first : numOf r ≡ readUB high b p 1) where
-  two-bits : run high b (item (Item.flag 2)) p ≡ showNum (onward b 1 (numOf r))
+module _ (o : Order) (b : List ℕ) (p : ℕ) (r : Got) (first : numOf r ≡ readUB o b p 1) where
+  two-bits : run o b (item (Item.flag 2)) p ≡ showNum (onward o b 1 (numOf r))
   unfolding run readItem
-  two-bits = rw (first, flag-bit b p 1)
+  two-bits = rw (first, flag-bit o b p 1)
 
   -- it is not there
-  pub two-past : {e : ℕ} → r ≡ GotFault e → showNum (numOf r) ≡ run high b (item (Item.flag 2)) p
+  pub two-past : {e : ℕ} → r ≡ GotFault e → showNum (numOf r) ≡ run o b (item (Item.flag 2)) p
   two-past e = rw (two-bits, e)
 
   -- it is 0
-  pub two-none : {v : ℕ} {q : BitPlace} → r ≡ GotValue v q → v ≡ 0 → showNum (num 0 (q .0)) ≡ run high b (item (Item.flag 2)) p
+  pub two-none : {v : ℕ} {q : BitPlace} → r ≡ GotValue v q → v ≡ 0 → showNum (num 0 (q .0)) ≡ run o b (item (Item.flag 2)) p
   two-none e z = rw (two-bits, e, z)
 
   -- it is 1, and a is what the second gave
-  module _ {v : ℕ} {q : BitPlace} (a : Got) (e : r ≡ GotValue v q) (one : v ≡ 0 → ⊥) (second : numOf a ≡ readUB high b (q .0) 1) where
-    two-more : run high b (item (Item.flag 2)) p ≡ showNum (exist (numOf a))
-    two-more = rw (two-bits, e, ne-eqb v 0 one, flag-one b (q .0), second)
+  module _ {v : ℕ} {q : BitPlace} (a : Got) (e : r ≡ GotValue v q) (one : v ≡ 0 → ⊥) (second : numOf a ≡ readUB o b (q .0) 1) where
+    two-more : run o b (item (Item.flag 2)) p ≡ showNum (exist (numOf a))
+    two-more = rw (two-bits, e, ne-eqb v 0 one, flag-one o b (q .0), second)
 
-    pub two-cut : {z : ℕ} → a ≡ GotFault z → showNum (numOf a) ≡ run high b (item (Item.flag 2)) p
+    pub two-cut : {z : ℕ} → a ≡ GotFault z → showNum (numOf a) ≡ run o b (item (Item.flag 2)) p
     two-cut f = rw (two-more, f)
 
-    pub two-both : {w : ℕ} {z : BitPlace} → a ≡ GotValue w z → showNum (num (1 + 2 * w) (z .0)) ≡ run high b (item (Item.flag 2)) p
+    pub two-both : {w : ℕ} {z : BitPlace} → a ≡ GotValue w z → showNum (num (1 + 2 * w) (z .0)) ≡ run o b (item (Item.flag 2)) p
     two-both f = rw (two-more, f)
 
 -- the kind that a `match` tells
-pub flag-of : (b : List ℕ) (p : ℕ) {kind : Kind} {r : Reading} (told : Kind) → kind ≡ told → r ≡ run high b (item (flagsOf (kindOf told))) p
-    → r ≡ run high b (item (flagsOf (kindOf kind))) p
-flag-of b p told e f = f ∙ ap (λ (k : Kind). run high b (item (flagsOf (kindOf k))) p) (sym e)
+pub flag-of : (o : Order) (b : List ℕ) (p : ℕ) {kind : Kind} {r : Reading} (told : Kind) → kind ≡ told → r ≡ run o b (item (flagsOf (kindOf told))) p
+    → r ≡ run o b (item (flagsOf (kindOf kind))) p
+flag-of o b p told e f = f ∙ ap (λ (k : Kind). run o b (item (flagsOf (kindOf k))) p) (sym e)
 
 -- no bit, and the number 1
-pub fixed-is : (b : List ℕ) (p : ℕ) → showNum (num 1 p) ≡ run high b (item (Item.echo 1)) p
+pub fixed-is : (o : Order) (b : List ℕ) (p : ℕ) → showNum (num 1 p) ≡ run o b (item (Item.echo 1)) p
 unfolding run readItem
-fixed-is b p = refl
+fixed-is o b p = refl
 
 -- ---- the flags of all rows, one after the other
-module _ (s t₀ : List ℕ) (start end p₀ : ℕ) where
+module _ (o : Order) (s t₀ : List ℕ) (start end p₀ : ℕ) where
   abbrev flagsFrom : ℕ → ℕ → Reading
-  flagsFrom row p = run high s (allFlags (rowsFrom row end)) p
+  flagsFrom row p = run o s (allFlags (rowsFrom row end)) p
 
   -- the whole from the start is what is left from here
   pub record Going (t : List ℕ) (p row j : ℕ) : Type 0 where
@@ -174,24 +174,24 @@ module _ (s t₀ : List ℕ) (start end p₀ : ℕ) where
     abbrev flagHere : Item
     flagHere = flagsOf (kindOf (rowAt row .kind))
 
-    flags-here : flagsFrom row p ≡ run high s (item flagHere ▸ allFlags (rowsFrom (row + 1) end)) p
+    flags-here : flagsFrom row p ≡ run o s (item flagHere ▸ allFlags (rowsFrom (row + 1) end)) p
     unfolding allFlags
-    flags-here = ap (λ (l : List bodies.Attribute). run high s (allFlags l) p) (rows-next some rows)
+    flags-here = ap (λ (l : List bodies.Attribute). run o s (allFlags l) p) (rows-next some rows)
 
-    pub flags-next : {v q : ℕ} {u : List ℕ} → showNum (num v q) ≡ run high s (item flagHere) p → u ≡ set t j v → Going u q (row + 1) (j + 1)
+    pub flags-next : {v q : ℕ} {u : List ℕ} → showNum (num v q) ≡ run o s (item flagHere) p → u ≡ set t j v → Going u q (row + 1) (j + 1)
     flags-next {v} {q} {u} e d =
-        let l : (p ≤ q) × (q ≤ 8 * length s) = run-le high s (item flagHere) p q (g .place .0) (ap (λ (r : Reading). r .ended) (sym e)) in
+        let l : (p ≤ q) × (q ≤ 8 * length s) = run-le o s (item flagHere) p q (g .place .0) (ap (λ (r : Reading). r .ended) (sym e)) in
         record {
           size = ap length d ∙ length-set t j v ∙ g .size;
-          rest = g .rest ∙ ap (shownOver t j) flags-here ∙ sym (then-one high s t j (item flagHere) (λ xs. allFlags (rowsFrom (row + 1) end)) p (sym e) d refl);
+          rest = g .rest ∙ ap (shownOver t j) flags-here ∙ sym (then-one o s t j (item flagHere) (λ xs. allFlags (rowsFrom (row + 1) end)) p (sym e) d refl);
           place = (l .1, g .place .1);
           below = omega arith;
           stored = omega (arith, g .stored);
         }
 
-    pub flags-stop : {e : ℕ} → showNum (bad e) ≡ run high s (item flagHere) p → state t j (Fault e) ≡ shownOver t₀ 0 (flagsFrom start p₀)
+    pub flags-stop : {e : ℕ} → showNum (bad e) ≡ run o s (item flagHere) p → state t j (Fault e) ≡ shownOver t₀ 0 (flagsFrom start p₀)
     flags-stop e =
-        then-never high s t j (item flagHere) (λ xs. allFlags (rowsFrom (row + 1) end)) p (sym e) ∙ sym (g .rest ∙ ap (shownOver t j) flags-here)
+        then-never o s t j (item flagHere) (λ xs. allFlags (rowsFrom (row + 1) end)) p (sym e) ∙ sym (g .rest ∙ ap (shownOver t j) flags-here)
 
   pub flags-done : {t : List ℕ} {p row j : ℕ} → end ≤ row → Going t p row j → state t j (At p) ≡ shownOver t₀ 0 (flagsFrom start p₀)
   unfolding run allFlags
@@ -208,15 +208,15 @@ unfolding shownOver
 ended-is t k r e = ap (λ (s : State). s .ended) (sym e)
 
 -- lent room for nine flags holds, from index 0 on, the flags that were shown
-module _ {start end : ℕ} (b f : List ℕ) (p : ℕ) {u : List ℕ} {j q : ℕ} (rows : AreRows start end) (lent : 9 ≤ length f)
-    (e : state u j (At q) ≡ shownOver f 0 (run high b (allFlags (rowsFrom start end)) p)) where
-  pub flags-in : take (end - start) u ≡ run high b (allFlags (rowsFrom start end)) p .shown
+module _ (o : Order) {start end : ℕ} (b f : List ℕ) (p : ℕ) {u : List ℕ} {j q : ℕ} (rows : AreRows start end) (lent : 9 ≤ length f)
+    (e : state u j (At q) ≡ shownOver f 0 (run o b (allFlags (rowsFrom start end)) p)) where
+  pub flags-in : take (end - start) u ≡ run o b (allFlags (rowsFrom start end)) p .shown
   unfolding shownOver
   flags-in =
-      let φs : List ℕ = run high b (allFlags (rowsFrom start end)) p .shown in
-      let n : length φs ≡ end - start = as-many high (rowsFrom start end) b p q (ended-is f 0 (run high b (allFlags (rowsFrom start end)) p) e) ∙ rows-many rows in
+      let φs : List ℕ = run o b (allFlags (rowsFrom start end)) p .shown in
+      let n : length φs ≡ end - start = as-many o (rowsFrom start end) b p q (ended-is f 0 (run o b (allFlags (rowsFrom start end)) p) e) ∙ rows-many rows in
       let m : 0 + length φs ≤ length f = omega (arith, rows .few, n) in
       ap (λ (s : State). take (end - start) (s .table)) e ∙ rw (sets-eq φs f 0 m) (take-at φs _ (end - start) n)
 
-  pub flags-read : run high b (allFlags (rowsFrom start end)) p ≡ shows (take (end - start) u) q
-  flags-read = λ i. record { shown = sym flags-in i; ended = ended-is f 0 (run high b (allFlags (rowsFrom start end)) p) e i }
+  pub flags-read : run o b (allFlags (rowsFrom start end)) p ≡ shows (take (end - start) u) q
+  flags-read = λ i. record { shown = sym flags-in i; ended = ended-is f 0 (run o b (allFlags (rowsFrom start end)) p) e i }

@@ -1,16 +1,16 @@
 // The attribute lists of tags 6, 9 and 14 as constant rows of kind and data type, and their flags.
 ghost use mathlib.Core.Path.{_≡_};
-ghost use Rattle.format.specs.Bits.{high};
 ghost use Rattle.format.specs.Formats.{item};
 ghost use Rattle.format.specs.Items.{run, showNum};
 ghost use Rattle.format.specs.Bodies.{flagsOf, allFlags};
-ghost use Rattle.bits.specs.Places.{PlaceIn, numOf};
+ghost use Rattle.bits.specs.Places.{PlaceIn, numOf, orderOf};
 ghost use Rattle.table.specs.State.{shownOver};
 ghost use Rattle.table.specs.Run.{runLeaves};
 ghost use Rattle.attributes.specs.Rows.{kindOf, rowsAt, rowsFrom, AreRows};
 ghost use Rattle.attributes.specs.Contents.{animatableBy, contentBy};
 use bits::BitPlace;
 use bits::Got;
+use bits::Order;
 use table::Run;
 
 pub enum Kind {
@@ -148,18 +148,18 @@ pub fn rows_of(code: u32) -> Rows
 }
 
 // An exist bit; if set, an animatable bit.
-fn read_two_flags(body: &[u8], at: BitPlace) -> Got
+fn read_two_flags(order: Order, body: &[u8], at: BitPlace) -> Got
     requires { ⌜ PlaceIn (now body) (at .0) ⌝ }
-    ensures { λ r. ⌜ showNum (numOf r) ≡ run high (now (body .entry)) (item (flagsOf (kindOf Kind.Simple))) (at .0) ⌝ }
+    ensures { λ r. ⌜ showNum (numOf r) ≡ run (orderOf order) (now (body .entry)) (item (flagsOf (kindOf Kind.Simple))) (at .0) ⌝ }
 {
-    let e = bits::fields::read_ub(body, at, 1);
+    let e = bits::fields::read_ub(order, body, at, 1);
     let Got::Value(exist, next) = e else {
         return e;
     };
     if exist == 0 {
         return Got::Value(0, next);
     }
-    let a = bits::fields::read_ub(body, next, 1);
+    let a = bits::fields::read_ub(order, body, next, 1);
     let Got::Value(animatable, end) = a else {
         return a;
     };
@@ -167,23 +167,23 @@ fn read_two_flags(body: &[u8], at: BitPlace) -> Got
 }
 
 // The flags of one attribute as a number: exist + 2 × animatable; a Fixed one has no bit, and gives 1.
-fn read_flag(kind: Kind, body: &[u8], at: BitPlace) -> Got
+fn read_flag(order: Order, kind: Kind, body: &[u8], at: BitPlace) -> Got
     requires { ⌜ PlaceIn (now body) (at .0) ⌝ }
-    ensures { λ r. ⌜ showNum (numOf r) ≡ run high (now (body .entry)) (item (flagsOf (kindOf kind))) (at .0) ⌝ }
+    ensures { λ r. ⌜ showNum (numOf r) ≡ run (orderOf order) (now (body .entry)) (item (flagsOf (kindOf kind))) (at .0) ⌝ }
 {
     match kind {
-        Kind::Value => bits::fields::read_ub(body, at, 1),
+        Kind::Value => bits::fields::read_ub(order, body, at, 1),
         Kind::Fixed => Got::Value(1, at),
-        Kind::BitFlag => bits::fields::read_ub(body, at, 1),
-        Kind::Simple => read_two_flags(body, at),
-        Kind::Discrete => read_two_flags(body, at),
+        Kind::BitFlag => bits::fields::read_ub(order, body, at, 1),
+        Kind::Simple => read_two_flags(order, body, at),
+        Kind::Discrete => read_two_flags(order, body, at),
     }
 }
 
 // The flags of all rows, in order.
-pub fn read_flags(rows: Rows, body: &[u8], at: BitPlace, flags: &mut [u64]) -> Run
+pub fn read_flags(order: Order, rows: Rows, body: &[u8], at: BitPlace, flags: &mut [u64]) -> Run
     requires { ⌜ AreRows (rows .start) (rows .end) × PlaceIn (now body) (at .0) ⌝ }
-    ensures { λ r. ⌜ runLeaves (now (flags .exit)) r ≡ shownOver (now (flags .entry)) 0 (run high (now (body .entry)) (allFlags (rowsFrom (rows .start) (rows .end))) (at .0)) ⌝ }
+    ensures { λ r. ⌜ runLeaves (now (flags .exit)) r ≡ shownOver (now (flags .entry)) 0 (run (orderOf order) (now (body .entry)) (allFlags (rowsFrom (rows .start) (rows .end))) (at .0)) ⌝ }
 {
     let attributes = ATTRIBUTES;
     let end = rows.end;
@@ -193,7 +193,7 @@ pub fn read_flags(rows: Rows, body: &[u8], at: BitPlace, flags: &mut [u64]) -> R
     while row < end {
         let attribute = attributes[row];
         let kind = attribute.kind;
-        let r = read_flag(kind, body, place);
+        let r = read_flag(order, kind, body, place);
         match r {
             Got::Value(number, next) => {
                 table::put(flags, index, number);

@@ -82,7 +82,7 @@ module _ {M : Type 1} (𝓤 : URA M) (H : Heap 𝓤) (A : Atoms 𝓤) (W : Given
   mach = T′.lowered d
 
   abbrev found : Step
-  found = stepAt signed (now (d .bytes)) (d .place) w
+  found = stepAt (d .order) signed (now (d .bytes)) (d .place) w
 
   abbrev at : Vals walked.signature (κ, tt)
   at = (mach ∷ [], (vint w32 w ∷ [], tt))
@@ -100,40 +100,40 @@ module _ {M : Type 1} (𝓤 : URA M) (H : Heap 𝓤) (A : Atoms 𝓤) (W : Given
   L = T′.the-laws α
 
   abbrev vd : Values (D .parts)
-  vd = (d .bytes, (d .place, tt))
+  vd = (d .bytes, (d .order, (d .place, tt)))
 
   -- what the callee is passed
   abbrev passed : Vals step.signature (κ, tt)
-  passed = (sliceVal (d .bytes .ptr) (length (d .bytes .now)) ∷ [], (P′.lowered (d .place) ∷ [], (vint w32 w ∷ [], (vbool signed ∷ [], tt))))
+  passed = (vint w32 (d .order) ∷ [], (sliceVal (d .bytes .ptr) (length (d .bytes .now)) ∷ [], (P′.lowered (d .place) ∷ [], (vint w32 w ∷ [], (vbool signed ∷ [], tt)))))
 
   abbrev pub to : FieldAt 𝓤 H A mem run .Ghost
-  to = (((κ, tt), (q, tt), tt, (d .bytes, (d .place, (w, (signed, tt)))), passed), tt)
+  to = (((κ, tt), (q, tt), tt, (d .order, (d .bytes, (d .place, (w, (signed, tt))))), passed), tt)
 
   -- what the place is known to be
   placed : d .place .0 < 2 ^ 64 → Is P.the-row (d .place) (P′.lowered (d .place) ∷ [])
   placed g = LL.owes P.the-type P′.the-laws (d .place) ((refl, g), tt)
 
-  asked : ent 𝓤 (onEntry 𝓤 H A step.signature (κ, tt) (q, tt) (d .bytes, (d .place, (w, (signed, tt)))) passed) (FieldAt 𝓤 H A mem run .pre to)
-  asked = qed W ((‵ (flft κ q) ⊛ ‵ ftrue) ∷ ‵ (owns (ShrSlice (named 0) κ u8 ∷ P.the-row ∷ u32 ∷ bool ∷ []) (d .bytes, (d .place, (w, (signed, tt)))) passed) ∷ []) ∵ join ! $ frame ! $ done !
+  asked : ent 𝓤 (onEntry 𝓤 H A step.signature (κ, tt) (q, tt) (d .order, (d .bytes, (d .place, (w, (signed, tt))))) passed) (FieldAt 𝓤 H A mem run .pre to)
+  asked = qed W ((‵ (flft κ q) ⊛ ‵ ftrue) ∷ ‵ (owns (u32 ∷ ShrSlice (named 0) κ u8 ∷ P.the-row ∷ u32 ∷ bool ∷ []) (d .order, (d .bytes, (d .place, (w, (signed, tt))))) passed) ∷ []) ∵ join ! $ frame ! $ done !
 
   -- what the struct owns gives what the callee asks, and is kept, twice
-  pub apart : d .place .0 < 2 ^ 64 → ent 𝓤 (onEntry 𝓤 H A walked.signature (κ, tt) (q, tt) (d, (w, tt)) at) (sep 𝓤 (FieldAt 𝓤 H A mem run .pre to) (sep 𝓤 (sem 𝓤 H A Own) (sem 𝓤 H A Own)))
-  apart g =
+  pub apart : d .order < 2 ^ 32 → d .place .0 < 2 ^ 64 → ent 𝓤 (onEntry 𝓤 H A walked.signature (κ, tt) (q, tt) (d, (w, tt)) at) (sep 𝓤 (FieldAt 𝓤 H A mem run .pre to) (sep 𝓤 (sem 𝓤 H A Own) (sem 𝓤 H A Own)))
+  apart f g =
       qed W ((‵ (flft κ q) ⊛ ‵ ftrue) ∷ ‵ (owns (B (κ, tt) ∷ u32 ∷ []) (d, (w, tt)) at) ∷ []) ∵
       move ! (1 ∷ []) $ fsplit ! $ move ! (1 ∷ []) $ drop ! $ use1 W (‵ Own ⊛ ‵ Own) (LL.copy D (T′.the-copy α) 𝓤 H A W .twice d (mach ∷ [])) $ split ! $
       use1 W (‵ Own ⊛ ‵ Own) (LL.copy D (T′.the-copy α) 𝓤 H A W .twice d (mach ∷ [])) $ split ! $
       use1 W (given (mach ∷ [] ≡ mach ∷ []) (‵ (all-own (D .parts) L vd))) (own-open 𝓤 H A W D L vd mach) $ learn ! (λ _. use1 W (‵ (ownAt (D .parts) L 0 (d .bytes)) ⊛ ‵ (rest (D .parts) L 0 vd)) (own-out 𝓤 H A W (D .parts) L 0 vd) $ split ! $
-      -- [what the bytes own; what the place owns; what the struct owns, twice; the token]
+      -- [what the bytes own; what order and place own; what the struct owns, twice; the token]
       move ! (1 ∷ []) $ drop ! $ nothing ! $ owned ! bool (Is bool) (bool-makes 𝓤 H A W) signed _ refl $ fjoin ! $ owned ! u32 (Is u32) (uint-makes 𝓤 H A W w32) w _ (refl, ok) $ fjoin ! $
-      owned ! P.the-row (Is P.the-row) (LL.makes P.the-type P′.the-plain 𝓤 H A) (d .place) _ (placed g) $ fjoin ! $ move ! (1 ∷ 0 ∷ []) $ fjoin ! $
+      owned ! P.the-row (Is P.the-row) (LL.makes P.the-type P′.the-plain 𝓤 H A) (d .place) _ (placed g) $ fjoin ! $ move ! (1 ∷ 0 ∷ []) $ fjoin ! $ owned ! u32 (Is u32) (uint-makes 𝓤 H A W w32) (d .order) _ (refl, f) $ fjoin ! $
       move ! (3 ∷ 0 ∷ []) $ use2 W (raw (FieldAt 𝓤 H A mem run .pre to)) asked $ frame ! $ frame ! $ done !)
 
   abbrev pub Ensured : Step → SProp 𝓤
-  Ensured r = ensured 𝓤 H A step.ended (step.clauses 𝓤 H A mem run) (κ, tt) (d .bytes, (d .place, (w, (signed, tt)))) tt r
+  Ensured r = ensured 𝓤 H A step.ended (step.clauses 𝓤 H A mem run) (κ, tt) (d .order, (d .bytes, (d .place, (w, (signed, tt))))) tt r
 
   -- of the callee's `ensured`, the clause alone
   pub said : (r : Step) → ent 𝓤 (Ensured r) (fact 𝓤 (r ≡ found))
-  said r = exE 𝓤 _ (λ ws. snd∗ 𝓤 (sem 𝓤 H A (lasts step.ended (κ, tt) (d .bytes, (d .place, (w, (signed, tt)))) ws)) (fact 𝓤 (r ≡ found)))
+  said r = exE 𝓤 _ (λ ws. snd∗ 𝓤 (sem 𝓤 H A (lasts step.ended (κ, tt) (d .order, (d .bytes, (d .place, (w, (signed, tt))))) ws)) (fact 𝓤 (r ≡ found)))
 
   -- the result's machine value, of what the callee answered
   abbrev pub final : Step → Val
@@ -146,7 +146,7 @@ module _ {M : Type 1} (𝓤 : URA M) (H : Heap 𝓤) (A : Atoms 𝓤) (W : Given
       drop ! $ frame ! $ split ! $ nothing ! $ owned ! u32 (Is u32) (uint-makes 𝓤 H A W w32) w _ (refl, ok) $ fjoin ! $ move ! (1 ∷ 0 ∷ []) $ fjoin ! $ frame ! $
       -- [what the struct owns]: the next place takes the place of the old one, and the field stands beside it
       owned ! P.the-row (Is P.the-row) (LL.makes P.the-type P′.the-plain 𝓤 H A) (r .place) _ (LL.owed S.the-type S′.the-laws r (u ∷ []) is .1 .0) $ move ! (1 ∷ 0 ∷ []) $
-      use2 W (‵ (B (κ, tt) .own (moved d r .reader) (T′.lowered (moved d r .reader) ∷ []))) (own-put 𝓤 H A W D L 1 vd (r .place) mach) $
+      use2 W (‵ (B (κ, tt) .own (moved d r .reader) (T′.lowered (moved d r .reader) ∷ []))) (own-put 𝓤 H A W D L 2 vd (r .place) mach) $
       nothing ! $ owned ! F.the-row (Is F.the-row) (EL.makes F.the-type F′.the-plain 𝓤 H A) (r .field) _ (LL.owed S.the-type S′.the-laws r (u ∷ []) is .0) $ fjoin ! $ move ! (1 ∷ 0 ∷ []) $ fjoin ! $
       by ! (own-shut 𝓤 H A W (R.the-type α) (R′.the-laws α) (moved d r .reader, (r .field, tt)))
 

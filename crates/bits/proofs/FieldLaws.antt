@@ -1,23 +1,24 @@
--- The laws of bit fields, high first, over every place and width; what the readings are, case by case; and what an answer tells.
+-- The laws of bit fields, over the order, every place and width; what the readings are, case by case; and what an answer tells.
 -- Each number that code computes is a variable, tied by an equation: omega proves the equation, and what a callee ensures fits as it stands.
 use Prim.Native.Nat.{ℕ, zero, suc, _+_, _-_, _*_, _/_, _%_, _^_, _≤_, _<_}
 use mathlib.Core.Path.{_≡_, refl, sym, ap, ap₂, _∙_, subst}
 use mathlib.Core.List.{List, []}
 use mathlib.Core.Bool.{Bool, true, false}
-use native.Mathlib.Nat.{add-zero, add-suc, add-assoc, mul-assoc, mul-one, one-mul, pow-suc, mod-eq-of-lt, mod-eq-sub-mod}
+use native.Mathlib.Nat.{add-zero, add-suc, add-assoc, mul-assoc, mul-one, one-mul, pow-suc, mod-eq-of-lt, mod-eq-sub-mod, div-one, zero-div}
 use native.Mathlib.Omega.{arith}
-use lib.ListN.{length, getD}
+use lib.ListN.{length, getD, List·getD-eq-default}
 use lib.Arith.{digits-div, digits-mod}
 use lib.Pow.{pow-lt, pow-mono}
 use lib.Dec.{leb, ltb, eqb}
 use borrow.Author.Tests.{le-leb, lt-leb, leb-true, ltb-true, ltb-false, ne-eqb}
-use Rattle.format.specs.Bits.{high, ub}
+use Rattle.format.specs.Bits.{Order, high, low, bitAt, ub}
+use Rattle.format.specs.WritingItems.{below}
 use Rattle.format.specs.Items.{Num, num, bad, mapNum, readUB, signExtend, skipped, readAlign}
 use Rattle.format.specs.Reading.{shows, stop}
-use Rattle.format.proofs.BitLaws.{ub-lt, ub-snoc}
+use Rattle.format.proofs.BitLaws.{ub-lt, ub-split, ub-within}
 use Rattle.format.proofs.ByteLaws.{ub-byte}
 use Rattle.format.proofs.Absurd.{clash}
-use Rattle.bits.specs.Places.{alignedAt, numOf}
+use Rattle.bits.specs.Places.{alignedAt, numOf, turnedOf, orderedBy}
 use Rattle.bits.specs.declared.BitPlace.{BitPlace}
 use Rattle.bits.specs.declared.BytePlace.{BytePlace}
 use Rattle.bits.specs.declared.Aligned.{Aligned}
@@ -25,52 +26,109 @@ use Rattle.bits.specs.declared.Aligned.the-variants.{Clean, Unclean}
 use Rattle.bits.specs.declared.Got.{Got}
 use Rattle.bits.specs.declared.Got.the-variants.{Value, Fault}
 
--- ---- fields in fields
-
-pub ub-none : (b : List ℕ) (p : ℕ) → ub high b p 0 ≡ 0
+-- no bits
+pub skips-none : (o : Order) (b : List ℕ) (p : ℕ) → ub o b p 0 ≡ 0
 unfolding ub
-ub-none b p = refl
+skips-none o b p = refl
 
--- a field is its first m bits and then its last n
-pub ub-split : (b : List ℕ) (p m n : ℕ) → ub high b p (m + n) ≡ ub high b p m * 2 ^ n + ub high b (p + m) n
-ub-split b p m zero = rw (add-zero, mul-one, ub-none b (p + m), add-zero)
-ub-split b p m (suc n) =
-    rw (add-suc, ub-snoc b p (m + n), ub-snoc b (p + m) n, ub-split b p m n, pow-suc 2 n, ← mul-assoc (ub high b p m) (2 ^ n) 2, add-assoc p m n) (omega arith)
+-- ---- fields in fields: a field that code gathered as x, m bits at q, and one that it cut out of x
+ub-cut : (o : Order) (b : List ℕ) (q m k n l : ℕ) {p x r : ℕ} → x ≡ ub o b q m → q + k ≡ p → k + n + l ≡ m → r ≡ x / 2 ^ below o k l % 2 ^ n → ub o b p n ≡ r
+ub-cut o b q m k n l e f g h = sym (h ∙ rw (e, ← g, ← f) (ub-within o b q k n l))
 
--- a field with k bits before it and l bits after it in a longer one
-pub ub-within : (b : List ℕ) (p k n l : ℕ) → ub high b p (k + n + l) / 2 ^ l % 2 ^ n ≡ ub high b (p + k) n
-ub-within b p k n l =
-    rw (ub-split b p (k + n) l, digits-div (ub high b p (k + n)) (ub-lt high b (p + (k + n)) l), ub-split b p k n)
-    (digits-mod (ub high b p k) (ub-lt high b (p + k) n))
+pub below-lt : (o : Order) (k l m : ℕ) {s : ℕ} → s ≡ below o k l → k < m → l < m → s < m
+below-lt high k l m e h g = rw e g
+below-lt low k l m e h g = rw e h
 
--- the same for code that gathered m bits at q as x, and cut r out of x
-pub ub-cut : (b : List ℕ) (q m k n l : ℕ) {p x r : ℕ} → x ≡ ub high b q m → q + k ≡ p → k + n + l ≡ m → r ≡ x / 2 ^ l % 2 ^ n → ub high b p n ≡ r
-ub-cut b q m k n l e f g h = sym (h ∙ rw (e, ← g, ← f) (ub-within b q k n l))
+-- ---- bytes gathered into a field: the first, and one more that counts less. High first it stands behind them, low first before them
 
--- ---- bytes gathered into a field: the first, and one more
+abbrev pub IsByte : List ℕ → ℕ → ℕ → Type 0
+IsByte b i x = (x ≡ getD b i 0) × (x < 256)
 
-pub ub-first : (b : List ℕ) (i : ℕ) {x : ℕ} → (x ≡ getD b i 0) × (x < 256) → x ≡ ub high b (8 * i) 8
-ub-first b i h = h .0 ∙ sym (ub-byte high b i ∙ mod-eq-of-lt (rw (h .0) at (h .1)))
+pub ub-first : (o : Order) (b : List ℕ) (i : ℕ) {x : ℕ} → (x ≡ getD b i 0) × (x < 256) → x ≡ ub o b (8 * i) 8
+ub-first o b i h = h .0 ∙ sym (ub-byte o b i ∙ mod-eq-of-lt (rw (h .0) at (h .1)))
 
-pub ub-more : (b : List ℕ) (q m i : ℕ) {x y : ℕ} → x ≡ ub high b q m → q + m ≡ 8 * i → (y ≡ getD b i 0) × (y < 256) → x * 256 + y ≡ ub high b q (m + 8)
-ub-more b q m i e f h = rw (ub-split b q m 8, f, ← e, ← ub-first b i h)
+byte-more : (b : List ℕ) (q m i : ℕ) {x y : ℕ} → x ≡ ub high b q m → q + m ≡ 8 * i → y ≡ ub high b (8 * i) 8 → x * 256 + y ≡ ub high b q (m + 8)
+byte-more b q m i e f h = rw (ub-split high b q m 8, f, ← e, ← h)
 
--- the same from the start on: i bytes so far are x
-pub bytes-more : (b : List ℕ) (i : ℕ) {x y : ℕ} → x ≡ ub high b 0 (8 * i) → (y ≡ getD b i 0) × (y < 256) → x * 256 + y ≡ ub high b 0 (8 * (i + 1))
-bytes-more b i e h =
-    let q : 8 * i + 8 ≡ 8 * (i + 1) = omega arith in
-    ub-more b 0 (8 * i) i e (omega arith) h ∙ ap (ub high b 0) q
+ub-less : (b : List ℕ) (q m i : ℕ) {x y : ℕ} → x ≡ ub low b q m → q ≡ 8 * i + 8 → (y ≡ getD b i 0) × (y < 256) → x * 256 + y ≡ ub low b (8 * i) (8 + m)
+ub-less b q m i e f h = rw (ub-split low b (8 * i) 8 m, ← f, ← e, ← ub-first low b i h)
+
+-- low first, the bytes from j on are x so far, down from the last one
+pub bytes-more : (b : List ℕ) (i j n : ℕ) {x y : ℕ} → i + 1 ≡ j → j ≤ n → x ≡ ub low b (8 * j) (8 * (n - j)) → (y ≡ getD b i 0) × (y < 256) → x * 256 + y ≡ ub low b (8 * i) (8 * (n - i))
+bytes-more b i j n s l e h =
+    let q : 8 + 8 * (n - j) ≡ 8 * (n - i) = omega arith in
+    ub-less b (8 * j) (8 * (n - j)) i e (omega arith) h ∙ ap (ub low b (8 * i)) q
 
 -- seven of them leave room for one more in 64 bits
-pub bytes-bound : (b : List ℕ) (i : ℕ) {x : ℕ} → i < 7 → x ≡ ub high b 0 (8 * i) → x < 2 ^ 56
-bytes-bound b i h e = let l : 8 * i ≤ 56 = omega arith in omega (arith, e, ub-lt high b 0 (8 * i), pow-mono l)
+pub bytes-bound : (b : List ℕ) (q n : ℕ) {x : ℕ} → n ≤ 56 → x ≡ ub low b q n → x < 2 ^ 56
+bytes-bound b q n l e = omega (arith, e, ub-lt low b q n, pow-mono l)
 
-pub bytes-all : (b : List ℕ) (i : ℕ) {x : ℕ} → i ≡ length b → x ≡ ub high b 0 (8 * i) → x ≡ ub high b 0 (8 * length b)
-bytes-all b i h e = e ∙ ap (λ (j : ℕ). ub high b 0 (8 * j)) h
+pub bytes-none : (b : List ℕ) (n : ℕ) → 0 ≡ ub low b (8 * n) (8 * (n - n))
+bytes-none b n = let z : 8 * (n - n) ≡ 0 = omega arith in sym (ap (ub low b (8 * n)) z ∙ skips-none low b (8 * n))
+
+-- past the end of the bytes stand zeros
+ub-zero : (o : Order) (b : List ℕ) (p n : ℕ) → 8 * length b ≤ p → ub o b p n ≡ 0
+unfolding ub bitAt
+ub-zero o b p zero h = refl
+ub-zero high b p (suc n) h =
+    let z : getD b (p / 8) 0 ≡ 0 = List·getD-eq-default b 0 (omega arith) in
+    rw (z, ub-zero high b (suc p) n (omega arith), zero-div) (omega arith)
+ub-zero low b p (suc n) h =
+    let z : getD b (p / 8) 0 ≡ 0 = List·getD-eq-default b 0 (omega arith) in
+    rw (z, ub-zero low b (suc p) n (omega arith), zero-div) (omega arith)
+
+pub bytes-all : (b : List ℕ) (i n : ℕ) {x : ℕ} → i ≡ 0 → n ≡ length b → n < 8 → x ≡ ub low b (8 * i) (8 * (n - i)) → x ≡ ub low b 0 64
+bytes-all b i n z l h e =
+    let p : 8 * i ≡ 0 = omega arith in
+    let q : 8 * (n - i) ≡ 8 * n = omega arith in
+    let s : 8 * n + (64 - 8 * n) ≡ 64 = omega arith in
+    let u : ub low b (0 + 8 * n) (64 - 8 * n) ≡ 0 = ub-zero low b (0 + 8 * n) (64 - 8 * n) (omega arith) in
+    e ∙ ap₂ (λ (k m : ℕ). ub low b k m) p q ∙ sym (ap (ub low b 0) (sym s) ∙ ub-split low b 0 (8 * n) (64 - 8 * n) ∙ rw u (omega arith))
+
+-- eight bytes low first, from the last one down
+pub eight-low : (b : List ℕ) (i : ℕ) {b0 b1 b2 b3 b4 b5 b6 b7 : ℕ} → IsByte b i b0 → IsByte b (i + 1) b1 → IsByte b (i + 2) b2 → IsByte b (i + 3) b3 → IsByte b (i + 4) b4 → IsByte b (i + 5) b5 → IsByte b (i + 6) b6 → IsByte b (i + 7) b7
+    → ((((((b7 * 256 + b6) * 256 + b5) * 256 + b4) * 256 + b3) * 256 + b2) * 256 + b1) * 256 + b0 ≡ ub low b (8 * i) 64
+eight-low b i h0 h1 h2 h3 h4 h5 h6 h7 =
+    let e0 = ub-first low b (i + 7) h7 in
+    let e1 = ub-less b (8 * (i + 7)) 8 (i + 6) e0 (omega arith) h6 in
+    let e2 = ub-less b (8 * (i + 6)) 16 (i + 5) e1 (omega arith) h5 in
+    let e3 = ub-less b (8 * (i + 5)) 24 (i + 4) e2 (omega arith) h4 in
+    let e4 = ub-less b (8 * (i + 4)) 32 (i + 3) e3 (omega arith) h3 in
+    let e5 = ub-less b (8 * (i + 3)) 40 (i + 2) e4 (omega arith) h2 in
+    let e6 = ub-less b (8 * (i + 2)) 48 (i + 1) e5 (omega arith) h1 in
+    ub-less b (8 * (i + 1)) 56 i e6 (omega arith) h0
+
+-- each of them is cut out of their number; turned, the first counts most
+byte-of : (b : List ℕ) (i k l : ℕ) {x : ℕ} → x ≡ ub low b (8 * i) 64 → 8 * k + 8 + l ≡ 64 → x / 2 ^ (8 * k) % 2 ^ 8 ≡ ub high b (8 * (i + k)) 8
+byte-of b i k l e s =
+    let p : 8 * i + 8 * k ≡ 8 * (i + k) = omega arith in
+    rw (e, ← s, ub-within low b (8 * i) (8 * k) 8 l, p, ub-byte low b (i + k), ub-byte high b (i + k))
+
+turned-high : (b : List ℕ) (i : ℕ) {x : ℕ} → x ≡ ub low b (8 * i) 64 → turnedOf x ≡ ub high b (8 * i) 64
+turned-high b i {x} e =
+    let z : i + 0 ≡ i = omega arith in
+    let one : x / 2 ^ (8 * 0) ≡ x = div-one x in
+    let e0 : x % 256 ≡ ub high b (8 * i) 8 = rw (one, z) at (byte-of b i 0 56 e refl) in
+    let e1 = byte-more b (8 * i) 8 (i + 1) e0 (omega arith) (byte-of b i 1 48 e refl) in
+    let e2 = byte-more b (8 * i) 16 (i + 2) e1 (omega arith) (byte-of b i 2 40 e refl) in
+    let e3 = byte-more b (8 * i) 24 (i + 3) e2 (omega arith) (byte-of b i 3 32 e refl) in
+    let e4 = byte-more b (8 * i) 32 (i + 4) e3 (omega arith) (byte-of b i 4 24 e refl) in
+    let e5 = byte-more b (8 * i) 40 (i + 5) e4 (omega arith) (byte-of b i 5 16 e refl) in
+    let e6 = byte-more b (8 * i) 48 (i + 6) e5 (omega arith) (byte-of b i 6 8 e refl) in
+    byte-more b (8 * i) 56 (i + 7) e6 (omega arith) (byte-of b i 7 0 e refl)
+
+-- so eight bytes in their order are a field of that order
+ordered-is : (o : Order) (b : List ℕ) (i : ℕ) {x : ℕ} → x ≡ ub low b (8 * i) 64 → orderedBy o x ≡ ub o b (8 * i) 64
+ordered-is high b i e = turned-high b i e
+ordered-is low b i e = e
+
+-- and a field is cut out of them
+pub field-cut : (o : Order) (b : List ℕ) (i k n : ℕ) {p x r : ℕ} → x ≡ ub low b (8 * i) 64 → 8 * i + k ≡ p → k + n ≤ 64 → r ≡ orderedBy o x / 2 ^ below o k (64 - k - n) % 2 ^ n → r ≡ ub o b p n
+field-cut o b i k n e f g h = sym (ub-cut o b (8 * i) 64 k n (64 - k - n) (ordered-is o b i e) f (omega arith) h)
 
 -- the n bits from a place to the end of its byte x
-pub ub-rest : (b : List ℕ) (p n : ℕ) {x r : ℕ} → (x ≡ getD b (p / 8) 0) × (x < 256) → p % 8 + n ≡ 8 → r ≡ x / 2 ^ 0 % 2 ^ n → ub high b p n ≡ r
-ub-rest b p n h e f = ub-cut b (8 * (p / 8)) 8 (p % 8) n 0 (ub-first b (p / 8) h) (omega arith) (omega arith) f
+pub ub-rest : (o : Order) (b : List ℕ) (p n : ℕ) {x s r : ℕ} → (x ≡ getD b (p / 8) 0) × (x < 256) → p % 8 + n ≡ 8 → s ≡ below o (p % 8) 0 → r ≡ x / 2 ^ s % 2 ^ n → ub o b p n ≡ r
+ub-rest o b p n {x} h e s f = ub-cut o b (8 * (p / 8)) 8 (p % 8) n 0 (ub-first o b (p / 8) h) (omega arith) (omega arith) (f ∙ ap (λ (m : ℕ). x / 2 ^ m % 2 ^ n) s)
 
 -- `1 << n` in 64 bits
 pub one-shl : (n : ℕ) → n < 64 → 1 * 2 ^ n % 2 ^ 64 ≡ 2 ^ n
@@ -78,11 +136,11 @@ one-shl n h = rw one-mul (mod-eq-of-lt (pow-lt h))
 
 -- ---- UB, and what is made of one: SB and a width are `mapNum f` of a UB
 
-pub ub-in : (b : List ℕ) (p n : ℕ) {v : ℕ} → p + n ≤ 8 * length b → ub high b p n ≡ v → num v (p + n) ≡ readUB high b p n
-ub-in b p n h e = rw (le-leb _ _ h, e)
+pub ub-in : (o : Order) (b : List ℕ) (p n : ℕ) {v : ℕ} → p + n ≤ 8 * length b → ub o b p n ≡ v → num v (p + n) ≡ readUB o b p n
+ub-in o b p n h e = rw (le-leb _ _ h, e)
 
-pub ub-past : (b : List ℕ) (p n : ℕ) → 8 * length b < p + n → bad 13 ≡ readUB high b p n
-ub-past b p n h = rw (lt-leb _ _ h)
+pub ub-past : (o : Order) (b : List ℕ) (p n : ℕ) → 8 * length b < p + n → bad 13 ≡ readUB o b p n
+ub-past o b p n h = rw (lt-leb _ _ h)
 
 pub map-num : (f : ℕ → ℕ) {w : Num} {v r q : ℕ} → num v q ≡ w → r ≡ f v → num r q ≡ mapNum f w
 map-num f {q = q} e g = ap (λ (x : ℕ). num x q) g ∙ ap (mapNum f) e
@@ -91,26 +149,26 @@ pub map-bad : (f : ℕ → ℕ) {w : Num} {e : ℕ} → bad e ≡ w → bad e �
 map-bad f h = ap (mapNum f) h
 
 -- what an accepted field tells
-pub record IsField (f : ℕ → ℕ) (b : List ℕ) (p n v q : ℕ) : Type 0 where
-  pub value : v ≡ f (ub high b p n)
-  pub below : ub high b p n < 2 ^ n
+pub record IsField (o : Order) (f : ℕ → ℕ) (b : List ℕ) (p n v q : ℕ) : Type 0 where
+  pub value : v ≡ f (ub o b p n)
+  pub below : ub o b p n < 2 ^ n
   pub next : q ≡ p + n
   pub inside : q ≤ 8 * length b
 
-pub map-got : (f : ℕ → ℕ) (b : List ℕ) (p n : ℕ) {v q : ℕ} → num v q ≡ mapNum f (readUB high b p n) → IsField f b p n v q
-map-got f b p n {v} {q} e = go (leb (p + n) (8 * length b)) refl
+pub map-got : (o : Order) (f : ℕ → ℕ) (b : List ℕ) (p n : ℕ) {v q : ℕ} → num v q ≡ mapNum f (readUB o b p n) → IsField o f b p n v q
+map-got o f b p n {v} {q} e = go (leb (p + n) (8 * length b)) refl
   where
-    go : (t : Bool) → leb (p + n) (8 * length b) ≡ t → IsField f b p n v q
+    go : (t : Bool) → leb (p + n) (8 * length b) ≡ t → IsField o f b p n v q
     go true t =
-        let h : num v q ≡ num (f (ub high b p n)) (p + n) = rw t at e in
+        let h : num v q ≡ num (f (ub o b p n)) (p + n) = rw t at e in
         let k : q ≡ p + n = cc in
-        record { value = cc; below = ub-lt high b p n; next = k; inside = rw k (leb-true _ _ t) }
+        record { value = cc; below = ub-lt o b p n; next = k; inside = rw k (leb-true _ _ t) }
     go false t =
         let h : num v q ≡ bad 13 = rw t at e in
         clash cc
 
-pub ub-got : (b : List ℕ) (p n : ℕ) {v q : ℕ} → num v q ≡ readUB high b p n → IsField (λ x. x) b p n v q
-ub-got b p n e = map-got (λ x. x) b p n (ap (mapNum (λ x. x)) e)
+pub ub-got : (o : Order) (b : List ℕ) (p n : ℕ) {v q : ℕ} → num v q ≡ readUB o b p n → IsField o (λ x. x) b p n v q
+ub-got o b p n e = map-got o (λ x. x) b p n (ap (mapNum (λ x. x)) e)
 
 -- ---- signs: the code's size z is 2 ^ n, and its difference wraps
 
@@ -140,35 +198,35 @@ extended n v {z} {r} e o h l m w = go (ltb (v * 2) (2 ^ n)) refl
 
 -- ---- the next whole byte, where n bits are skipped
 
-pub aligned-clean : (b : List ℕ) (p n : ℕ) {i q : ℕ} → skipped p ≡ n → ub high b p n ≡ 0 → p + n ≡ q → q ≡ 8 * i
-    → Clean (record { 0 = i }) (record { 0 = q }) ≡ alignedAt b p
+pub aligned-clean : (o : Order) (b : List ℕ) (p n : ℕ) {i q : ℕ} → skipped p ≡ n → ub o b p n ≡ 0 → p + n ≡ q → q ≡ 8 * i
+    → Clean (record { 0 = i }) (record { 0 = q }) ≡ alignedAt o b p
 unfolding alignedAt
-aligned-clean b p n {i} {q} s e f g =
+aligned-clean o b p n {i} {q} s e f g =
     let d : q / 8 ≡ i = omega arith in
     rw (s, e, f, d)
 
-pub aligned-unclean : (b : List ℕ) (p n : ℕ) → skipped p ≡ n → (ub high b p n ≡ 0 → ⊥) → Unclean ≡ alignedAt b p
+pub aligned-unclean : (o : Order) (b : List ℕ) (p n : ℕ) → skipped p ≡ n → (ub o b p n ≡ 0 → ⊥) → Unclean ≡ alignedAt o b p
 unfolding alignedAt
-aligned-unclean b p n s e = rw (s, ne-eqb (ub high b p n) 0 e)
+aligned-unclean o b p n s e = rw (s, ne-eqb (ub o b p n) 0 e)
 
 -- and as the definitions read it. A place in the bytes stays in them: omega has that from the last three.
-abbrev pub AlignsTo : List ℕ → ℕ → Aligned → Type 0
-AlignsTo b p (Clean i q) = (readAlign high b p ≡ shows [] (q .0)) × (q .0 ≡ 8 * i .0) × (p ≤ q .0) × (q .0 < p + 8)
-AlignsTo b p Unclean = readAlign high b p ≡ stop 15
+abbrev pub AlignsTo : Order → List ℕ → ℕ → Aligned → Type 0
+AlignsTo o b p (Clean i q) = (readAlign o b p ≡ shows [] (q .0)) × (q .0 ≡ 8 * i .0) × (p ≤ q .0) × (q .0 < p + 8)
+AlignsTo o b p Unclean = readAlign o b p ≡ stop 15
 
-pub align-run : (b : List ℕ) (p : ℕ) → AlignsTo b p (alignedAt b p)
+pub align-run : (o : Order) (b : List ℕ) (p : ℕ) → AlignsTo o b p (alignedAt o b p)
 unfolding alignedAt
-align-run b p = go (eqb (ub high b p (skipped p)) 0) refl
+align-run o b p = go (eqb (ub o b p (skipped p)) 0) refl
   where
-    go : (t : Bool) → eqb (ub high b p (skipped p)) 0 ≡ t → AlignsTo b p (alignedAt b p)
+    go : (t : Bool) → eqb (ub o b p (skipped p)) 0 ≡ t → AlignsTo o b p (alignedAt o b p)
     go true t = rw t (rw t, omega arith, omega arith, omega arith)
     go false t = rw t (rw t)
 
-pub align-clean : (b : List ℕ) (p : ℕ) {i : BytePlace} {q : BitPlace} → alignedAt b p ≡ Clean i q → AlignsTo b p (Clean i q)
-align-clean b p e = subst (AlignsTo b p) e (align-run b p)
+pub align-clean : (o : Order) (b : List ℕ) (p : ℕ) {i : BytePlace} {q : BitPlace} → alignedAt o b p ≡ Clean i q → AlignsTo o b p (Clean i q)
+align-clean o b p e = subst (AlignsTo o b p) e (align-run o b p)
 
-pub align-unclean : (b : List ℕ) (p : ℕ) → alignedAt b p ≡ Unclean → AlignsTo b p Unclean
-align-unclean b p e = subst (AlignsTo b p) e (align-run b p)
+pub align-unclean : (o : Order) (b : List ℕ) (p : ℕ) → alignedAt o b p ≡ Unclean → AlignsTo o b p Unclean
+align-unclean o b p e = subst (AlignsTo o b p) e (align-run o b p)
 
 -- ---- no second answer fits
 pub num-one : (a b : Got) → numOf a ≡ numOf b → a ≡ b

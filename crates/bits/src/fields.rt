@@ -1,12 +1,14 @@
 // UB and SB fields, read by the bytes that they touch.
 ghost use mathlib.Core.Path.{_≡_};
-ghost use Prim.Native.Nat.{_+_, _*_, _/_, _%_, _^_, _<_, _≤_, min};
+ghost use Prim.Native.Nat.{_+_, _-_, _*_, _/_, _%_, _^_, _<_, _≤_, min};
 ghost use lib.ListN.{length};
-ghost use Rattle.format.specs.Bits.{high, ub as fieldAt};
+ghost use Rattle.format.specs.Bits.{low, ub as fieldAt};
 ghost use Rattle.format.specs.Items.{readUB, readSB, readWidth, signExtend};
-ghost use Rattle.bits.specs.Places.{PlaceIn, numOf};
+ghost use Rattle.format.specs.WritingItems.{below as belowOf};
+ghost use Rattle.bits.specs.Places.{PlaceIn, numOf, orderOf, turnedOf, orderedBy};
 use crate::BitPlace;
 use crate::Got;
+use crate::Order;
 use crate::wide;
 
 // n bits of x, with b bits below them.
@@ -17,25 +19,34 @@ pub(crate) fn cut(x: u64, below: u64, width: u64) -> u64
     (x >> below) % (1u64 << width)
 }
 
-// The bytes of a slice of fewer than eight as one number.
+// How many bits of a number count less than a field in it that has so many bits before it, and so many behind it.
+pub(crate) fn bits_below(order: Order, before: u64, behind: u64) -> u64
+    ensures { λ r. ⌜ r ≡ belowOf (orderOf order) before behind ⌝ }
+{
+    match order {
+        Order::HighFirst => behind,
+        Order::LowFirst => before,
+    }
+}
+
+// The bytes of a slice of fewer than eight as one number, the first of them lowest; zeros stand past the end.
 fn few(bytes: &[u8]) -> u64
     requires { ⌜ length (now bytes) < 8 ⌝ }
-    ensures { λ r. ⌜ r ≡ fieldAt high (now (bytes .entry)) 0 (8 * length (now (bytes .entry))) ⌝ }
+    ensures { λ r. ⌜ r ≡ fieldAt low (now (bytes .entry)) 0 64 ⌝ }
 {
-    let count = bytes.len();
-    let mut i = 0;
+    let mut left = bytes.len();
     let mut sum = 0;
-    while i < count {
-        sum = sum * 256 + wide(bytes[i]);
-        i += 1;
+    while 0 < left {
+        left -= 1;
+        sum = sum * 256 + wide(bytes[left]);
     }
     sum
 }
 
-// Eight bytes as one number, by one load.
+// Eight bytes as one number, the first of them lowest, by one load.
 fn eight(bytes: &[u8], i: usize) -> u64
     requires { ⌜ i + 8 ≤ length (now bytes) ⌝ }
-    ensures { λ r. ⌜ r ≡ fieldAt high (now (bytes .entry)) (8 * i) 64 ⌝ }
+    ensures { λ r. ⌜ r ≡ fieldAt low (now (bytes .entry)) (8 * i) 64 ⌝ }
 {
     let b0 = wide(bytes[i]);
     let b1 = wide(bytes[i + 1]);
@@ -45,7 +56,33 @@ fn eight(bytes: &[u8], i: usize) -> u64
     let b5 = wide(bytes[i + 5]);
     let b6 = wide(bytes[i + 6]);
     let b7 = wide(bytes[i + 7]);
+    ((((((b7 * 256 + b6) * 256 + b5) * 256 + b4) * 256 + b3) * 256 + b2) * 256 + b1) * 256 + b0
+}
+
+// Eight bytes the other way round, by one instruction.
+fn turned(x: u64) -> u64
+    ensures { λ r. ⌜ r ≡ turnedOf x ⌝ }
+{
+    let b0 = x % 256;
+    let b1 = x / 256 % 256;
+    let b2 = x / 65536 % 256;
+    let b3 = x / 16777216 % 256;
+    let b4 = x / 4294967296 % 256;
+    let b5 = x / 1099511627776 % 256;
+    let b6 = x / 281474976710656 % 256;
+    let b7 = x / 72057594037927936 % 256;
     ((((((b0 * 256 + b1) * 256 + b2) * 256 + b3) * 256 + b4) * 256 + b5) * 256 + b6) * 256 + b7
+}
+
+// A field out of eight bytes that are one number, the first of them lowest; so many bits stand before it. High first the first byte counts most.
+fn cut_out(order: Order, x: u64, before: u64, width: u64) -> u64
+    requires { ⌜ (before + width ≤ 64) × (before < 64) × (1 ≤ width) × (width ≤ 32) ⌝ }
+    ensures { λ r. ⌜ (r ≡ orderedBy (orderOf order) x / 2 ^ belowOf (orderOf order) before (64 - before - width) % 2 ^ width) × (r < 2 ^ width) ⌝ }
+{
+    match order {
+        Order::HighFirst => cut(turned(x), 64 - before - width, width),
+        Order::LowFirst => cut(x, before, width),
+    }
 }
 
 // The lesser of two numbers.
@@ -56,31 +93,30 @@ fn lesser(a: usize, b: usize) -> usize
 }
 
 // A field that stands in the bytes: it is cut out of the eight bytes from its first one on, or of the last eight, or of all if there are fewer.
-pub fn field(bytes: &[u8], at: BitPlace, width: u64) -> u64
+pub fn field(order: Order, bytes: &[u8], at: BitPlace, width: u64) -> u64
     requires { ⌜ (at .0 + width ≤ 8 * length (now bytes)) × (length (now bytes) < 2 ^ 60) × (1 ≤ width) × (width ≤ 32) ⌝ }
-    ensures { λ r. ⌜ (r ≡ fieldAt high (now (bytes .entry)) (at .0) width) × (r < 2 ^ width) ⌝ }
+    ensures { λ r. ⌜ (r ≡ fieldAt (orderOf order) (now (bytes .entry)) (at .0) width) × (r < 2 ^ width) ⌝ }
 {
     let place = at.0;
     let len = bytes.len();
     if len < 8 {
-        return cut(few(bytes), (8 * len - place) as u64 - width, width);
+        return cut_out(order, few(bytes), place as u64, width);
     }
     let i = lesser(place / 8, len - 8);
-    let before = place - 8 * i;
-    cut(eight(bytes, i), 64 - before as u64 - width, width)
+    cut_out(order, eight(bytes, i), (place - 8 * i) as u64, width)
 }
 
 // UB[n].
-pub fn read_ub(bytes: &[u8], at: BitPlace, width: u64) -> Got
+pub fn read_ub(order: Order, bytes: &[u8], at: BitPlace, width: u64) -> Got
     requires { ⌜ PlaceIn (now bytes) (at .0) × (1 ≤ width) × (width ≤ 32) ⌝ }
-    ensures { λ r. ⌜ numOf r ≡ readUB high (now (bytes .entry)) (at .0) width ⌝ }
+    ensures { λ r. ⌜ numOf r ≡ readUB (orderOf order) (now (bytes .entry)) (at .0) width ⌝ }
 {
     let p = at.0;
     let next = p + width as usize;
     if bytes.len() * 8 < next {
         return Got::Fault(13);
     }
-    Got::Value(field(bytes, at, width), BitPlace(next))
+    Got::Value(field(order, bytes, at, width), BitPlace(next))
 }
 
 // A field of n bits as a signed number: a negative one is kept modulo 2^64, by a difference that wraps. No branch, since signs are hard to foretell.
@@ -94,11 +130,11 @@ pub fn extend(value: u64, width: u64) -> u64
 }
 
 // SB[n].
-pub fn read_sb(bytes: &[u8], at: BitPlace, width: u64) -> Got
+pub fn read_sb(order: Order, bytes: &[u8], at: BitPlace, width: u64) -> Got
     requires { ⌜ PlaceIn (now bytes) (at .0) × (1 ≤ width) × (width ≤ 32) ⌝ }
-    ensures { λ r. ⌜ numOf r ≡ readSB high (now (bytes .entry)) (at .0) width ⌝ }
+    ensures { λ r. ⌜ numOf r ≡ readSB (orderOf order) (now (bytes .entry)) (at .0) width ⌝ }
 {
-    let r = read_ub(bytes, at, width);
+    let r = read_ub(order, bytes, at, width);
     match r {
         Got::Value(value, next) => Got::Value(extend(value, width), next),
         Got::Fault(why) => Got::Fault(why),
@@ -106,11 +142,11 @@ pub fn read_sb(bytes: &[u8], at: BitPlace, width: u64) -> Got
 }
 
 // A width: UB[5] plus 1.
-pub fn read_width(bytes: &[u8], at: BitPlace) -> Got
+pub fn read_width(order: Order, bytes: &[u8], at: BitPlace) -> Got
     requires { ⌜ PlaceIn (now bytes) (at .0) ⌝ }
-    ensures { λ r. ⌜ numOf r ≡ readWidth high (now (bytes .entry)) (at .0) ⌝ }
+    ensures { λ r. ⌜ numOf r ≡ readWidth (orderOf order) (now (bytes .entry)) (at .0) ⌝ }
 {
-    let r = read_ub(bytes, at, 5);
+    let r = read_ub(order, bytes, at, 5);
     match r {
         Got::Value(value, next) => Got::Value(value + 1, next),
         Got::Fault(why) => Got::Fault(why),

@@ -2,10 +2,17 @@
 ghost use mathlib.Core.Path.{_≡_};
 ghost use Prim.Native.Nat.{_+_, _*_, _^_, _<_};
 ghost use lib.ListN.{getD};
+ghost use Rattle.format.specs.Bits.{orderNamed};
 ghost use Rattle.format.specs.Items.{skipped};
-ghost use Rattle.bits.specs.Places.{PlaceIn, alignedAt};
+ghost use Rattle.bits.specs.Places.{PlaceIn, alignedAt, orderOf};
 
 pub mod fields;
+
+// In which order bits are taken from a byte and joined to a field: from the highest on, or from the lowest.
+pub enum Order {
+    HighFirst,
+    LowFirst,
+}
 
 // Bit places and byte places are counted apart, and only `next_byte` turns one into the other; `first_bit` is its way back. A place is counted from
 // the start of the bytes that it is a place in. To address the byte in which a bit stands is no conversion.
@@ -29,6 +36,17 @@ pub enum Aligned {
 pub enum Got {
     Value(u64, BitPlace),
     Fault(u32),
+}
+
+// The order that a call's number names: 0 is high first, 1 low first. Any other number was refused before.
+pub fn order_named(number: u32) -> Order
+    ensures { λ r. ⌜ orderOf r ≡ orderNamed number ⌝ }
+{
+    if number == 0 {
+        Order::HighFirst
+    } else {
+        Order::LowFirst
+    }
 }
 
 // A byte as a number.
@@ -74,9 +92,9 @@ pub fn first_bit(at: BytePlace) -> BitPlace
 }
 
 // The next whole byte: the bits up to it are skipped, and zero.
-pub fn align(bytes: &[u8], at: BitPlace) -> Aligned
+pub fn align(order: Order, bytes: &[u8], at: BitPlace) -> Aligned
     requires { ⌜ PlaceIn (now bytes) (at .0) ⌝ }
-    ensures { λ r. ⌜ r ≡ alignedAt (now (bytes .entry)) (at .0) ⌝ }
+    ensures { λ r. ⌜ r ≡ alignedAt (orderOf order) (now (bytes .entry)) (at .0) ⌝ }
 {
     let place = at.0;
     let used = place % 8;
@@ -87,7 +105,8 @@ pub fn align(bytes: &[u8], at: BitPlace) -> Aligned
         let first = whole.bit;
         return Aligned::Clean(start, first);
     }
-    if fields::cut(byte_at(bytes, place / 8), 0, (8 - used) as u64) != 0 {
+    let below = fields::bits_below(order, used as u64, 0);
+    if fields::cut(byte_at(bytes, place / 8), below, (8 - used) as u64) != 0 {
         return Aligned::Unclean;
     }
     let whole = next_byte(at);

@@ -5,7 +5,7 @@ use mathlib.Core.Path.{_≡_, refl, ap, ap₂, sym, _∙_}
 use native.Mathlib.Omega.{arith}
 use lib.ListN.{length, getD, take}
 use lib.Seq.{slice, slice-cons, slice-empty}
-use Rattle.format.specs.Bits.{high}
+use Rattle.format.specs.Bits.{Order}
 use Rattle.format.specs.Reading.{At, Fault, Reading, shows}
 use Rattle.format.specs.Formats.{Item, Format, nothing, item, _▸_}
 use Rattle.format.specs.Items.{run, readItem}
@@ -25,47 +25,47 @@ use Rattle.attributes.specs.Rows.{attributeOf, allAttributes, rowsFrom, AreRows
 use Rattle.attributes.proofs.FlagLaws.{rowAt, rows-next}
 
 -- ---- a content: none, so nothing was read and nothing stored; or what stands of it was read
-module _ (b t : List ℕ) (k p : ℕ) where
-  pub content-none : (f : Format) → f ≡ nothing → state t k (At p) ≡ shownOver t k (run high b f p)
+module _ (o : Order) (b t : List ℕ) (k p : ℕ) where
+  pub content-none : (f : Format) → f ≡ nothing → state t k (At p) ≡ shownOver t k (run o b f p)
   unfolding run
   content-none f e = rw e (sym (after-none t k p))
 
-  pub content-is : {x : State} (f g : Format) → g ≡ f → x ≡ shownOver t k (run high b f p) → x ≡ shownOver t k (run high b g p)
-  content-is f g e h = h ∙ ap (λ (z : Format). shownOver t k (run high b z p)) (sym e)
+  pub content-is : {x : State} (f g : Format) → g ≡ f → x ≡ shownOver t k (run o b f p) → x ≡ shownOver t k (run o b g p)
+  content-is f g e h = h ∙ ap (λ (z : Format). shownOver t k (run o b z p)) (sym e)
 
 -- the flag number is shown, and takes no bits
-pub echo-one : (b : List ℕ) (p φ : ℕ) → run high b (item (Item.echo φ)) p ≡ shows (φ ∷ []) p
+pub echo-one : (o : Order) (b : List ℕ) (p φ : ℕ) → run o b (item (Item.echo φ)) p ≡ shows (φ ∷ []) p
 unfolding run readItem
-echo-one b p φ = refl
+echo-one o b p φ = refl
 
 -- ---- one row, and the rows after it
 abbrev pub rowOf : bodies.Attribute → ℕ → Format
 rowOf a φ = item (Item.echo φ) ▸ content a φ
 
-fair-row : (a : bodies.Attribute) (φ : ℕ) → Fair high 1 (rowOf a φ)
-fair-row a φ = fair-then high 1 0 (item (Item.echo φ)) (λ xs. content a φ) (fair-echo high φ) (λ b p q e. fair-content high (a .kind) (a .dataType) φ)
+fair-row : (o : Order) (a : bodies.Attribute) (φ : ℕ) → Fair o 1 (rowOf a φ)
+fair-row o a φ = fair-then o 1 0 (item (Item.echo φ)) (λ xs. content a φ) (fair-echo o φ) (λ b p q e. fair-content o (a .kind) (a .dataType) φ)
 
 -- m numbers may be stored for nothing; a row uses one of these
-row-fits : (b t : List ℕ) (a : bodies.Attribute) (φ m k : ℕ) {u : List ℕ} {p j q : ℕ} → Fits b p (k + suc m) → state u j (At q) ≡ shownOver t k (run high b (rowOf a φ) p) → Fits b q (j + m)
+row-fits : (o : Order) (b t : List ℕ) (a : bodies.Attribute) (φ m k : ℕ) {u : List ℕ} {p j q : ℕ} → Fits b p (k + suc m) → state u j (At q) ≡ shownOver t k (run o b (rowOf a φ) p) → Fits b q (j + m)
 unfolding shownOver
-row-fits b t a φ m k {u} {p} {j} {q} h e =
-    let z : run high b (rowOf a φ) p .ended ≡ At q = ap (λ (s : State). s .ended) (sym e) in
-    let l : (p ≤ q) × (q ≤ 8 * length b) = run-le high b (rowOf a φ) p q (h .0 .0) z in
-    let n : FairEnd 1 (8 * length b) p (length (run high b (rowOf a φ) p .shown)) (At q) = rw z at (fair-row a φ b p (h .0 .0)) in
-    let c : j ≡ k + length (run high b (rowOf a φ) p .shown) = ap (λ (s : State). s .count) e in
+row-fits o b t a φ m k {u} {p} {j} {q} h e =
+    let z : run o b (rowOf a φ) p .ended ≡ At q = ap (λ (s : State). s .ended) (sym e) in
+    let l : (p ≤ q) × (q ≤ 8 * length b) = run-le o b (rowOf a φ) p q (h .0 .0) z in
+    let n : FairEnd 1 (8 * length b) p (length (run o b (rowOf a φ) p .shown)) (At q) = rw z at (fair-row o a φ b p (h .0 .0)) in
+    let c : j ≡ k + length (run o b (rowOf a φ) p .shown) = ap (λ (s : State). s .count) e in
     ((l .1, h .0 .1), omega (arith, n, c, h .1))
 
 -- the loop: the whole from the start is what is left from here
-module _ (s t₀ flags : List ℕ) (k start end p₀ : ℕ) where
+module _ (o : Order) (s t₀ flags : List ℕ) (k start end p₀ : ℕ) where
   abbrev rowsAt : ℕ → Format
   rowsAt row = rows (rowsFrom row end) (slice (row - start) (end - start) flags)
 
   abbrev whole : State
-  whole = shownOver t₀ k (run high s (rows (rowsFrom start end) (take (end - start) flags)) p₀)
+  whole = shownOver t₀ k (run o s (rows (rowsFrom start end) (take (end - start) flags)) p₀)
 
   pub record Going (t : List ℕ) (p j row : ℕ) : Type 0 where
     pub size : length t ≡ length t₀
-    pub same : whole ≡ shownOver t j (run high s (rowsAt row) p)
+    pub same : whole ≡ shownOver t j (run o s (rowsAt row) p)
     pub fits : Fits s p (j + (end - row))
     pub from : start ≤ row
     pub below : row ≤ end
@@ -76,27 +76,27 @@ module _ (s t₀ flags : List ℕ) (k start end p₀ : ℕ) where
     abbrev attributeHere : bodies.Attribute
     attributeHere = attributeOf (rowAt row)
 
-    rows-here : run high s (rowsAt row) p ≡ run high s (rowOf attributeHere φ ▸ rowsAt (row + 1)) p
+    rows-here : run o s (rowsAt row) p ≡ run o s (rowOf attributeHere φ ▸ rowsAt (row + 1)) p
     unfolding rows
     rows-here =
         let n : suc (row - start) ≡ row + 1 - start = omega (arith, g .from) in
         let f : slice (row - start) (end - start) flags ≡ φ ∷ slice (row + 1 - start) (end - start) flags =
         slice-cons (row - start) (end - start) flags 0 (omega (arith, g .from)) lent ∙ rw (flag, n) in
-        ap₂ (λ (l : List bodies.Attribute) (φs : List ℕ). run high s (rows l φs) p) (rows-next some inside) f
-        ∙ sym (alike-assoc (item (Item.echo φ)) (content attributeHere φ) (rowsAt (row + 1)) high s p)
+        ap₂ (λ (l : List bodies.Attribute) (φs : List ℕ). run o s (rows l φs) p) (rows-next some inside) f
+        ∙ sym (alike-assoc (item (Item.echo φ)) (content attributeHere φ) (rowsAt (row + 1)) o s p)
 
-    module _ {u : List ℕ} {R : Run} (ran : runLeaves u R ≡ shownOver t j (run high s (rowOf attributeHere φ) p)) where
+    module _ {u : List ℕ} {R : Run} (ran : runLeaves u R ≡ shownOver t j (run o s (rowOf attributeHere φ) p)) where
       pub rows-next-row : {q : BitPlace} {i : ℕ} → length u ≡ length t → R ≡ Done q i → Going u (q .0) i (row + 1)
       rows-next-row z e = record {
         size = z ∙ g .size;
-        same = g .same ∙ ap (shownOver t j) rows-here ∙ sym (run-done s t j (rowOf attributeHere φ) p ran (λ xs. rowsAt (row + 1)) e refl);
-        fits = row-fits s t attributeHere φ (end - (row + 1)) j (g .fits .0, omega (arith, g .fits .1)) (ap (runLeaves u) (sym e) ∙ ran);
+        same = g .same ∙ ap (shownOver t j) rows-here ∙ sym (run-done o s t j (rowOf attributeHere φ) p ran (λ xs. rowsAt (row + 1)) e refl);
+        fits = row-fits o s t attributeHere φ (end - (row + 1)) j (g .fits .0, omega (arith, g .fits .1)) (ap (runLeaves u) (sym e) ∙ ran);
         from = omega (arith, g .from);
         below = omega arith;
       }
 
       pub rows-stop : {e i : ℕ} → R ≡ Stop e i → runLeaves u R ≡ whole
-      rows-stop e = run-stop s t j (rowOf attributeHere φ) p ran (λ xs. rowsAt (row + 1)) e ∙ sym (g .same ∙ ap (shownOver t j) rows-here)
+      rows-stop e = run-stop o s t j (rowOf attributeHere φ) p ran (λ xs. rowsAt (row + 1)) e ∙ sym (g .same ∙ ap (shownOver t j) rows-here)
 
   pub rows-done : {t : List ℕ} {p j row : ℕ} → end ≤ row → Going t p j row → state t j (At p) ≡ whole
   unfolding run rows
@@ -112,17 +112,17 @@ module _ (s t₀ flags : List ℕ) (k start end p₀ : ℕ) where
       record { size = refl; same = rw n; fits = (h .0, omega (arith, h .1, r .few)); from = omega arith; below = r .up }
 
 -- ---- a block: its flags, and then its rows
-module _ (b t : List ℕ) (k p : ℕ) (attrs : List bodies.Attribute) where
-  pub block-rows : {φs : List ℕ} {q : ℕ} {x : State} → run high b (allFlags attrs) p ≡ shows φs q → x ≡ shownOver t k (run high b (rows attrs φs) q) → x ≡ shownOver t k (readBlock high b attrs p)
+module _ (o : Order) (b t : List ℕ) (k p : ℕ) (attrs : List bodies.Attribute) where
+  pub block-rows : {φs : List ℕ} {q : ℕ} {x : State} → run o b (allFlags attrs) p ≡ shows φs q → x ≡ shownOver t k (run o b (rows attrs φs) q) → x ≡ shownOver t k (readBlock o b attrs p)
   unfolding readBlock
   block-rows e h = rw e h
 
-  pub block-stop : {e : ℕ} → run high b (allFlags attrs) p .ended ≡ Fault e → state t k (Fault e) ≡ shownOver t k (readBlock high b attrs p)
+  pub block-stop : {e : ℕ} → run o b (allFlags attrs) p .ended ≡ Fault e → state t k (Fault e) ≡ shownOver t k (readBlock o b attrs p)
   unfolding readBlock
   block-stop {e} h = rw h (sym (after-stop t k e))
 
 -- flags take no room in the table
-pub flags-fit : (b : List ℕ) (attrs : List bodies.Attribute) {φs : List ℕ} {p q k : ℕ} → run high b (allFlags attrs) p ≡ shows φs q → Fits b p k → Fits b q k
-flags-fit b attrs {φs} {p} {q} e h =
-    let l : (p ≤ q) × (q ≤ 8 * length b) = run-le high b (allFlags attrs) p q (h .0 .0) (ap (λ (r : Reading). r .ended) e) in
+pub flags-fit : (o : Order) (b : List ℕ) (attrs : List bodies.Attribute) {φs : List ℕ} {p q k : ℕ} → run o b (allFlags attrs) p ≡ shows φs q → Fits b p k → Fits b q k
+flags-fit o b attrs {φs} {p} {q} e h =
+    let l : (p ≤ q) × (q ≤ 8 * length b) = run-le o b (allFlags attrs) p q (h .0 .0) (ap (λ (r : Reading). r .ended) e) in
     ((l .1, h .0 .1), omega (arith, l .0, h .1))

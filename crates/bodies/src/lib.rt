@@ -2,18 +2,19 @@
 ghost use mathlib.Core.Path.{_≡_};
 ghost use Prim.Native.Nat.{_<_, _^_};
 ghost use lib.ListN.{length};
-ghost use Rattle.format.specs.Bits.{high};
 ghost use Rattle.format.specs.Bodies.{readPart, readBody};
 ghost use Rattle.table.specs.State.{shownOver};
 ghost use Rattle.table.specs.Run.{runLeaves};
 ghost use Rattle.bodies.specs.Leaf.{isBlock, leafBody};
 ghost use Rattle.bodies.specs.Shown.{shownLeaves};
+ghost use Rattle.bits.specs.Places.{orderOf};
 
 mod blocks;
 
 use bits::Aligned;
 use bits::BitPlace;
 use bits::BytePlace;
+use bits::Order;
 use table::Run;
 
 // After the values of a tag: the byte of its body where they end, and the index behind what was stored; or a reason.
@@ -36,26 +37,33 @@ pub fn is_block(code: u32) -> bool
 }
 
 // The items of a body, up to where they end.
-fn read_part(code: u32, body: &[u8], table: &mut [u64], from: usize) -> Run
+fn read_part(order: Order, code: u32, body: &[u8], table: &mut [u64], from: usize) -> Run
     requires { ⌜ (length (now body) < 2 ^ 60) × (from < 2 ^ 61) ⌝ }
-    ensures { λ r. ⌜ runLeaves (now (table .exit)) r ≡ shownOver (now (table .entry)) from (readPart high (now (body .entry)) (leafBody code) 0) ⌝ }
+    ensures { λ r. ⌜ runLeaves (now (table .exit)) r ≡ shownOver (now (table .entry)) from (readPart (orderOf order) (now (body .entry)) (leafBody code) 0) ⌝ }
 {
     if is_block(code) {
-        return blocks::read_block(attributes::rows_of(code), body, BitPlace(0), table, from);
+        return blocks::read_block(
+            order,
+            attributes::rows_of(code),
+            body,
+            BitPlace(0),
+            table,
+            from,
+        );
     }
-    fixed::read_fixed(code, body, BitPlace(0), table, from)
+    fixed::read_fixed(order, code, body, BitPlace(0), table, from)
 }
 
 // The body of a leaf tag: its items, zero bits up to a whole byte (15), and nothing more (18).
-pub fn read_body(code: u32, body: &[u8], table: &mut [u64], from: usize) -> Shown
+pub fn read_body(order: Order, code: u32, body: &[u8], table: &mut [u64], from: usize) -> Shown
     requires { ⌜ (length (now body) < 2 ^ 60) × (from < 2 ^ 61) ⌝ }
-    ensures { λ r. ⌜ shownLeaves (now (table .exit)) r ≡ shownOver (now (table .entry)) from (readBody high (leafBody code) (now (body .entry))) ⌝ }
+    ensures { λ r. ⌜ shownLeaves (now (table .exit)) r ≡ shownOver (now (table .entry)) from (readBody (orderOf order) (leafBody code) (now (body .entry))) ⌝ }
 {
-    let r = read_part(code, body, table, from);
+    let r = read_part(order, code, body, table, from);
     match r {
         Run::Stop(why, behind) => Shown::Stop(why, behind),
         Run::Done(next, behind) => {
-            let a = bits::align(body, next);
+            let a = bits::align(order, body, next);
             let Aligned::Clean(end, _) = a else {
                 return Shown::Stop(15, behind);
             };

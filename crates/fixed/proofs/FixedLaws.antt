@@ -10,7 +10,7 @@ use lib.Seq.{slice-cons, slice-empty}
 use lib.Dec.{eqb}
 use borrow.Author.Tests.{ne-eqb}
 use Rattle.format.specs.Tests.{pick}
-use Rattle.format.specs.Bits.{high}
+use Rattle.format.specs.Bits.{Order}
 use Rattle.format.specs.Reading.{Reading}
 use Rattle.format.specs.Formats.{Format, nothing, _▸_, times}
 use Rattle.format.specs.Items.{run, u32, i32, time, byte, color}
@@ -29,18 +29,18 @@ use Rattle.fixed.specs.Fixed.{inOrder, allItems, itemsFrom, fixedOf, Row
 -- ---- every number takes a bit at least
 
 -- the formats are those of the classes, which `fair-class` knows
-pub fair-fixed : (code : ℕ) → Fair high 0 (fixedOf code)
+pub fair-fixed : (o : Order) (code : ℕ) → Fair o 0 (fixedOf code)
 unfolding fixedOf classOf
-fair-fixed code =
-    or (eqb code 1) fontTables _ (fair-class high 14 1)
-    (or (eqb code 2) vectorComposition _ (fair-class high 14 2)
-    (or (eqb code 3) compositionAttributes _ (fair-class high 14 3)
-    (or (eqb code 5) layerBlock _ (fair-class high 14 5)
-    (or (eqb code 7) solidColor _ (fair-class high 14 7)
-    (or (eqb code 11) imageReference _ (fair-class high 14 11)
-    (or (eqb code 12) compositionReference nothing (fair-class high 14 12) (fair-nothing high)))))))
+fair-fixed o code =
+    or (eqb code 1) fontTables _ (fair-class o 14 1)
+    (or (eqb code 2) vectorComposition _ (fair-class o 14 2)
+    (or (eqb code 3) compositionAttributes _ (fair-class o 14 3)
+    (or (eqb code 5) layerBlock _ (fair-class o 14 5)
+    (or (eqb code 7) solidColor _ (fair-class o 14 7)
+    (or (eqb code 11) imageReference _ (fair-class o 14 11)
+    (or (eqb code 12) compositionReference nothing (fair-class o 14 12) (fair-nothing o)))))))
   where
-    or : (c : Bool) (f g : Format) → Fair high 0 f → Fair high 0 g → Fair high 0 (pick c f g)
+    or : (c : Bool) (f g : Format) → Fair o 0 f → Fair o 0 g → Fair o 0 (pick c f g)
     or true f g h l = h
     or false f g h l = l
 
@@ -77,7 +77,7 @@ items-12 = alike-after u32 (time ▸ nothing) time (alike-nothing time)
 
 -- for the arm of a code that was told
 pub rows-are : {code start end : ℕ} (told : ℕ) → code ≡ told → start ≤ end → end ≤ 18 → Alike (inOrder (itemsFrom start end)) (fixedOf told) → RowsOf code start end
-rows-are told e l m h = record { ordered = l; inside = m; items = λ b p. rw e (h high b p) }
+rows-are told e l m h = record { ordered = l; inside = m; items = λ q b p. rw e (h q b p) }
 
 -- for the codes that are not told
 pub rows-none : {code : ℕ} → (code ≡ 1 → ⊥) → (code ≡ 2 → ⊥) → (code ≡ 3 → ⊥) → (code ≡ 5 → ⊥) → (code ≡ 7 → ⊥) → (code ≡ 11 → ⊥) → (code ≡ 12 → ⊥) → RowsOf code 0 0
@@ -85,7 +85,7 @@ unfolding fixedOf inOrder
 rows-none {code} a b c d e f g = record {
   ordered = omega arith;
   inside = omega arith;
-  items = λ bytes p. rw (ne-eqb code 1 a, ne-eqb code 2 b, ne-eqb code 3 c, ne-eqb code 5 d, ne-eqb code 7 e, ne-eqb code 11 f, ne-eqb code 12 g);
+  items = λ q bytes p. rw (ne-eqb code 1 a, ne-eqb code 2 b, ne-eqb code 3 c, ne-eqb code 5 d, ne-eqb code 7 e, ne-eqb code 11 f, ne-eqb code 12 g);
 }
 
 pub fixed-fonts : (code : ℕ) → code ≡ 1 → fixedOf code ≡ fontTables

@@ -5,7 +5,7 @@ use mathlib.Core.List.{List, [], _∷_}
 use lib.Dec.{eqb}
 use lib.Seq.{slice}
 use Rattle.format.specs.Tests.{pick}
-use Rattle.format.specs.Bits.{high}
+use Rattle.format.specs.Bits.{Order}
 use Rattle.format.specs.Formats.{Format, nothing, _▸_}
 use Rattle.format.specs.Items.{run}
 use Rattle.format.specs.Bodies.{fontTables, compositionAttributes, solidColor, imageReference, compositionReference}
@@ -42,4 +42,4 @@ fixedOf code =
 pub record RowsOf (code start end : ℕ) : Type 0 where
   pub ordered : start ≤ end
   pub inside : end ≤ 18
-  pub items : (b : List ℕ) (p : ℕ) → run high b (inOrder (itemsFrom start end)) p ≡ run high b (fixedOf code) p
+  pub items : (o : Order) (b : List ℕ) (p : ℕ) → run o b (inOrder (itemsFrom start end)) p ≡ run o b (fixedOf code) p

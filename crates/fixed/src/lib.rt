@@ -2,7 +2,6 @@
 ghost use mathlib.Core.Path.{_≡_};
 ghost use Prim.Native.Nat.{_≤_, _<_};
 ghost use lib.ListN.{getD};
-ghost use Rattle.format.specs.Bits.{high};
 ghost use Rattle.format.specs.Formats.{times};
 ghost use Rattle.format.specs.Items.{run, string};
 ghost use Rattle.format.specs.Bodies.{fontTables};
@@ -10,8 +9,10 @@ ghost use Rattle.table.specs.State.{shownOver};
 ghost use Rattle.table.specs.Run.{runLeaves};
 ghost use Rattle.table.specs.Fields.{Fits};
 ghost use Rattle.fixed.specs.Fixed.{inOrder, allItems, itemsFrom, fixedOf, RowsOf};
+ghost use Rattle.bits.specs.Places.{orderOf};
 use bits::BitPlace;
 use bits::Got;
+use bits::Order;
 use items::Item;
 use table::Run;
 
@@ -50,6 +51,7 @@ pub struct Rows {
 
 // The items from row start on, up to row end.
 fn read_items(
+    order: Order,
     start: usize,
     end: usize,
     body: &[u8],
@@ -58,7 +60,7 @@ fn read_items(
     from: usize,
 ) -> Run
     requires { ⌜ (start ≤ end) × (end ≤ 18) × Fits (now body) (at .0) from ⌝ }
-    ensures { λ r. ⌜ runLeaves (now (table .exit)) r ≡ shownOver (now (table .entry)) from (run high (now (body .entry)) (inOrder (itemsFrom start end)) (at .0)) ⌝ }
+    ensures { λ r. ⌜ runLeaves (now (table .exit)) r ≡ shownOver (now (table .entry)) from (run (orderOf order) (now (body .entry)) (inOrder (itemsFrom start end)) (at .0)) ⌝ }
 {
     let rows = ITEMS;
     let mut place = at;
@@ -66,7 +68,7 @@ fn read_items(
     let mut row = start;
     while row < end {
         let kind = rows[row];
-        let r = table::read_one(kind, body, place, table, index);
+        let r = table::read_one(order, kind, body, place, table, index);
         let Run::Done(next, behind) = r else {
             return r;
         };
@@ -78,15 +80,22 @@ fn read_items(
 }
 
 // n Strings.
-fn read_strings(count: usize, body: &[u8], at: BitPlace, table: &mut [u64], from: usize) -> Run
+fn read_strings(
+    order: Order,
+    count: usize,
+    body: &[u8],
+    at: BitPlace,
+    table: &mut [u64],
+    from: usize,
+) -> Run
     requires { ⌜ Fits (now body) (at .0) from ⌝ }
-    ensures { λ r. ⌜ runLeaves (now (table .exit)) r ≡ shownOver (now (table .entry)) from (run high (now (body .entry)) (times count string) (at .0)) ⌝ }
+    ensures { λ r. ⌜ runLeaves (now (table .exit)) r ≡ shownOver (now (table .entry)) from (run (orderOf order) (now (body .entry)) (times count string) (at .0)) ⌝ }
 {
     let mut place = at;
     let mut index = from;
     let mut left = count;
     while 0 < left {
-        let r = table::text::read_string(body, place, table, index);
+        let r = table::text::read_string(order, body, place, table, index);
         let Run::Done(next, behind) = r else {
             return r;
         };
@@ -98,15 +107,15 @@ fn read_strings(count: usize, body: &[u8], at: BitPlace, table: &mut [u64], from
 }
 
 // 1: a count, then two Strings each.
-fn read_fonts(body: &[u8], at: BitPlace, table: &mut [u64], from: usize) -> Run
+fn read_fonts(order: Order, body: &[u8], at: BitPlace, table: &mut [u64], from: usize) -> Run
     requires { ⌜ Fits (now body) (at .0) from ⌝ }
-    ensures { λ r. ⌜ runLeaves (now (table .exit)) r ≡ shownOver (now (table .entry)) from (run high (now (body .entry)) fontTables (at .0)) ⌝ }
+    ensures { λ r. ⌜ runLeaves (now (table .exit)) r ≡ shownOver (now (table .entry)) from (run (orderOf order) (now (body .entry)) fontTables (at .0)) ⌝ }
 {
-    let counted = items::read_item(Item::Count(0), body, at);
+    let counted = items::read_item(order, Item::Count(0), body, at);
     match counted {
         Got::Value(count, next) => {
             table::put(table, from, count);
-            read_strings(2 * (count as usize), body, next, table, from + 1)
+            read_strings(order, 2 * (count as usize), body, next, table, from + 1)
         }
         Got::Fault(why) => Run::Stop(why, from),
     }
@@ -129,13 +138,20 @@ pub fn rows_of(code: u32) -> Rows
 }
 
 // The items of a tag that is no attribute block; of a container those before its list.
-pub fn read_fixed(code: u32, body: &[u8], at: BitPlace, table: &mut [u64], from: usize) -> Run
+pub fn read_fixed(
+    order: Order,
+    code: u32,
+    body: &[u8],
+    at: BitPlace,
+    table: &mut [u64],
+    from: usize,
+) -> Run
     requires { ⌜ Fits (now body) (at .0) from ⌝ }
-    ensures { λ r. ⌜ runLeaves (now (table .exit)) r ≡ shownOver (now (table .entry)) from (run high (now (body .entry)) (fixedOf code) (at .0)) ⌝ }
+    ensures { λ r. ⌜ runLeaves (now (table .exit)) r ≡ shownOver (now (table .entry)) from (run (orderOf order) (now (body .entry)) (fixedOf code) (at .0)) ⌝ }
 {
     if code == 1 {
-        return read_fonts(body, at, table, from);
+        return read_fonts(order, body, at, table, from);
     }
     let rows = rows_of(code);
-    read_items(rows.start, rows.end, body, at, table, from)
+    read_items(order, rows.start, rows.end, body, at, table, from)
 }

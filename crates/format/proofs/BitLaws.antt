@@ -1,17 +1,17 @@
 -- The facts of bit fields: those that differ by the order first, and then the rest, once over the order.
-use Prim.Native.Nat.{ℕ, zero, suc, _+_, _*_, _^_, _≤_, _<_}
-use mathlib.Core.List.{List, [], _∷_}
+use Prim.Native.Nat.{ℕ, zero, suc, _+_, _*_, _/_, _%_, _^_, _≤_, _<_}
+use mathlib.Core.List.{List, [], _∷_, _++_}
 use mathlib.Core.Path.{_≡_, refl, ap, sym, _∙_, subst}
 use mathlib.Core.Bool.{Bool, true, false}
 use lib.ListN.{length}
 use lib.Arith.{digits-lt, digits-div, digits-mod}
-use lib.Pow.{pow-pos}
+use lib.Pow.{pow-pos, pow-add}
 use lib.Dec.{lit<, eqb}
 use borrow.Author.Tests.{eqb-true, eqb-false}
-use native.Mathlib.Nat.{add-zero, mod-lt, div-add-mod', div-lt-iff-lt-mul, pow-suc, pow-zero, mul-comm, mul-assoc}
+use native.Mathlib.Nat.{add-zero, zero-add, add-suc, suc-add, add-assoc, add-mul, zero-mul, mul-one, mod-lt, div-add-mod', div-lt-iff-lt-mul, pow-suc, pow-zero, mul-comm, mul-assoc}
 use native.Mathlib.Omega.{arith}
 use Rattle.format.specs.Bits.{Order, high, low, bitAt, ub, join}
-use Rattle.format.specs.WritingItems.{dig, first, rest}
+use Rattle.format.specs.WritingItems.{dig, first, rest, glue, below}
 use Rattle.format.specs.WritingBodies.{bit}
 
 -- bits p to p + length bs of b are bs, and b has them
@@ -78,13 +78,77 @@ unfolding ub dig
 ub-has o b p zero v l h = omega (arith, rw (pow-zero) at l)
 ub-has o b p (suc n) v l h = rw (h .0, bit-of (first o n v) (first-lt o n v l), ub-has o b (suc p) n (rest o n v) (rest-lt o n v l) (h .1)) (join-rest o n v)
 
--- one bit more at the end, high first: the step of a loop
-pub ub-snoc : (b : List ℕ) (p n : ℕ) → ub high b p (suc n) ≡ ub high b p n * 2 + bitAt high b (p + n)
+-- ---- two fields are one; these two unfold the order, and whoever cites them need not
+
+-- one bit more at the end
+ub-snoc : (o : Order) (b : List ℕ) (p n : ℕ) → ub o b p (suc n) ≡ glue o n 1 (ub o b p n) (bitAt o b (p + n))
 unfolding ub
-ub-snoc b p zero = rw (add-zero p, pow-zero) (omega arith)
-ub-snoc b p (suc n) =
-    let i : ub high b (suc p) (suc n) ≡ ub high b (suc p) n * 2 + bitAt high b (suc p + n) = ub-snoc b (suc p) n in
+ub-snoc high b p zero = rw (add-zero p, pow-zero) (omega arith)
+ub-snoc high b p (suc n) =
+    let i : ub high b (suc p) (suc n) ≡ ub high b (suc p) n * 2 + bitAt high b (suc p + n) = ub-snoc high b (suc p) n in
     let e : bitAt high b p * 2 ^ suc n ≡ bitAt high b p * 2 ^ n * 2 = rw (pow-suc, mul-assoc) in
     let q : suc p + n ≡ p + suc n = omega arith in
     let j : ub high b (suc p) (suc n) ≡ ub high b (suc p) n * 2 + bitAt high b (p + suc n) = rw q at i in
     omega (arith, e, j)
+ub-snoc low b p zero = rw (add-zero p, pow-zero) (omega arith)
+ub-snoc low b p (suc n) =
+    let i : ub low b (suc p) (suc n) ≡ bitAt low b (suc p + n) * 2 ^ n + ub low b (suc p) n = ub-snoc low b (suc p) n in
+    let e : bitAt low b (p + suc n) * 2 ^ suc n ≡ bitAt low b (p + suc n) * 2 ^ n * 2 = rw (pow-suc, mul-assoc) in
+    let q : suc p + n ≡ p + suc n = omega arith in
+    let j : ub low b (suc p) (suc n) ≡ bitAt low b (p + suc n) * 2 ^ n + ub low b (suc p) n = rw q at i in
+    omega (arith, e, j)
+
+-- gluing one bit more to the second field
+glue-snoc : (o : Order) (m n x y z : ℕ) → glue o (m + n) 1 (glue o m n x y) z ≡ glue o m (suc n) x (glue o n 1 y z)
+glue-snoc high m n x y z = rw (pow-suc 2 n, ← mul-assoc x (2 ^ n) 2) (omega arith)
+glue-snoc low m n x y z = rw (pow-add 2 m n, mul-comm (2 ^ m) (2 ^ n), ← mul-assoc z (2 ^ n) (2 ^ m), add-mul (z * 2 ^ n) y (2 ^ m)) (omega arith)
+
+glue-zero : (o : Order) (m x : ℕ) → glue o m 0 x 0 ≡ x
+glue-zero high m x = rw pow-zero (omega arith)
+glue-zero low m x = omega arith
+
+ub-none : (o : Order) (b : List ℕ) (p : ℕ) → ub o b p 0 ≡ 0
+unfolding ub
+ub-none o b p = refl
+
+-- a field is its first m bits and then its last n
+pub ub-split : (o : Order) (b : List ℕ) (p m n : ℕ) → ub o b p (m + n) ≡ glue o m n (ub o b p m) (ub o b (p + m) n)
+ub-split o b p m zero = rw (add-zero, ub-none o b (p + m)) (sym (glue-zero o m (ub o b p m)))
+ub-split o b p m (suc n) =
+    rw (add-suc, ub-snoc o b p (m + n), ub-snoc o b (p + m) n, ub-split o b p m n, add-assoc p m n)
+    (glue-snoc o m n (ub o b p m) (ub o b (p + m) n) (bitAt o b (p + (m + n))))
+
+pub glue-lt : (o : Order) (m n x y : ℕ) → x < 2 ^ m → y < 2 ^ n → glue o m n x y < 2 ^ (m + n)
+glue-lt high m n x y h l = rw (pow-add 2 m n) (digits-lt h l)
+glue-lt low m n x y h l = rw (pow-add 2 m n, mul-comm (2 ^ m) (2 ^ n)) (digits-lt l h)
+
+-- cut out of a longer field: k bits stand before it, and l behind it
+pub ub-within : (o : Order) (b : List ℕ) (p k n l : ℕ) → ub o b p (k + n + l) / 2 ^ below o k l % 2 ^ n ≡ ub o b (p + k) n
+ub-within high b p k n l =
+    rw (ub-split high b p (k + n) l, digits-div (ub high b p (k + n)) (ub-lt high b (p + (k + n)) l), ub-split high b p k n)
+    (digits-mod (ub high b p k) (ub-lt high b (p + k) n))
+ub-within low b p k n l =
+    rw (add-assoc k n l, ub-split low b p k (n + l), digits-div (ub low b (p + k) (n + l)) (ub-lt low b p k), ub-split low b (p + k) n l)
+    (digits-mod (ub low b (p + k + n) l) (ub-lt low b (p + k) n))
+
+-- the first bit of the first field is that of both
+glue-join : (o : Order) (m n x v y : ℕ) → glue o (suc m) n (join o m x v) y ≡ join o (m + n) x (glue o m n v y)
+glue-join high m n x v y = rw (pow-add 2 m n, ← mul-assoc x (2 ^ m) (2 ^ n), add-mul (x * 2 ^ m) v (2 ^ n)) (omega arith)
+glue-join low m n x v y = rw (pow-suc 2 m, ← mul-assoc y (2 ^ m) 2) (omega arith)
+
+pub dig-append : (o : Order) (m n x y : ℕ) → x < 2 ^ m → y < 2 ^ n → dig o (m + n) (glue o m n x y) ≡ dig o m x ++ dig o n y
+unfolding dig
+dig-append high zero n x y h l =
+    let z : x ≡ 0 = omega (arith, rw pow-zero at h) in
+    rw (zero-add, z, zero-mul, zero-add)
+dig-append low zero n x y h l =
+    let z : x ≡ 0 = omega (arith, rw pow-zero at h) in
+    rw (zero-add, z, pow-zero, mul-one, add-zero)
+dig-append o (suc m) n x y h l =
+    let r : rest o m x < 2 ^ m = rest-lt o m x h in
+    let g : glue o m n (rest o m x) y < 2 ^ (m + n) = glue-lt o m n (rest o m x) y r l in
+    let f : first o m x < 2 = first-lt o m x h in
+    let e : glue o (suc m) n x y ≡ join o (m + n) (first o m x) (glue o m n (rest o m x) y) =
+    ap (λ (z : ℕ). glue o (suc m) n z y) (sym (join-rest o m x)) ∙ glue-join o m n (first o m x) (rest o m x) y in
+    rw (suc-add, e, first-join o (m + n) (first o m x) (glue o m n (rest o m x) y) f g, rest-join o (m + n) (first o m x) (glue o m n (rest o m x) y) f g)
+    (ap (λ (z : List Bool). eqb (first o m x) 1 ∷ z) (dig-append o m n (rest o m x) y r l))

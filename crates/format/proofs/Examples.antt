@@ -1,12 +1,13 @@
--- Document 01's worked files and items P1 to P11, as one table that the definitions compute.
+-- Document 01's worked files and items P1 to P11, as one table that the definitions compute; files and items in low order (C-18), and files in an
+-- order that is neither, alike.
 use Prim.Native.Nat.{ℕ}
 use mathlib.Core.List.{List, [], _∷_, map}
 use mathlib.Core.Path.{_≡_, refl}
-use Rattle.format.specs.Bits.{high, bitAt, ub}
+use Rattle.format.specs.Bits.{orderNamed, bitAt, ub}
 use Rattle.format.specs.Reading.{Ending, At, Fault}
 use Rattle.format.specs.Formats.{Item, Format, item, _▸_, times}
-use Rattle.format.specs.Items.{readItem, readVar, readFlag, run, u32, i32, path}
-use Rattle.format.specs.Bodies.{maskBlock, readBlock, allFlags, rows, Body, fixed, attributes, readPart, readBody}
+use Rattle.format.specs.Items.{readItem, readVar, readLE, readFlag, run, u32, i32, path}
+use Rattle.format.specs.Bodies.{textPathOption, maskBlock, readBlock, allFlags, rows, Body, fixed, attributes, readPart, readBody}
 use Rattle.format.specs.FileAndTags.{classOf, walk}
 use Rattle.format.specs.Reasons.{startFault, walkFile, Result, gives, refuses, readFile, readTags, accepted, Left, refusesWith, into}
 
@@ -21,10 +22,11 @@ abbrev pub alone : List ℕ → Ending → Result
 alone ns (At p) = gives ns
 alone ns (Fault e) = refuses e 0
 
-abbrev pub read : Case → Result
-read (file level f) = readFile high level f
-read (body y b) = alone (readBody high y b .shown) (readBody high y b .ended)
-read (part f b) = alone (run high b f 0 .shown) (run high b f 0 .ended)
+-- in the order of this number
+abbrev pub read : ℕ → Case → Result
+read order (file level f) = readFile order level f
+read order (body y b) = alone (readBody (orderNamed order) y b .shown) (readBody (orderNamed order) y b .ended)
+read order (part f b) = alone (run (orderNamed order) b f 0 .shown) (run (orderNamed order) b f 0 .ended)
 
 pub record Example : Type 0 where
   pub given : Case
@@ -77,9 +79,107 @@ examples =
     ∷ record { given = body (fixed i32) (0x01 ∷ []); gives = refuses 14 0 }
     ∷ []
 
-pub P1-to-P11 : map (λ (x : Example). read (x .given)) examples ≡ map (λ (x : Example). x .gives) examples
+pub P1-to-P11 : map (λ (x : Example). read 0 (x .given)) examples ≡ map (λ (x : Example). x .gives) examples
 unfolding readFile walkFile startFault classOf walk readBody readPart readBlock allFlags rows run times readItem readVar readFlag ub bitAt
 P1-to-P11 = refl
+
+-- ---- Low order. "In low order the first bit read is the low bit of the byte and the lowest of its field; skipped bits are then the high ones."
+-- So a body's bits, in the order in which they are read, are those of its bytes as one number, the first byte lowest; and a field of n bits at place p
+-- is that number / 2 ^ p % 2 ^ n. Below, bits stand in the order in which they are read, those of one field together.
+
+-- a mask with opacity 128: P4's values. Its header is 14 × 64 + 3; flags as below
+abbrev lowMask : List ℕ
+lowMask = 0x50 ∷ 0x41 ∷ 0x47 ∷ 0x01 ∷ 0x10 ∷ 0x00 ∷ 0x00 ∷ 0x00 ∷ 0x00 ∷ 0x83 ∷ 0x03 ∷ 0x08 ∷ 0x01 ∷ 0x80 ∷ 0x00 ∷ 0x00 ∷ []
+
+abbrev pub lowExamples : List Example
+lowExamples =
+    -- P7's bytes: 5A is 0 1 0 1 1 0 1 0 and 92 is 0 1 0 0 1 0 0 1. UB[6] is 0 1 0 1 1 0: 2 + 8 + 16; UB[5] crosses the bytes, 1 0 0 1 0: 1 + 8
+    record { given = part (item (Item.UB 6) ▸ item (Item.UB 5)) (0x5A ∷ 0x92 ∷ []); gives = gives (26 ∷ 9 ∷ []) }
+    -- P8's SB[1] is the low bit: of 01 it is 1, so -1; of 80 it is 0
+    ∷ record { given = part (item (Item.SB 1)) (0x01 ∷ []); gives = gives (18446744073709551615 ∷ []) }
+    ∷ record { given = part (item (Item.SB 1)) (0x80 ∷ []); gives = gives (0 ∷ []) }
+    -- two SB[4] of 87, which is 1 1 1 0 and 0 0 0 1: 7; and 8, whose last bit is its top bit, so 8 - 16
+    ∷ record { given = part (item (Item.SB 4) ▸ item (Item.SB 4)) (0x87 ∷ []); gives = gives (7 ∷ 18446744073709551608 ∷ []) }
+    -- a width: E9 is 1 0 0 1 0 and 1 1 1, which are not the width's: 1 + 8, plus 1
+    ∷ record { given = part (item Item.width) (0xE9 ∷ []); gives = gives (10 ∷ []) }
+    -- UB[5] and then a U32: 1F is 1 1 1 1 1 and 0 0 0, which are skipped. 3F has the first skipped bit set, 9F the last
+    ∷ record { given = part (item (Item.UB 5) ▸ u32) (0x1F ∷ 0x07 ∷ []); gives = gives (31 ∷ 7 ∷ []) }
+    ∷ record { given = part (item (Item.UB 5) ▸ u32) (0x3F ∷ 0x07 ∷ []); gives = refuses 15 0 }
+    ∷ record { given = part (item (Item.UB 5) ▸ u32) (0x9F ∷ 0x07 ∷ []); gives = refuses 15 0 }
+    -- P9: byte items stand on whole bytes, and the eight bits of a byte, the lowest first, are the byte
+    ∷ record { given = body (fixed u32) (0xFF ∷ 0xFF ∷ 0xFF ∷ 0xFF ∷ 0x0F ∷ []); gives = gives (4294967295 ∷ []) }
+    -- flags. P4's values: inverted 0, maskMode 0, path 0, opacity 1 0 (it is there, and not animatable), expansion 0 are 0 0 0 1 0 0: 8
+    ∷ record {
+      given = body (attributes maskBlock) (0x08 ∷ 0x01 ∷ 0x80 ∷ []);
+      gives = gives (1 ∷ 1 ∷ 0 ∷ 0 ∷ 0 ∷ 1 ∷ 128 ∷ 0 ∷ []);
+    }
+    -- the same with the top bit of the flags' byte set, which is the second of the two skipped
+    ∷ record { given = body (attributes maskBlock) (0x88 ∷ 0x01 ∷ 0x80 ∷ []); gives = refuses 15 0 }
+    -- P4's own bytes: 10 is 0 0 0 0 1 0: expansion, and of its Float one byte is there
+    ∷ record { given = body (attributes maskBlock) (0x10 ∷ 0x01 ∷ 0x80 ∷ []); gives = refuses 13 0 }
+    -- keyframed bytes. P5's values: flags 0 0 0 1 1 0 are 8 + 16; interpolation 1 0 is 1; a width of 8 and 255 and 0 are
+    -- 1 1 1 0 0, 1 1 1 1 1 1 1 1, 0 0 0 0 0 0 0 0: E7 is 1 1 1 0 0 and 1 1 1, 1F is 1 1 1 1 1 and 0 0 0
+    ∷ record {
+      given = body (attributes maskBlock) (0x18 ∷ 0x01 ∷ 0x01 ∷ 0x01 ∷ 0x00 ∷ 0x18 ∷ 0xE7 ∷ 0x1F ∷ 0x00 ∷ 0x00 ∷ []);
+      gives = gives (1 ∷ 1 ∷ 0 ∷ 0 ∷ 0 ∷ 3 ∷ 1 ∷ 1 ∷ 0 ∷ 24 ∷ 8 ∷ 255 ∷ 0 ∷ 1 ∷ 0 ∷ []);
+    }
+    -- interpolations 3, 2, 1 are 3 + 2 × 4 + 1 × 16 = 1B. Values of four bits: 3 + 15 × 2 ^ 5 + 0 + 8 × 2 ^ 13 + 1 × 2 ^ 17 = 0301E3. One frame is
+    -- Bezier: width 1 is 0 0 0 0 0, and four SB[1], 0 1 1 0: 2 ^ 6 + 2 ^ 7 = C0, and their last bit is the next byte's first
+    ∷ record {
+      given = body (attributes maskBlock) (0x18 ∷ 0x01 ∷ 0x03 ∷ 0x1B ∷ 0x00 ∷ 0x01 ∷ 0x02 ∷ 0x03 ∷ 0xE3 ∷ 0x01 ∷ 0x03 ∷ 0xC0 ∷ 0x00 ∷ []);
+      gives =
+          gives (1 ∷ 1 ∷ 0 ∷ 0 ∷ 0 ∷ 3 ∷ 3 ∷ 3 ∷ 2 ∷ 1 ∷ 0 ∷ 1 ∷ 2 ∷ 3 ∷ 4 ∷ 15 ∷ 0 ∷ 8 ∷ 1 ∷ 1 ∷ 0 ∷ 18446744073709551615 ∷ 18446744073709551615 ∷ 0 ∷ 0 ∷ []);
+    }
+    -- keyframed Bools: flags 0 1 1 0 0 0 0 are 2 + 4; two frames, times 0, 12, 24; Bools 1 0 1 are 1 + 4; an easing width of 1
+    ∷ record {
+      given = body (attributes textPathOption) (0x06 ∷ 0x02 ∷ 0x00 ∷ 0x0C ∷ 0x18 ∷ 0x05 ∷ 0x00 ∷ []);
+      gives = gives (0 ∷ 3 ∷ 2 ∷ 0 ∷ 12 ∷ 24 ∷ 1 ∷ 0 ∷ 1 ∷ 1 ∷ 0 ∷ 0 ∷ 0 ∷ 0 ∷ []);
+    }
+    -- P6's path: verbs 1, 3, 4, 3, 0 at places 0, 3, 6, 9, 12; 9, a width of 10, at 15; steps 100, 0, 300, 400, 100 at 20, 30, 40, 50, 60.
+    -- 1 + 3 × 2 ^ 3 + 4 × 2 ^ 6 + 3 × 2 ^ 9 + 9 × 2 ^ 15 + 100 × 2 ^ 20 = 06448719; 300 × 2 ^ 40 is 012C
+    -- from byte 5 on, 400 × 2 ^ 50 is 400 × 4 = 0640 from byte 6 on, 100 × 2 ^ 60 is 100 × 16 = 0640 from byte 7 on: 2C, 01 + 40, 06 + 40, 06
+    ∷ record {
+      given = body (fixed path) (0x05 ∷ 0x19 ∷ 0x87 ∷ 0x44 ∷ 0x06 ∷ 0x00 ∷ 0x2C ∷ 0x41 ∷ 0x46 ∷ 0x06 ∷ []);
+      gives = gives (5 ∷ 1 ∷ 3 ∷ 4 ∷ 3 ∷ 0 ∷ 10 ∷ 100 ∷ 0 ∷ 300 ∷ 400 ∷ 100 ∷ []);
+    }
+    -- the same with the top bit of its last byte set: 70 bits are used, and the last two of the body's 72 are skipped
+    ∷ record { given = body (fixed path) (0x05 ∷ 0x19 ∷ 0x87 ∷ 0x44 ∷ 0x06 ∷ 0x00 ∷ 0x2C ∷ 0x41 ∷ 0x46 ∷ 0x86 ∷ []); gives = refuses 15 0 }
+    -- steps over five bytes: verbs 3, 3, a width of 32 and the step 1 are 3 + 3 × 2 ^ 3 + 31 × 2 ^ 6 + 1 × 2 ^ 11 = 0FDB; -1 is 32 ones from place 43 on,
+    -- bit 3 of byte 5
+    ∷ record {
+      given = body (fixed path) (0x02 ∷ 0xDB ∷ 0x0F ∷ 0x00 ∷ 0x00 ∷ 0x00 ∷ 0xF8 ∷ 0xFF ∷ 0xFF ∷ 0xFF ∷ 0x07 ∷ []);
+      gives = gives (2 ∷ 3 ∷ 3 ∷ 32 ∷ 1 ∷ 18446744073709551615 ∷ []);
+    }
+    -- files: the mask above; the same at level 13, where it is opaque, and its bytes know no order; P2, which has no bit fields
+    ∷ record {
+      given = file 1023 lowMask;
+      gives = gives (0 ∷ 14 ∷ 1 ∷ 8 ∷ 1 ∷ 1 ∷ 0 ∷ 0 ∷ 0 ∷ 1 ∷ 128 ∷ 0 ∷ 0 ∷ 1 ∷ 0 ∷ []);
+    }
+    ∷ record {
+      given = file 13 lowMask;
+      gives = gives (0 ∷ 14 ∷ 0 ∷ 3 ∷ 8 ∷ 1 ∷ 128 ∷ 0 ∷ 1 ∷ 0 ∷ []);
+    }
+    ∷ record {
+      given = file 1023 file2;
+      gives = gives (0 ∷ 7 ∷ 1 ∷ 5 ∷ 255 ∷ 128 ∷ 0 ∷ 640 ∷ 18446744073709551615 ∷ 0 ∷ 1 ∷ 0 ∷ []);
+    }
+    ∷ []
+
+pub low-examples : map (λ (x : Example). read 1 (x .given)) lowExamples ≡ map (λ (x : Example). x .gives) lowExamples
+unfolding readFile walkFile startFault classOf walk readBody readPart readBlock allFlags rows run times readItem readVar readLE readFlag ub bitAt
+low-examples = refl
+
+-- ---- An order that is neither: "24 for an order that is neither, tried after 1". P1; P1 at level 1024; no bytes, which is 2 in either order
+abbrev pub neitherExamples : List Example
+neitherExamples =
+    record { given = file 1023 file1; gives = refuses 24 0 }
+    ∷ record { given = file 1024 file1; gives = refuses 1 0 }
+    ∷ record { given = file 1023 []; gives = refuses 24 0 }
+    ∷ []
+
+pub neither-examples : map (λ (x : Example). read 2 (x .given)) neitherExamples ≡ map (λ (x : Example). x .gives) neitherExamples
+unfolding readFile walkFile startFault classOf walk
+neither-examples = refl
 
 -- the room: P1 needs four numbers, and its tag table five; what is lent past these stays, and a refusal changes nothing
 pub record RoomExample : Type 0 where
@@ -103,10 +203,10 @@ roomExamples =
     }
     ∷ []
 
-pub rooms-read : map (λ (x : RoomExample). into (x .lent) (readFile high 1023 file1)) roomExamples ≡ map (λ (x : RoomExample). x .table) roomExamples
+pub rooms-read : map (λ (x : RoomExample). into (x .lent) (readFile 0 1023 file1)) roomExamples ≡ map (λ (x : RoomExample). x .table) roomExamples
 unfolding readFile walkFile startFault classOf walk
 rooms-read = refl
 
-pub rooms-tags : map (λ (x : RoomExample). into (x .lent) (readTags high 1023 file1)) roomExamples ≡ map (λ (x : RoomExample). x .tagTable) roomExamples
+pub rooms-tags : map (λ (x : RoomExample). into (x .lent) (readTags 0 1023 file1)) roomExamples ≡ map (λ (x : RoomExample). x .tagTable) roomExamples
 unfolding readTags walkFile startFault classOf walk
 rooms-tags = refl

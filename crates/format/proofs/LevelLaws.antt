@@ -11,7 +11,7 @@ use borrow.Author.Tests.{ltb-true, ltb-false, lt-ltb, le-ltb, eqb-true}
 use native.Mathlib.Nat.{add-assoc}
 use native.Mathlib.Omega.{arith}
 use Rattle.format.specs.Tests.{pick}
-use Rattle.format.specs.Bits.{Order}
+use Rattle.format.specs.Bits.{Order, orderNamed}
 use Rattle.format.specs.Reading.{Ending, At, Fault}
 use Rattle.format.specs.Formats.{Format}
 use Rattle.format.specs.Items.{run}
@@ -361,41 +361,41 @@ going-class lo hi code h = go (ltb hi code)
     go true = refl
     go false = later-codes code (omega arith)
 
-same-start : (lo hi : ℕ) (f : List ℕ) → lo ≤ hi → hi ≤ 1023 → startFault hi f ≡ startFault lo f
+same-start : (order lo hi : ℕ) (f : List ℕ) → lo ≤ hi → hi ≤ 1023 → startFault order hi f ≡ startFault order lo f
 unfolding startFault
-same-start lo hi f l m = rw (le-ltb 1023 hi m, le-ltb 1023 lo (omega arith))
+same-start order lo hi f l m = rw (le-ltb 1023 hi m, le-ltb 1023 lo (omega arith))
 
-module _ (o : Order) (lo hi : ℕ) (f : List ℕ) (l : lo ≤ hi) (m : hi ≤ 1023) where
-  kin-file : Kin lo f 0 (walkFile o hi f) (walkFile o lo f) (walkFile o hi f .ended)
+module _ (order lo hi : ℕ) (f : List ℕ) (l : lo ≤ hi) (m : hi ≤ 1023) where
+  kin-file : Kin lo f 0 (walkFile order hi f) (walkFile order lo f) (walkFile order hi f .ended)
   unfolding walkFile
-  kin-file = rw (same-start lo hi f l m) (go (eqb (startFault lo f) 0) refl)
+  kin-file = rw (same-start order lo hi f l m) (go (eqb (startFault order lo f) 0) refl)
     where
       H : Walk
-      H = walkList o (classOf hi) 8 file 9 (drop 9 f)
+      H = walkList (orderNamed order) (classOf hi) 8 file 9 (drop 9 f)
 
       L : Walk
-      L = walkList o (classOf lo) 8 file 9 (drop 9 f)
+      L = walkList (orderNamed order) (classOf lo) 8 file 9 (drop 9 f)
 
       room : 9 ≤ length f → Part f 9 (drop 9 f)
       room n = record { before = take 9 f; after = []; parts = sym (rw (append-nil, take-append-drop)); place = length-take-le 9 f n }
 
       good : 9 ≤ length f → Kin lo f 0 H L (H .ended)
-      good n = kin-start lo f 0 9 (9 + length (drop 9 f)) H L (H .ended) (omega arith) (placed o (classOf hi) (length (drop 9 f)) 8 file 9 (drop 9 f) tt .tags)
-          (kin (classOf hi) (classOf lo) lo (λ code h. same-class lo hi code l h) (λ code h. veiled-class lo code h) (λ code h. going-class lo hi code h) o f
+      good n = kin-start lo f 0 9 (9 + length (drop 9 f)) H L (H .ended) (omega arith) (placed (orderNamed order) (classOf hi) (length (drop 9 f)) 8 file 9 (drop 9 f) tt .tags)
+          (kin (classOf hi) (classOf lo) lo (λ code h. same-class lo hi code l h) (λ code h. veiled-class lo code h) (λ code h. going-class lo hi code h) (orderNamed order) f
           (length (drop 9 f)) 8 file 9 (drop 9 f) tt (room n))
 
-      go : (c : Bool) → eqb (startFault lo f) 0 ≡ c → Kin lo f 0 (pick c H (broken (startFault lo f) 0)) (pick c L (broken (startFault lo f) 0)) (pick c H (broken (startFault lo f) 0) .ended)
-      go true e = good (good-start lo f (eqb-true (startFault lo f) 0 e) .long)
+      go : (c : Bool) → eqb (startFault order lo f) 0 ≡ c → Kin lo f 0 (pick c H (broken (startFault order lo f) 0)) (pick c L (broken (startFault order lo f) 0)) (pick c H (broken (startFault order lo f) 0) .ended)
+      go true e = good (good-start order lo f (eqb-true (startFault order lo f) 0 e) .long)
       go false e = inl refl
 
-  pub levels : Levels o lo hi f
+  pub levels : Levels order lo hi f
   levels = record { accepted = accepted; refused = refused; only = only }
     where
       H : Walk
-      H = walkFile o hi f
+      H = walkFile order hi f
 
       L : Walk
-      L = walkFile o lo f
+      L = walkFile order lo f
 
       accepted : H .ended ≡ whole → L ≡ record { tags = hide lo f (H .tags); ended = whole }
       accepted e = let k : (L .ended ≡ whole) × (L .tags ≡ hide lo f (H .tags)) = rw e at kin-file in λ i. record { tags = k .1 i; ended = k .0 i }

@@ -1,15 +1,16 @@
--- Every refusal has a reason: `read-reason` and `tags-reason` (1 to 18) and `answer-reason` (19 too), at the end. None is 0, which means
+-- Every refusal has a reason: `read-reason` and `tags-reason` (1 to 18, or 24) and `answer-reason` (19 too), at the end. None is 0, which means
 -- 'accepted' to a host.
 use Prim.Native.Nat.{ℕ, zero, suc, pred, _+_, _*_, _/_, _%_, _≤_}
 use mathlib.Core.List.{List, [], _∷_}
 use mathlib.Core.Path.{_≡_, refl, subst}
 use mathlib.Core.Bool.{Bool, true, false}
+use mathlib.Core.Logic.{_⊎_, inl, inr}
 use lib.ListN.{length, getD, take, drop}
 use lib.Dec.{T, ltb, leb, eqb, lit≤}
 use borrow.Author.Tests.{leb-true, eqb-false}
 use native.Mathlib.Omega.{arith}
 use Rattle.format.specs.Tests.{pick, _and_}
-use Rattle.format.specs.Bits.{Order, ub}
+use Rattle.format.specs.Bits.{Order, ub, orderNamed}
 use Rattle.format.specs.Reading.{Ending, At, Fault, Reading, follow}
 use Rattle.format.specs.Formats.{Item, Format, nothing, item, only, _▹_, _▸_, times, the}
 use Rattle.format.specs.Items.{skipped, room, Num, num, bad, showNum, mapNum, signExtend, readUB, carry, readVar, sign, notOne, exist, readFlag, above, readLE, Text, text, cut, readText, showText, readAlign, readItem, judge, run, byteItem, u32, i32, time, color, count, coordinates, path}
@@ -18,16 +19,16 @@ use Rattle.format.specs.FileAndTags.{signatureRight, versionRight, lengt
 use Rattle.format.specs.TableOfNumbers.{table, tagTable}
 use Rattle.format.specs.Reasons.{startFault, walkFile, Result, gives, refuses, result, readFile, readTags, Answer, accepted, refused, Left, into}
 
--- a reason that the reader gives: 1 to 18
+-- a reason that the reader gives: 1 to 18, or 24
 abbrev pub IsReason : ℕ → Type 0
-IsReason e = (1 ≤ e) × (e ≤ 18)
+IsReason e = ((1 ≤ e) × (e ≤ 18)) ⊎ (e ≡ 24)
 
 -- for a number that is written out: `reason tt`
 reason : {e : ℕ} → T (leb 1 e and leb e 18) → IsReason e
 reason {e} h = go (leb 1 e) refl h
   where
     go : (c : Bool) → leb 1 e ≡ c → T (pick c (leb e 18) false) → IsReason e
-    go true q h = (leb-true 1 e q, lit≤ h)
+    go true q h = inl (leb-true 1 e q, lit≤ h)
     go false q h = absurd h
 
 -- what holds both ways holds of a test's outcome
@@ -363,29 +364,37 @@ module _ (o : Order) where
           (named-within (R (pred left)) (u (pred left)) (class code) (h code) a (a + size) (take len (drop size (x ∷ r))))
           (named-after (isEnd (class code)) c (a + size + len) (drop (size + len) (x ∷ r)) (R left c) (u left c (a + size + len) (drop (size + len) (x ∷ r))))
 
--- ---- files: 1 to 5 before the walk
-start-most : (level : ℕ) (f : List ℕ) → startFault level f ≤ 5
-unfolding startFault
-start-most level f =
-    most (ltb 1023 level) (lit≤ tt)
-    (most (ltb (length f) 9) (lit≤ tt)
-    (most (signatureRight f)
-    (most (versionRight f)
-    (most (lengthRight f) (lit≤ tt)
-    (lit≤ tt))
-    (lit≤ tt))
-    (lit≤ tt)))
-  where
-    most : (c : Bool) {x y : ℕ} → x ≤ 5 → y ≤ 5 → pick c x y ≤ 5
-    most c h k = either-way (λ (n : ℕ). n ≤ 5) c h k
+-- ---- files: 1 to 5 and 24 before the walk
+abbrev NoneOr : ℕ → Type 0
+NoneOr e = (e ≡ 0) ⊎ IsReason e
 
-named-file : (o : Order) (level : ℕ) (f : List ℕ) → NamedWalk (walkFile o level f)
-unfolding walkFile
-named-file o level f = go (eqb (startFault level f) 0) refl
+start-reason : (order level : ℕ) (f : List ℕ) → NoneOr (startFault order level f)
+unfolding startFault
+start-reason order level f =
+    way (ltb 1023 level) (inr (reason tt))
+    (way (ltb 1 order) (inr (inr refl))
+    (way (ltb (length f) 9) (inr (reason tt))
+    (way (signatureRight f)
+    (way (versionRight f)
+    (way (lengthRight f) (inl refl)
+    (inr (reason tt)))
+    (inr (reason tt)))
+    (inr (reason tt)))))
   where
-    go : (c : Bool) → eqb (startFault level f) 0 ≡ c → NamedWalk (pick c (walkList o (classOf level) 8 file 9 (drop 9 f)) (broken (startFault level f) 0))
-    go true e = named-walk o (classOf level) (λ code. named-class o level code) (length (drop 9 f)) 8 file 9 (drop 9 f)
-    go false e = (omega (arith, eqb-false (startFault level f) 0 e), omega (arith, start-most level f))
+    way : (c : Bool) {x y : ℕ} → NoneOr x → NoneOr y → NoneOr (pick c x y)
+    way c h k = either-way NoneOr c h k
+
+named-file : (order level : ℕ) (f : List ℕ) → NamedWalk (walkFile order level f)
+unfolding walkFile
+named-file order level f = go (eqb (startFault order level f) 0) refl
+  where
+    start : (startFault order level f ≡ 0 → ⊥) → NoneOr (startFault order level f) → IsReason (startFault order level f)
+    start n (inl z) = absurd (n z)
+    start n (inr h) = h
+
+    go : (c : Bool) → eqb (startFault order level f) 0 ≡ c → NamedWalk (pick c (walkList (orderNamed order) (classOf level) 8 file 9 (drop 9 f)) (broken (startFault order level f) 0))
+    go true e = named-walk (orderNamed order) (classOf level) (λ code. named-class (orderNamed order) level code) (length (drop 9 f)) 8 file 9 (drop 9 f)
+    go false e = start (eqb-false (startFault order level f) 0 e) (start-reason order level f)
 
 -- what refuses is a fault, with its reason
 abbrev NamedResult : Result → Type 0
@@ -396,28 +405,39 @@ named-result : (ns : List ℕ) (z : Outcome) → NamedOutcome z → NamedResult 
 named-result ns whole h = tt
 named-result ns (fault e n) h = h
 
-named-read : (o : Order) (level : ℕ) (f : List ℕ) → NamedResult (readFile o level f)
+named-read : (order level : ℕ) (f : List ℕ) → NamedResult (readFile order level f)
 unfolding readFile
-named-read o level f = named-result (table f (walkFile o level f)) (walkFile o level f .ended) (named-file o level f)
+named-read order level f = named-result (table f (walkFile order level f)) (walkFile order level f .ended) (named-file order level f)
 
-named-tags : (o : Order) (level : ℕ) (f : List ℕ) → NamedResult (readTags o level f)
+named-tags : (order level : ℕ) (f : List ℕ) → NamedResult (readTags order level f)
 unfolding readTags
-named-tags o level f = named-result (tagTable (walkFile o level f .tags)) (walkFile o level f .ended) (named-file o level f)
+named-tags order level f = named-result (tagTable (walkFile order level f .tags)) (walkFile order level f .ended) (named-file order level f)
 
-pub read-reason : (o : Order) (level : ℕ) (f : List ℕ) {e n : ℕ} → readFile o level f ≡ refuses e n → IsReason e
-read-reason o level f q = subst NamedResult q (named-read o level f)
+pub read-reason : (order level : ℕ) (f : List ℕ) {e n : ℕ} → readFile order level f ≡ refuses e n → IsReason e
+read-reason order level f q = subst NamedResult q (named-read order level f)
 
-pub tags-reason : (o : Order) (level : ℕ) (f : List ℕ) {e n : ℕ} → readTags o level f ≡ refuses e n → IsReason e
-tags-reason o level f q = subst NamedResult q (named-tags o level f)
+pub tags-reason : (order level : ℕ) (f : List ℕ) {e n : ℕ} → readTags order level f ≡ refuses e n → IsReason e
+tags-reason order level f q = subst NamedResult q (named-tags order level f)
 
 -- ---- answers, with lent memory m: 19 too
 abbrev NamedAnswer : Answer → Type 0
 NamedAnswer (accepted n) = Unit {0}
-NamedAnswer (refused e n) = (1 ≤ e) × (e ≤ 19)
+NamedAnswer (refused e n) = IsReason e ⊎ (e ≡ 19)
 
 named-into : (m : List ℕ) (r : Result) → ((e n : ℕ) → r ≡ refuses e n → IsReason e) → NamedAnswer (into m r .answer)
-named-into m (gives ns) h = either-way (λ (l : Left). NamedAnswer (l .answer)) (leb (length ns) (length m)) tt (lit≤ tt, lit≤ tt)
-named-into m (refuses e n) h = (h e n refl .0, omega (arith, h e n refl .1))
+named-into m (gives ns) h = either-way (λ (l : Left). NamedAnswer (l .answer)) (leb (length ns) (length m)) tt (inr refl)
+named-into m (refuses e n) h = inl (h e n refl)
 
-pub answer-reason : (m : List ℕ) (r : Result) → ((e n : ℕ) → r ≡ refuses e n → IsReason e) → {e n : ℕ} → into m r .answer ≡ refused e n → (1 ≤ e) × (e ≤ 19)
+pub answer-reason : (m : List ℕ) (r : Result) → ((e n : ℕ) → r ≡ refuses e n → IsReason e) → {e n : ℕ} → into m r .answer ≡ refused e n → IsReason e ⊎ (e ≡ 19)
 answer-reason m r h q = subst NamedAnswer q (named-into m r h)
+
+-- no refusal has reason 0
+pub reason-pos : {e : ℕ} → IsReason e ⊎ (e ≡ 19) → 1 ≤ e
+reason-pos (inl (inl h)) = h .0
+reason-pos (inl (inr h)) = omega (arith, h)
+reason-pos (inr h) = omega (arith, h)
+
+-- and none of a file is 19
+pub not-19 : {e : ℕ} → IsReason e → e ≡ 19 → ⊥
+not-19 (inl h) q = absurd (omega (arith, h .1, q))
+not-19 (inr h) q = absurd (omega (arith, h, q))

@@ -9,7 +9,7 @@ use lib.Dec.{ltb, eqb}
 use borrow.Author.Tests.{eqb-true}
 use native.Mathlib.Omega.{arith}
 use Rattle.format.specs.Tests.{pick}
-use Rattle.format.specs.Bits.{Order, ub}
+use Rattle.format.specs.Bits.{Order, ub, orderNamed}
 use Rattle.format.specs.Reading.{Ending, At, Fault, Reading, shows, stop, follow}
 use Rattle.format.specs.Formats.{Item, nothing, item, _▸_, times, the}
 use Rattle.format.specs.Items.{skipped, readItem, run, u32, i32, time, float, byte, color, string, count}
@@ -39,6 +39,11 @@ fixedBy Discrete = 0
 abbrev pub fixedCount : List Attribute → ℕ
 fixedCount [] = 0
 fixedCount (a ∷ attrs) = fixedBy (a .kind) + fixedCount attrs
+
+-- n bytes of room give at most 8 × n numbers and n / 2 tags, whatever the ending
+pub record Room (n : ℕ) (w : Walk) : Type 0 where
+  pub count : length (numbers (w .tags)) ≤ 8 * n
+  pub tags : 2 * length (w .tags) ≤ n
 
 module _ (o : Order) where
   fair-flag : (k : Kind) → Fair o (fixedBy k) (item (flagsOf k))
@@ -166,11 +171,7 @@ module _ (o : Order) where
       go true = tt
       go false = fair-at codes fair-codes code
 
-  -- ---- lists: n bytes of room give at most 8 × n numbers and n / 2 tags, whatever the ending
-  pub record Room (n : ℕ) (w : Walk) : Type 0 where
-    pub count : length (numbers (w .tags)) ≤ 8 * n
-    pub tags : 2 * length (w .tags) ≤ n
-
+  -- ---- lists
   module _ (class : ℕ → Class) (fair : (code : ℕ) → FairClass (class code)) where
     -- the numbers of what stands in a tag, but for its state and count
     abbrev inside-count : TagInside → ℕ
@@ -251,44 +252,44 @@ module _ (o : Order) where
   pub known-room : (level code : ℕ) (y : Body) (b : List ℕ) → classOf level code ≡ known y → length (readBody o y b .shown) ≤ 8 * length b + 2
   known-room level code y b e = body-room y (rw e at (fair-class level code)) b
 
-  -- ---- files
-  abbrev FileRoom : List ℕ → Walk → Outcome → Type 0
-  FileRoom f w whole = (9 ≤ length f) × Room (length (drop 9 f)) w
-  FileRoom f w (fault e n) = Unit {0}
+-- ---- files
+abbrev FileRoom : List ℕ → Walk → Outcome → Type 0
+FileRoom f w whole = (9 ≤ length f) × Room (length (drop 9 f)) w
+FileRoom f w (fault e n) = Unit {0}
 
-  file-room : (level : ℕ) (f : List ℕ) → FileRoom f (walkFile o level f) (walkFile o level f .ended)
-  unfolding walkFile
-  file-room level f = go (eqb (startFault level f) 0) refl
-    where
-      w : Walk
-      w = walkList o (classOf level) 8 file 9 (drop 9 f)
+file-room : (order level : ℕ) (f : List ℕ) → FileRoom f (walkFile order level f) (walkFile order level f .ended)
+unfolding walkFile
+file-room order level f = go (eqb (startFault order level f) 0) refl
+  where
+    w : Walk
+    w = walkList (orderNamed order) (classOf level) 8 file 9 (drop 9 f)
 
-      good : 9 ≤ length f → (z : Outcome) → FileRoom f w z
-      good l (fault e n) = tt
-      good l whole = (l, walk-room (classOf level) (λ code. fair-class level code) (length (drop 9 f)) 8 file 9 (drop 9 f))
+    good : 9 ≤ length f → (z : Outcome) → FileRoom f w z
+    good l (fault e n) = tt
+    good l whole = (l, walk-room (orderNamed order) (classOf level) (λ code. fair-class (orderNamed order) level code) (length (drop 9 f)) 8 file 9 (drop 9 f))
 
-      go : (c : Bool) → eqb (startFault level f) 0 ≡ c → FileRoom f (pick c w (broken (startFault level f) 0)) (pick c w (broken (startFault level f) 0) .ended)
-      go false e = tt
-      go true e = good (good-start level f (eqb-true (startFault level f) 0 e) .long) (w .ended)
+    go : (c : Bool) → eqb (startFault order level f) 0 ≡ c → FileRoom f (pick c w (broken (startFault order level f) 0)) (pick c w (broken (startFault order level f) 0) .ended)
+    go false e = tt
+    go true e = good (good-start order level f (eqb-true (startFault order level f) 0 e) .long) (w .ended)
 
-  -- the table of a file of n bytes has at most 8 × n numbers
-  pub table-room : (level : ℕ) (f t : List ℕ) → readFile o level f ≡ gives t → length t ≤ 8 * length f
-  unfolding readFile
-  table-room level f t h = go (walkFile o level f .ended) (file-room level f) h
-    where
-      go : (z : Outcome) → FileRoom f (walkFile o level f) z → result (table f (walkFile o level f)) z ≡ gives t → length t ≤ 8 * length f
-      go (fault e n) u h = clash cc
-      go whole u h = let q : t ≡ table f (walkFile o level f) = cc in rw q (omega (arith, u .0, u .1 .count, length-drop 9 f))
+-- the table of a file of n bytes has at most 8 × n numbers
+pub table-room : (order level : ℕ) (f t : List ℕ) → readFile order level f ≡ gives t → length t ≤ 8 * length f
+unfolding readFile
+table-room order level f t h = go (walkFile order level f .ended) (file-room order level f) h
+  where
+    go : (z : Outcome) → FileRoom f (walkFile order level f) z → result (table f (walkFile order level f)) z ≡ gives t → length t ≤ 8 * length f
+    go (fault e n) u h = clash cc
+    go whole u h = let q : t ≡ table f (walkFile order level f) = cc in rw q (omega (arith, u .0, u .1 .count, length-drop 9 f))
 
-  pub tag-table-length : (ts : List Tag) → length (tagTable ts) ≡ 5 * length ts
-  tag-table-length [] = refl
-  tag-table-length (t ∷ ts) = omega (arith, tag-table-length ts)
+pub tag-table-length : (ts : List Tag) → length (tagTable ts) ≡ 5 * length ts
+tag-table-length [] = refl
+tag-table-length (t ∷ ts) = omega (arith, tag-table-length ts)
 
-  -- and its tag table at most 5 × n
-  pub tags-room : (level : ℕ) (f t : List ℕ) → readTags o level f ≡ gives t → length t ≤ 5 * length f
-  unfolding readTags
-  tags-room level f t h = go (walkFile o level f .ended) (file-room level f) h
-    where
-      go : (z : Outcome) → FileRoom f (walkFile o level f) z → result (tagTable (walkFile o level f .tags)) z ≡ gives t → length t ≤ 5 * length f
-      go (fault e n) u h = clash cc
-      go whole u h = let q : t ≡ tagTable (walkFile o level f .tags) = cc in rw q (omega (arith, u .0, u .1 .tags, length-drop 9 f, tag-table-length (walkFile o level f .tags)))
+-- and its tag table at most 5 × n
+pub tags-room : (order level : ℕ) (f t : List ℕ) → readTags order level f ≡ gives t → length t ≤ 5 * length f
+unfolding readTags
+tags-room order level f t h = go (walkFile order level f .ended) (file-room order level f) h
+  where
+    go : (z : Outcome) → FileRoom f (walkFile order level f) z → result (tagTable (walkFile order level f .tags)) z ≡ gives t → length t ≤ 5 * length f
+    go (fault e n) u h = clash cc
+    go whole u h = let q : t ≡ tagTable (walkFile order level f .tags) = cc in rw q (omega (arith, u .0, u .1 .tags, length-drop 9 f, tag-table-length (walkFile order level f .tags)))

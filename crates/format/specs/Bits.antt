@@ -8,9 +8,15 @@ abbrev pub AllBytes : List ℕ → Type 0
 AllBytes [] = Unit {0}
 AllBytes (x ∷ b) = (x < 256) × AllBytes b
 
--- high, the ruling of document 01: the first bit is the top bit of its byte, and the highest of its field. low: the lowest of both.
+-- high, the ruling of document 01: the first bit is the top bit of its byte, and the highest of its field.
+-- low (C-18): in low order the first bit read is the low bit of the byte and the lowest of its field.
 pub data Order : Type 0 where
   high low : Order
+
+-- (C-18) the order that a call's number names: 0 is high first, 1 low first. Any other number is refused (24: `startFault` and `Writes` of Reasons)
+abbrev pub orderNamed : ℕ → Order
+orderNamed zero = high
+orderNamed (suc n) = low
 
 -- the power of two that the k-th bit of a byte counts, k from 0
 abbrev pub weight : Order → ℕ → ℕ

@@ -6,7 +6,6 @@ use mathlib.Core.Path.{_≡_}
 use lib.ListN.{take, drop}
 use lib.Dec.{ltb}
 use Rattle.format.specs.Tests.{pick}
-use Rattle.format.specs.Bits.{Order}
 use Rattle.format.specs.FileAndTags.{Tag, Outcome, whole, fault}
 use Rattle.format.specs.Reasons.{walkFile}
 
@@ -49,10 +48,10 @@ pub data Refuses (lo : ℕ) (ts : List Tag) (e n : ℕ) : Outcome → Type 0 whe
   alike : Refuses lo ts e n (fault e n)
   apart : {e′ n′ : ℕ} → InHidden lo n′ ts → Refuses lo ts e n (fault e′ n′)
 
-pub record Levels (o : Order) (lo hi : ℕ) (f : List ℕ) : Type 0 where
+pub record Levels (order lo hi : ℕ) (f : List ℕ) : Type 0 where
   -- (a) where the higher level accepts, the lower does, and shows the higher's tags with those above it hidden
-  pub accepted : walkFile o hi f .ended ≡ whole → walkFile o lo f ≡ record { tags = hide lo f (walkFile o hi f .tags); ended = whole }
+  pub accepted : walkFile order hi f .ended ≡ whole → walkFile order lo f ≡ record { tags = hide lo f (walkFile order hi f .tags); ended = whole }
   -- (b) where the lower level refuses, the higher does: for the same reason with the same number, or at or inside a tag above the lower level
-  pub refused : (e n : ℕ) → walkFile o lo f .ended ≡ fault e n → Refuses lo (walkFile o lo f .tags) e n (walkFile o hi f .ended)
+  pub refused : (e n : ℕ) → walkFile order lo f .ended ≡ fault e n → Refuses lo (walkFile order lo f .tags) e n (walkFile order hi f .ended)
   -- (c) where only the higher refuses, its number is at or inside a tag above the lower level
-  pub only : (e n : ℕ) → walkFile o lo f .ended ≡ whole → walkFile o hi f .ended ≡ fault e n → InHidden lo n (walkFile o lo f .tags)
+  pub only : (e n : ℕ) → walkFile order lo f .ended ≡ whole → walkFile order hi f .ended ≡ fault e n → InHidden lo n (walkFile order lo f .tags)

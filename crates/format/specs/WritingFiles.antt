@@ -5,7 +5,7 @@ use mathlib.Core.Bool.{Bool, true, false}
 use lib.ListN.{length, take, drop}
 use lib.Dec.{ltb, leb, eqb}
 use Rattle.format.specs.Tests.{pick}
-use Rattle.format.specs.Bits.{Order}
+use Rattle.format.specs.Bits.{Order, orderNamed}
 use Rattle.format.specs.FileAndTags.{Class, opaque, end, container, known, classOf, isEnd, front}
 use Rattle.format.specs.WritingFormats.{unrun}
 use Rattle.format.specs.Possible.{Possible, this, cannot}
@@ -85,7 +85,10 @@ wholeFile comp (this (made xs body [])) = pick (leb (9 + length body) 16777216) 
 wholeFile comp (this (made xs body (y ∷ ys))) = cannot
 wholeFile comp cannot = cannot
 
--- the file of a table at a level, if there is one
-unfoldable pub writeFile : Order → ℕ → List ℕ → Possible (List ℕ)
-writeFile o level [] = cannot
-writeFile o level (comp ∷ ns) = pick (ltb 1023 level) cannot (pick (ltb comp 256) (wholeFile comp (unwalkList o (classOf level) 8 ns)) cannot)
+-- the file of a table in an order and at a level, if there is one
+unfoldable pub writeFile : ℕ → ℕ → List ℕ → Possible (List ℕ)
+writeFile order level [] = cannot
+writeFile order level (comp ∷ ns) =
+    pick (ltb 1023 level) cannot
+    (pick (ltb 1 order) cannot
+    (pick (ltb comp 256) (wholeFile comp (unwalkList (orderNamed order) (classOf level) 8 ns)) cannot))

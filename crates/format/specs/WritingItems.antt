@@ -19,6 +19,16 @@ abbrev pub rest : Order → ℕ → ℕ → ℕ
 rest high n v = v % 2 ^ n
 rest low n v = v / 2
 
+-- a field of m + n bits, made of the field x of its first m and the field y of its last n
+abbrev pub glue : Order → ℕ → ℕ → ℕ → ℕ → ℕ
+glue high m n x y = x * 2 ^ n + y
+glue low m n x y = y * 2 ^ m + x
+
+-- of the bits of a number, how many count less than a field in it that has k bits before it and l behind it
+abbrev pub below : Order → ℕ → ℕ → ℕ
+below high k l = l
+below low k l = k
+
 -- the n bits of v, in the order in which they are written
 unfoldable pub dig : Order → ℕ → ℕ → List Bool
 dig o zero v = []

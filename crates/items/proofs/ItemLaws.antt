@@ -8,7 +8,7 @@ use lib.Dec.{ltb, leb, eqb, lit≤}
 use borrow.Author.Tests.{ltb-true, ltb-false, leb-true, eqb-true, eqb-false, eq-eqb, ne-eqb}
 use native.Mathlib.Omega.{arith}
 use Rattle.format.specs.Tests.{pick, _and_}
-use Rattle.format.specs.Bits.{high, ub}
+use Rattle.format.specs.Bits.{Order, ub}
 use Rattle.format.specs.Reading.{Reading, Ending, At, shows, stop}
 use Rattle.format.specs.Formats as formats
 use Rattle.format.specs.Formats.{only}
@@ -44,35 +44,35 @@ shown-one a b e = num-one a b (go (numOf a) (numOf b) (ap (λ (r : Reading). r .
     go (bad e) (bad f) c z = let d : e ≡ f = cc in ap bad d
 
 -- ---- a Float: bytes, lowest first
-module _ (s : List ℕ) where
-  le-more : (i p n : ℕ) {x : ℕ} → p ≡ 8 * i → i < length s → IsByte s i x → readLE high s p (suc n) ≡ above x (readLE high s (p + 8) n)
+module _ (o : Order) (s : List ℕ) where
+  le-more : (i p n : ℕ) {x : ℕ} → p ≡ 8 * i → i < length s → IsByte s i x → readLE o s p (suc n) ≡ above x (readLE o s (p + 8) n)
   unfolding readLE
-  le-more i p n at h y = rw (room-is s i p at h, byte-is s i p at y)
+  le-more i p n at h y = rw (room-is s i p at h, byte-is o s i p at y)
 
-  pub le-past : (i p n : ℕ) → p ≡ 8 * i → i ≤ length s → length s < i + n → readLE high s p n ≡ bad 13
+  pub le-past : (i p n : ℕ) → p ≡ 8 * i → i ≤ length s → length s < i + n → readLE o s p n ≡ bad 13
   unfolding readLE
   le-past i p zero at l h = absurd (omega arith)
   le-past i p (suc n) at l h = go (ltb i (length s)) refl (λ k. le-past (i + 1) (p + 8) n (omega arith) (omega arith) (omega arith))
     where
-      go : (t : Bool) → ltb i (length s) ≡ t → (i < length s → readLE high s (p + 8) n ≡ bad 13) → readLE high s p (suc n) ≡ bad 13
+      go : (t : Bool) → ltb i (length s) ≡ t → (i < length s → readLE o s (p + 8) n ≡ bad 13) → readLE o s p (suc n) ≡ bad 13
       go true e u = let k : i < length s = ltb-true i (length s) e in rw (room-is s i p at k, u k)
       go false e u = rw (room-not s i p at (ltb-false i (length s) e))
 
   pub float-is : (i p : ℕ) {b0 b1 b2 b3 q : ℕ} → p ≡ 8 * i → i + 4 ≤ length s → IsByte s i b0 → IsByte s (i + 1) b1 → IsByte s (i + 2) b2 → IsByte s (i + 3) b3 → q ≡ p + 32
-      → num (b0 + 256 * (b1 + 256 * (b2 + 256 * b3))) q ≡ readLE high s p 4
+      → num (b0 + 256 * (b1 + 256 * (b2 + 256 * b3))) q ≡ readLE o s p 4
   unfolding readLE
   float-is i p {b3 = b3} at l y0 y1 y2 y3 e =
       let f : p + 32 ≡ p + 8 + 8 + 8 + 8 = omega arith in
       let g : b3 + 256 * 0 ≡ b3 = omega arith in
       sym (rw (le-more i p 3 at (omega arith) y0, le-more (i + 1) (p + 8) 2 (omega arith) (omega arith) y1, le-more (i + 2) (p + 8 + 8) 1 (omega arith) (omega arith) y2, le-more (i + 3) (p + 8 + 8 + 8) 0 (omega arith) (omega arith) y3, g, e, f))
 
-  le-below : (p n : ℕ) → Below (256 ^ n) (readLE high s p n)
+  le-below : (p n : ℕ) → Below (256 ^ n) (readLE o s p n)
   unfolding readLE
   le-below p zero = omega arith
-  le-below p (suc n) = go (room s p 8) (readLE high s (p + 8) n) (le-below (p + 8) n)
+  le-below p (suc n) = go (room s p 8) (readLE o s (p + 8) n) (le-below (p + 8) n)
     where
-      go : (t : Bool) (r : Num) → Below (256 ^ n) r → Below (256 ^ suc n) (pick t (above (ub high s p 8) r) (bad 13))
-      go true (num v q) h = omega (arith, ub-lt high s p 8)
+      go : (t : Bool) (r : Num) → Below (256 ^ n) r → Below (256 ^ suc n) (pick t (above (ub o s p 8) r) (bad 13))
+      go true (num v q) h = omega (arith, ub-lt o s p 8)
       go true (bad e) h = tt
       go false r h = tt
 
@@ -80,11 +80,11 @@ below-more : {m n : ℕ} → m ≤ n → (r : Num) → Below m r → Below n r
 below-more l (num v q) h = omega arith
 below-more l (bad e) h = tt
 
-ub-below : (s : List ℕ) (p : ℕ) → Below (2 ^ 64) (readUB high s p 8)
-ub-below s p = go (room s p 8)
+ub-below : (o : Order) (s : List ℕ) (p : ℕ) → Below (2 ^ 64) (readUB o s p 8)
+ub-below o s p = go (room s p 8)
   where
-    go : (t : Bool) → Below (2 ^ 64) (pick t (num (ub high s p 8) (p + 8)) (bad 13))
-    go true = omega (arith, ub-lt high s p 8)
+    go : (t : Bool) → Below (2 ^ 64) (pick t (num (ub o s p 8) (p + 8)) (bad 13))
+    go true = omega (arith, ub-lt o s p 8)
     go false = tt
 
 -- ---- an I32 is made of a U32
@@ -121,51 +121,51 @@ ranged-only k t e z f (num v q) = go (t (v ∷ [])) refl
 ranged-only k t e z f (bad x) = refl
 
 -- a format of the spelling i that reads as n: with no test, or with the test t and the reason e
-module _ (b : List ℕ) (p : ℕ) (k : Item) (n : Num) (i : formats.Item) (bytes : run high b (byteItem i) p ≡ showNum n) where
-  free-is : ((v : ℕ) → rangeFault k v ≡ 0) → run high b (byteItem i) p ≡ showNum (ranged k n)
+module _ (o : Order) (b : List ℕ) (p : ℕ) (k : Item) (n : Num) (i : formats.Item) (bytes : run o b (byteItem i) p ≡ showNum n) where
+  free-is : ((v : ℕ) → rangeFault k v ≡ 0) → run o b (byteItem i) p ≡ showNum (ranged k n)
   free-is f = bytes ∙ ap showNum (sym (ranged-all k f n))
 
-  held-is : (t : List ℕ → Bool) (e : ℕ) → eqb e 0 ≡ false → ((v : ℕ) → rangeFault k v ≡ pick (t (v ∷ [])) 0 e) → run high b (only t e (byteItem i)) p ≡ showNum (ranged k n)
+  held-is : (t : List ℕ → Bool) (e : ℕ) → eqb e 0 ≡ false → ((v : ℕ) → rangeFault k v ≡ pick (t (v ∷ [])) 0 e) → run o b (only t e (byteItem i)) p ≡ showNum (ranged k n)
   unfolding run
   held-is t e z f = rw bytes (ranged-only k t e z f n)
 
 -- every kind, where each spelling of its bytes reads as n
-item-is : (b : List ℕ) (p : ℕ) (k : Item) (n : Num) → ((i : formats.Item) → ((q : ℕ) → readItem high b i q ≡ showNum (spelt k b q)) → run high b (byteItem i) p ≡ showNum n)
-    → run high b (formatOf k) p ≡ showNum (ranged k n)
+item-is : (o : Order) (b : List ℕ) (p : ℕ) (k : Item) (n : Num) → ((i : formats.Item) → ((q : ℕ) → readItem o b i q ≡ showNum (spelt o k b q)) → run o b (byteItem i) p ≡ showNum n)
+    → run o b (formatOf k) p ≡ showNum (ranged k n)
 unfolding readItem rangeFault
-item-is b p U32 n h = free-is b p U32 n _ (h formats.Item.U32 (λ q. refl)) (λ v. refl)
-item-is b p I32 n h = free-is b p I32 n _ (h formats.Item.I32 (λ q. refl)) (λ v. refl)
-item-is b p Time n h = free-is b p Time n _ (h formats.Item.U64 (λ q. refl)) (λ v. refl)
-item-is b p Float n h = free-is b p Float n _ (h (formats.Item.LE 4) (λ q. refl)) (λ v. refl)
-item-is b p Byte n h = free-is b p Byte n _ (h (formats.Item.UB 8) (λ q. refl)) (λ v. refl)
-item-is b p (Enum top) n h = held-is b p (Enum top) n _ (h (formats.Item.UB 8) (λ q. refl)) _ _ refl (λ v. refl)
-item-is b p BlendMode n h = held-is b p BlendMode n _ (h (formats.Item.UB 8) (λ q. refl)) _ _ refl (λ v. refl)
-item-is b p (Count lo) n h = held-is b p (Count lo) n _ (h formats.Item.U32 (λ q. refl)) _ _ refl (λ v. refl)
+item-is o b p U32 n h = free-is o b p U32 n _ (h formats.Item.U32 (λ q. refl)) (λ v. refl)
+item-is o b p I32 n h = free-is o b p I32 n _ (h formats.Item.I32 (λ q. refl)) (λ v. refl)
+item-is o b p Time n h = free-is o b p Time n _ (h formats.Item.U64 (λ q. refl)) (λ v. refl)
+item-is o b p Float n h = free-is o b p Float n _ (h (formats.Item.LE 4) (λ q. refl)) (λ v. refl)
+item-is o b p Byte n h = free-is o b p Byte n _ (h (formats.Item.UB 8) (λ q. refl)) (λ v. refl)
+item-is o b p (Enum top) n h = held-is o b p (Enum top) n _ (h (formats.Item.UB 8) (λ q. refl)) _ _ refl (λ v. refl)
+item-is o b p BlendMode n h = held-is o b p BlendMode n _ (h (formats.Item.UB 8) (λ q. refl)) _ _ refl (λ v. refl)
+item-is o b p (Count lo) n h = held-is o b p (Count lo) n _ (h formats.Item.U32 (λ q. refl)) _ _ refl (λ v. refl)
 
 -- a skipped bit is not zero
-pub item-unclean : (b : List ℕ) (p : ℕ) (k : Item) → readAlign high b p ≡ stop 15 → run high b (formatOf k) p ≡ stop 15
+pub item-unclean : (o : Order) (b : List ℕ) (p : ℕ) (k : Item) → readAlign o b p ≡ stop 15 → run o b (formatOf k) p ≡ stop 15
 unfolding run readItem
-item-unclean b p k skip = item-is b p k (bad 15) (λ i so. rw skip)
+item-unclean o b p k skip = item-is o b p k (bad 15) (λ i so. rw skip)
 
 -- they are zero, and the bytes read as n
-item-clean : (b : List ℕ) (p : ℕ) (k : Item) {q : ℕ} (n : Num) → readAlign high b p ≡ shows [] q → n ≡ spelt k b q → run high b (formatOf k) p ≡ showNum (ranged k n)
+item-clean : (o : Order) (b : List ℕ) (p : ℕ) (k : Item) {q : ℕ} (n : Num) → readAlign o b p ≡ shows [] q → n ≡ spelt o k b q → run o b (formatOf k) p ≡ showNum (ranged k n)
 unfolding run readItem
-item-clean b p k {q} n skip bytes = item-is b p k n (λ i so. rw (skip, bytes) (so q))
+item-clean o b p k {q} n skip bytes = item-is o b p k n (λ i so. rw (skip, bytes) (so q))
 
-module _ (b : List ℕ) (p : ℕ) (k : Item) {q : ℕ} {r : Got} (skip : readAlign high b p ≡ shows [] q) (bytes : numOf r ≡ spelt k b q) where
-  pub item-bad : {e : ℕ} → r ≡ Fault e → showNum (numOf r) ≡ run high b (formatOf k) p
-  item-bad h = sym (item-clean b p k (numOf r) skip bytes ∙ rw h)
+module _ (o : Order) (b : List ℕ) (p : ℕ) (k : Item) {q : ℕ} {r : Got} (skip : readAlign o b p ≡ shows [] q) (bytes : numOf r ≡ spelt o k b q) where
+  pub item-bad : {e : ℕ} → r ≡ Fault e → showNum (numOf r) ≡ run o b (formatOf k) p
+  item-bad h = sym (item-clean o b p k (numOf r) skip bytes ∙ rw h)
 
-  pub item-in : {v : ℕ} {z : BitPlace} → r ≡ Value v z → rangeFault k v ≡ 0 → shows (v ∷ []) (z .0) ≡ run high b (formatOf k) p
-  item-in h e = sym (item-clean b p k (numOf r) skip bytes ∙ rw (h, e))
+  pub item-in : {v : ℕ} {z : BitPlace} → r ≡ Value v z → rangeFault k v ≡ 0 → shows (v ∷ []) (z .0) ≡ run o b (formatOf k) p
+  item-in h e = sym (item-clean o b p k (numOf r) skip bytes ∙ rw (h, e))
 
-  pub item-out : {v e : ℕ} {z : BitPlace} → r ≡ Value v z → e ≡ rangeFault k v → (e ≡ 0 → ⊥) → stop e ≡ run high b (formatOf k) p
-  item-out {v} {e} h f n = sym (item-clean b p k (numOf r) skip bytes ∙ rw (h, ← f, ne-eqb e 0 n))
+  pub item-out : {v e : ℕ} {z : BitPlace} → r ≡ Value v z → e ≡ rangeFault k v → (e ≡ 0 → ⊥) → stop e ≡ run o b (formatOf k) p
+  item-out {v} {e} h f n = sym (item-clean o b p k (numOf r) skip bytes ∙ rw (h, ← f, ne-eqb e 0 n))
 
 -- ---- bounds of the numbers that are shown
-spelt-below : (k : Item) (b : List ℕ) (q : ℕ) → Below (2 ^ 64) (spelt k b q)
-spelt-below U32 b q = below-more (lit≤ tt) (readU32 high b q) (var-below b 15 q 4 (lit≤ tt))
-spelt-below I32 b q = go (readU32 high b q) (var-below b 15 q 4 (lit≤ tt))
+spelt-below : (o : Order) (k : Item) (b : List ℕ) (q : ℕ) → Below (2 ^ 64) (spelt o k b q)
+spelt-below o U32 b q = below-more (lit≤ tt) (readU32 o b q) (var-below o b 15 q 4 (lit≤ tt))
+spelt-below o I32 b q = go (readU32 o b q) (var-below o b 15 q 4 (lit≤ tt))
   where
     signed : (d q : ℕ) → d < 2 ^ 32 → (t u : Bool) → eqb d 1 ≡ t → eqb (d % 2) 0 ≡ u → Below (2 ^ 64) (mapNum sign (notOne (num d q)))
     signed d q h true u e f = rw e tt
@@ -175,12 +175,12 @@ spelt-below I32 b q = go (readU32 high b q) (var-below b 15 q 4 (lit≤ tt))
     go : (n : Num) → Below (2 ^ 32) n → Below (2 ^ 64) (mapNum sign (notOne n))
     go (num d q) h = signed d q h (eqb d 1) (eqb (d % 2) 0) refl refl
     go (bad e) h = tt
-spelt-below Time b q = var-below b 1 q 9 (lit≤ tt)
-spelt-below Float b q = below-more (lit≤ tt) (readLE high b q 4) (le-below b q 4)
-spelt-below Byte b q = ub-below b q
-spelt-below (Enum top) b q = ub-below b q
-spelt-below BlendMode b q = ub-below b q
-spelt-below (Count lo) b q = below-more (lit≤ tt) (readU32 high b q) (var-below b 15 q 4 (lit≤ tt))
+spelt-below o Time b q = var-below o b 1 q 9 (lit≤ tt)
+spelt-below o Float b q = below-more (lit≤ tt) (readLE o b q 4) (le-below o b q 4)
+spelt-below o Byte b q = ub-below o b q
+spelt-below o (Enum top) b q = ub-below o b q
+spelt-below o BlendMode b q = ub-below o b q
+spelt-below o (Count lo) b q = below-more (lit≤ tt) (readU32 o b q) (var-below o b 15 q 4 (lit≤ tt))
 
 -- a number that is shown fits, and is in its range
 abbrev Fine : Item → List ℕ → Ending → Type 0
@@ -188,8 +188,8 @@ Fine k [] z = Unit {0}
 Fine k (v ∷ vs) (At q) = (v < 2 ^ 64) × (rangeFault k v ≡ 0)
 Fine k (v ∷ vs) (Ending.Fault e) = Unit {0}
 
-item-fine : (b : List ℕ) (p : ℕ) (k : Item) → Fine k (run high b (formatOf k) p .shown) (run high b (formatOf k) p .ended)
-item-fine b p k = go (eqb (ub high b p (skipped p)) 0) refl
+item-fine : (o : Order) (b : List ℕ) (p : ℕ) (k : Item) → Fine k (run o b (formatOf k) p .shown) (run o b (formatOf k) p .ended)
+item-fine o b p k = go (eqb (ub o b p (skipped p)) 0) refl
   where
     fine : (n : Num) → Below (2 ^ 64) n → Fine k (showNum (ranged k n) .shown) (showNum (ranged k n) .ended)
     fine (bad e) h = tt
@@ -199,15 +199,15 @@ item-fine b p k = go (eqb (ub high b p (skipped p)) 0) refl
         test true e = rw e (h, eqb-true (rangeFault k v) 0 e)
         test false e = rw e tt
 
-    go : (t : Bool) → eqb (ub high b p (skipped p)) 0 ≡ t → Fine k (run high b (formatOf k) p .shown) (run high b (formatOf k) p .ended)
-    go true e = rw (item-clean b p k (spelt k b (p + skipped p)) (rw e) refl) (fine (spelt k b (p + skipped p)) (spelt-below k b (p + skipped p)))
-    go false e = rw (item-unclean b p k (rw e)) tt
+    go : (t : Bool) → eqb (ub o b p (skipped p)) 0 ≡ t → Fine k (run o b (formatOf k) p .shown) (run o b (formatOf k) p .ended)
+    go true e = rw (item-clean o b p k (spelt o k b (p + skipped p)) (rw e) refl) (fine (spelt o k b (p + skipped p)) (spelt-below o k b (p + skipped p)))
+    go false e = rw (item-unclean o b p k (rw e)) tt
 
-module _ (b : List ℕ) (p : ℕ) {v q : ℕ} where
-  value-fine : (k : Item) → run high b (formatOf k) p ≡ shows (v ∷ []) q → (v < 2 ^ 64) × (rangeFault k v ≡ 0)
-  value-fine k e = rw e at (item-fine b p k)
+module _ (o : Order) (b : List ℕ) (p : ℕ) {v q : ℕ} where
+  value-fine : (k : Item) → run o b (formatOf k) p ≡ shows (v ∷ []) q → (v < 2 ^ 64) × (rangeFault k v ≡ 0)
+  value-fine k e = rw e at (item-fine o b p k)
 
-  pub count-range : (lo : ℕ) → run high b (formatOf (Count lo)) p ≡ shows (v ∷ []) q → (lo ≤ v) × (v ≤ 4096)
+  pub count-range : (lo : ℕ) → run o b (formatOf (Count lo)) p ≡ shows (v ∷ []) q → (lo ≤ v) × (v ≤ 4096)
   unfolding rangeFault
   count-range lo e = go (leb lo v) (leb v 4096) refl refl (value-fine (Count lo) e .1)
     where

@@ -10,7 +10,7 @@ use borrow.Author.Tests.{ltb-true, leb-true, lt-ltb, le-ltb, le-leb, lt-leb}
 use native.Mathlib.Nat.{mul-comm, mul-assoc, mul-le-mul-left, le-refl}
 use native.Mathlib.Omega.{arith}
 use Rattle.format.specs.Tests.{pick, _and_}
-use Rattle.format.specs.Bits.{high, ub}
+use Rattle.format.specs.Bits.{Order, ub}
 use Rattle.format.specs.Items.{Num, num, bad, room, carry, readVar}
 use Rattle.format.proofs.EngineLaws.{wrap, wrap-carry}
 use Rattle.bits.proofs.FieldLaws.{ub-first}
@@ -21,14 +21,14 @@ abbrev pub IsByte : List ℕ → ℕ → ℕ → Type 0
 IsByte s i x = (x ≡ getD s i 0) × (x < 256)
 
 module _ (s : List ℕ) (i p : ℕ) (at : p ≡ 8 * i) where
-  pub byte-is : {x : ℕ} → IsByte s i x → ub high s p 8 ≡ x
-  byte-is y = rw at (sym (ub-first s i y))
-
   pub room-is : i < length s → room s p 8 ≡ true
   room-is h = le-leb (p + 8) (8 * length s) (omega arith)
 
   pub room-not : length s ≤ i → room s p 8 ≡ false
   room-not h = lt-leb (p + 8) (8 * length s) (omega arith)
+
+pub byte-is : (o : Order) (s : List ℕ) (i p : ℕ) → p ≡ 8 * i → {x : ℕ} → IsByte s i x → ub o s p 8 ≡ x
+byte-is o s i p at y = rw at (sym (ub-first o s i y))
 
 -- ---- what a spelling of at most k + 1 bytes stays below
 cap-two : (k top : ℕ) → 1 ≤ top → 2 ≤ cap k top
@@ -44,53 +44,53 @@ abbrev pub Below : ℕ → Num → Type 0
 Below n (num v q) = v < n
 Below n (bad e) = Unit {0}
 
-pub var-below : (s : List ℕ) (top p k : ℕ) → 1 ≤ top → Below (cap k top) (readVar high s top p k)
+pub var-below : (o : Order) (s : List ℕ) (top p k : ℕ) → 1 ≤ top → Below (cap k top) (readVar o s top p k)
 unfolding readVar
-var-below s top p zero t = go (room s p 8) (leb (ub high s p 8) top) refl
+var-below o s top p zero t = go (room s p 8) (leb (ub o s p 8) top) refl
   where
-    go : (x y : Bool) → leb (ub high s p 8) top ≡ y → Below (top + 1) (pick x (pick y (num (ub high s p 8) (p + 8)) (bad 14)) (bad 13))
-    go true true e = omega (arith, leb-true (ub high s p 8) top e)
+    go : (x y : Bool) → leb (ub o s p 8) top ≡ y → Below (top + 1) (pick x (pick y (num (ub o s p 8) (p + 8)) (bad 14)) (bad 13))
+    go true true e = omega (arith, leb-true (ub o s p 8) top e)
     go true false e = tt
     go false y e = tt
-var-below s top p (suc k) t = go (room s p 8) (ltb (ub high s p 8) 128) refl (readVar high s top (p + 8) k) (var-below s top (p + 8) k t)
+var-below o s top p (suc k) t = go (room s p 8) (ltb (ub o s p 8) 128) refl (readVar o s top (p + 8) k) (var-below o s top (p + 8) k t)
   where
-    go : (x y : Bool) → ltb (ub high s p 8) 128 ≡ y → (r : Num) → Below (cap k top) r → Below (128 * cap k top) (pick x (pick y (num (ub high s p 8) (p + 8)) (carry (ub high s p 8) r)) (bad 13))
+    go : (x y : Bool) → ltb (ub o s p 8) 128 ≡ y → (r : Num) → Below (cap k top) r → Below (128 * cap k top) (pick x (pick y (num (ub o s p 8) (p + 8)) (carry (ub o s p 8) r)) (bad 13))
     go false y e r h = tt
-    go true true e r h = omega (arith, ltb-true (ub high s p 8) 128 e, cap-two k top t)
+    go true true e r h = omega (arith, ltb-true (ub o s p 8) 128 e, cap-two k top t)
     go true false e (num zero q) h = tt
     go true false e (num (suc v) q) h = omega arith
     go true false e (bad z) h = tt
 
 -- ---- the first byte, and at most k more
-more-is : (s : List ℕ) (top p k : ℕ) → (k ≡ 0 → ⊥)
-    → readVar high s top p k ≡ pick (room s p 8) (pick (ltb (ub high s p 8) 128) (num (ub high s p 8) (p + 8)) (carry (ub high s p 8) (readVar high s top (p + 8) (k - 1)))) (bad 13)
+more-is : (o : Order) (s : List ℕ) (top p k : ℕ) → (k ≡ 0 → ⊥)
+    → readVar o s top p k ≡ pick (room s p 8) (pick (ltb (ub o s p 8) 128) (num (ub o s p 8) (p + 8)) (carry (ub o s p 8) (readVar o s top (p + 8) (k - 1)))) (bad 13)
 unfolding readVar
-more-is s top p zero h = absurd (h refl)
-more-is s top p (suc k) h = let e : suc k - 1 ≡ k = omega arith in rw e
+more-is o s top p zero h = absurd (h refl)
+more-is o s top p (suc k) h = let e : suc k - 1 ≡ k = omega arith in rw e
 
 -- a byte that is not there
-pub var-past : (s : List ℕ) (top i p k : ℕ) → p ≡ 8 * i → length s ≤ i → readVar high s top p k ≡ bad 13
+pub var-past : (o : Order) (s : List ℕ) (top i p k : ℕ) → p ≡ 8 * i → length s ≤ i → readVar o s top p k ≡ bad 13
 unfolding readVar
-var-past s top i p zero at h = rw (room-not s i p at h)
-var-past s top i p (suc k) at h = rw (room-not s i p at h)
+var-past o s top i p zero at h = rw (room-not s i p at h)
+var-past o s top i p (suc k) at h = rw (room-not s i p at h)
 
 -- what the loop knows: the whole is w, a is the sum so far, m is the weight of the next byte, and at most k + 1 bytes from i on are left
-pub record Rest (s : List ℕ) (top : ℕ) (w : Num) (i p k m a : ℕ) : Type 0 where
+pub record Rest (o : Order) (s : List ℕ) (top : ℕ) (w : Num) (i p k m a : ℕ) : Type 0 where
   pub at : p ≡ 8 * i
   pub sum : a < m
   pub fits : m * cap k top ≤ 2 ^ 64
-  pub whole : w ≡ wrap m a (readVar high s top p k)
+  pub whole : w ≡ wrap m a (readVar o s top p k)
 
-module _ (s : List ℕ) (top i p k : ℕ) (at : p ≡ 8 * i) (some : 1 ≤ k) {x : ℕ} (here : i < length s) (y : IsByte s i x) where
-  pub first-last : x < 128 → num x (p + 8) ≡ readVar high s top p k
-  first-last l = sym (rw (more-is s top p k (omega arith), room-is s i p at here, byte-is s i p at y, lt-ltb x 128 l))
+module _ (o : Order) (s : List ℕ) (top i p k : ℕ) (at : p ≡ 8 * i) (some : 1 ≤ k) {x : ℕ} (here : i < length s) (y : IsByte s i x) where
+  pub first-last : x < 128 → num x (p + 8) ≡ readVar o s top p k
+  first-last l = sym (rw (more-is o s top p k (omega arith), room-is s i p at here, byte-is o s i p at y, lt-ltb x 128 l))
 
-  pub first-more : 128 ≤ x → 128 * cap (k - 1) top ≤ 2 ^ 64 → Rest s top (readVar high s top p k) (i + 1) (p + 8) (k - 1) 128 (x - 128)
+  pub first-more : 128 ≤ x → 128 * cap (k - 1) top ≤ 2 ^ 64 → Rest o s top (readVar o s top p k) (i + 1) (p + 8) (k - 1) 128 (x - 128)
   first-more l f = record {
     at = omega arith;
     sum = omega arith;
     fits = f;
-    whole = rw (more-is s top p k (omega arith), room-is s i p at here, byte-is s i p at y, le-ltb x 128 l) (go (readVar high s top (p + 8) (k - 1)));
+    whole = rw (more-is o s top p k (omega arith), room-is s i p at here, byte-is o s i p at y, le-ltb x 128 l) (go (readVar o s top (p + 8) (k - 1)));
   }
     where
       go : (r : Num) → carry x r ≡ wrap 128 (x - 128) r
@@ -119,9 +119,9 @@ end-lt zero top b h t e = go (ltb 0 b) (leb b top) refl e
     go false y f g = absurd (false≢true g)
 end-lt (suc k) top b h t e = omega (arith, cap-two k top t)
 
-module _ {s : List ℕ} {top : ℕ} {w : Num} {i p k m a : ℕ} (u : Rest s top w i p k m a) where
+module _ (o : Order) {s : List ℕ} {top : ℕ} {w : Num} {i p k m a : ℕ} (u : Rest o s top w i p k m a) where
   pub more-past : length s ≤ i → bad 13 ≡ w
-  more-past h = sym (u .whole ∙ ap (wrap m a) (var-past s top i p k (u .at) h))
+  more-past h = sym (u .whole ∙ ap (wrap m a) (var-past o s top i p k (u .at) h))
 
   -- the last digit fits, and so does the next one with the weight after it
   pub last-fits : {x : ℕ} → 1 ≤ top → x < 128 → canEnd k top x ≡ true → a + x * m < 2 ^ 64
@@ -139,16 +139,16 @@ module _ {s : List ℕ} {top : ℕ} {w : Num} {i p k m a : ℕ} (u : Rest s top 
     unfolding readVar canEnd
     more-last l e = rw e (sym (u .whole ∙ go k))
       where
-        go : (k : ℕ) → wrap m a (readVar high s top p k) ≡ pick (canEnd k top x) (num (a + x * m) (p + 8)) (bad 14)
-        go zero = rw (room-is s i p (u .at) here, byte-is s i p (u .at) y) (ended m a x (p + 8) (leb x top))
-        go (suc k) = rw (room-is s i p (u .at) here, byte-is s i p (u .at) y, lt-ltb x 128 l, lt-ltb 0 (suc k) (omega arith)) (ended m a x (p + 8) true)
+        go : (k : ℕ) → wrap m a (readVar o s top p k) ≡ pick (canEnd k top x) (num (a + x * m) (p + 8)) (bad 14)
+        go zero = rw (room-is s i p (u .at) here, byte-is o s i p (u .at) y) (ended m a x (p + 8) (leb x top))
+        go (suc k) = rw (room-is s i p (u .at) here, byte-is o s i p (u .at) y, lt-ltb x 128 l, lt-ltb 0 (suc k) (omega arith)) (ended m a x (p + 8) true)
 
     -- no byte may follow, and one does
     pub more-full : top < 128 → 128 ≤ x → k ≡ 0 → bad 14 ≡ w
     unfolding readVar
-    more-full t l e = sym (u .whole ∙ rw (e, room-is s i p (u .at) here, byte-is s i p (u .at) y, lt-leb x top (omega arith)))
+    more-full t l e = sym (u .whole ∙ rw (e, room-is s i p (u .at) here, byte-is o s i p (u .at) y, lt-leb x top (omega arith)))
 
-    pub more-next : 1 ≤ top → 128 ≤ x → (k ≡ 0 → ⊥) → Rest s top w (i + 1) (p + 8) (k - 1) (m * 128) (a + (x - 128) * m)
+    pub more-next : 1 ≤ top → 128 ≤ x → (k ≡ 0 → ⊥) → Rest o s top w (i + 1) (p + 8) (k - 1) (m * 128) (a + (x - 128) * m)
     more-next t l n =
         let e : x % 128 ≡ x - 128 = omega arith in
         let f = next-fits t (y .1) n in
@@ -156,5 +156,5 @@ module _ {s : List ℕ} {top : ℕ} {w : Num} {i p k m a : ℕ} (u : Rest s top 
           at = omega (arith, u .at);
           sum = f .0;
           fits = f .1;
-          whole = u .whole ∙ rw (more-is s top p k n, room-is s i p (u .at) here, byte-is s i p (u .at) y, le-ltb x 128 l, wrap-carry m a x (readVar high s top (p + 8) (k - 1)), e, mul-comm m (x - 128));
+          whole = u .whole ∙ rw (more-is o s top p k n, room-is s i p (u .at) here, byte-is o s i p (u .at) y, le-ltb x 128 l, wrap-carry m a x (readVar o s top (p + 8) (k - 1)), e, mul-comm m (x - 128));
         }

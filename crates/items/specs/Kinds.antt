@@ -4,7 +4,7 @@ use mathlib.Core.Bool.{Bool}
 use mathlib.Core.List.{List}
 use lib.Dec.{ltb, leb}
 use Rattle.format.specs.Tests.{pick, _and_, _or_}
-use Rattle.format.specs.Bits.{high}
+use Rattle.format.specs.Bits.{Order}
 use Rattle.format.specs.Formats.{Format}
 use Rattle.format.specs.Items.{Num, u32, i32, time, float, byte, enum, count, readU32, readU64, readLE, readUB, mapNum, notOne, sign}
 use Rattle.format.specs.Bodies.{blendMode}
@@ -23,15 +23,15 @@ formatOf BlendMode = blendMode
 formatOf (Count lo) = count lo 4096
 
 -- what its bytes read as, from a whole byte on: all but its range
-abbrev pub spelt : Item → List ℕ → ℕ → Num
-spelt U32 b p = readU32 high b p
-spelt I32 b p = mapNum sign (notOne (readU32 high b p))
-spelt Time b p = readU64 high b p
-spelt Float b p = readLE high b p 4
-spelt Byte b p = readUB high b p 8
-spelt (Enum top) b p = readUB high b p 8
-spelt BlendMode b p = readUB high b p 8
-spelt (Count lo) b p = readU32 high b p
+abbrev pub spelt : Order → Item → List ℕ → ℕ → Num
+spelt o U32 b p = readU32 o b p
+spelt o I32 b p = mapNum sign (notOne (readU32 o b p))
+spelt o Time b p = readU64 o b p
+spelt o Float b p = readLE o b p 4
+spelt o Byte b p = readUB o b p 8
+spelt o (Enum top) b p = readUB o b p 8
+spelt o BlendMode b p = readUB o b p 8
+spelt o (Count lo) b p = readU32 o b p
 
 -- v is from a to z
 abbrev pub between : ℕ → ℕ → ℕ → Bool

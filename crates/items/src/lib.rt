@@ -1,9 +1,8 @@
 // The items that show one number: each starts on a whole byte.
 ghost use mathlib.Core.Path.{_≡_};
 ghost use Prim.Native.Nat.{_*_};
-ghost use Rattle.format.specs.Bits.{high};
 ghost use Rattle.format.specs.Items.{showNum, run, readLE, readUB};
-ghost use Rattle.bits.specs.Places.{PlaceIn, numOf};
+ghost use Rattle.bits.specs.Places.{PlaceIn, numOf, orderOf, InEither};
 ghost use Rattle.items.specs.Kinds.{formatOf, spelt, between as within, rangeFault};
 
 mod var;
@@ -12,6 +11,7 @@ use bits::Aligned;
 use bits::BitPlace;
 use bits::BytePlace;
 use bits::Got;
+use bits::Order;
 
 // An Enum goes from 0 to its top, a Count from its least to 4,096.
 pub enum Item {
@@ -25,10 +25,10 @@ pub enum Item {
     Count(u64),
 }
 
-// One byte.
+// One byte. Whole bytes are the same in either order.
 fn read_byte(body: &[u8], byte: BytePlace, bit: BitPlace) -> Got
     requires { ⌜ PlaceIn (now body) (bit .0) × (bit .0 ≡ 8 * byte .0) ⌝ }
-    ensures { λ r. ⌜ numOf r ≡ readUB high (now (body .entry)) (bit .0) 8 ⌝ }
+    ensures { λ r. ⌜ InEither (λ o. numOf r ≡ readUB o (now (body .entry)) (bit .0) 8) ⌝ }
 {
     let i = byte.0;
     if body.len() <= i {
@@ -40,7 +40,7 @@ fn read_byte(body: &[u8], byte: BytePlace, bit: BitPlace) -> Got
 // A Float: four bytes, lowest first, kept as their pattern.
 fn read_float(body: &[u8], byte: BytePlace, bit: BitPlace) -> Got
     requires { ⌜ PlaceIn (now body) (bit .0) × (bit .0 ≡ 8 * byte .0) ⌝ }
-    ensures { λ r. ⌜ numOf r ≡ readLE high (now (body .entry)) (bit .0) 4 ⌝ }
+    ensures { λ r. ⌜ InEither (λ o. numOf r ≡ readLE o (now (body .entry)) (bit .0) 4) ⌝ }
 {
     let i = byte.0;
     if body.len() - i < 4 {
@@ -59,7 +59,7 @@ fn read_float(body: &[u8], byte: BytePlace, bit: BitPlace) -> Got
 // An item's bytes (13) and their spelling (14), from a whole byte on.
 fn read_spelling(kind: Item, body: &[u8], byte: BytePlace, bit: BitPlace) -> Got
     requires { ⌜ PlaceIn (now body) (bit .0) × (bit .0 ≡ 8 * byte .0) ⌝ }
-    ensures { λ r. ⌜ numOf r ≡ spelt kind (now (body .entry)) (bit .0) ⌝ }
+    ensures { λ r. ⌜ InEither (λ o. numOf r ≡ spelt o kind (now (body .entry)) (bit .0)) ⌝ }
 {
     match kind {
         Item::U32 => var::read_u32(body, byte, bit),
@@ -103,11 +103,11 @@ pub fn out_of_range(kind: Item, value: u64) -> u32
 }
 
 // An item: skipped bits (15), its bytes (13), its spelling (14), its range (16, 17).
-pub fn read_item(kind: Item, body: &[u8], at: BitPlace) -> Got
+pub fn read_item(order: Order, kind: Item, body: &[u8], at: BitPlace) -> Got
     requires { ⌜ PlaceIn (now body) (at .0) ⌝ }
-    ensures { λ r. ⌜ showNum (numOf r) ≡ run high (now (body .entry)) (formatOf kind) (at .0) ⌝ }
+    ensures { λ r. ⌜ showNum (numOf r) ≡ run (orderOf order) (now (body .entry)) (formatOf kind) (at .0) ⌝ }
 {
-    let aligned = bits::align(body, at);
+    let aligned = bits::align(order, body, at);
     let Aligned::Clean(byte, bit) = aligned else {
         return Got::Fault(15);
     };

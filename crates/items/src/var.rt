@@ -1,9 +1,8 @@
 // U32, U64 and I32: seven bits a byte, lowest first, top bit set when more follow.
 ghost use mathlib.Core.Path.{_≡_};
 ghost use Prim.Native.Nat.{_-_, _*_, _^_, _≤_, _<_};
-ghost use Rattle.format.specs.Bits.{high};
 ghost use Rattle.format.specs.Items.{readVar, readU32, readU64, notOne, mapNum, sign};
-ghost use Rattle.bits.specs.Places.{PlaceIn, numOf};
+ghost use Rattle.bits.specs.Places.{PlaceIn, numOf, InEither};
 ghost use Rattle.items.specs.Kinds.{canEnd, cap};
 use bits::BitPlace;
 use bits::BytePlace;
@@ -22,7 +21,7 @@ fn ends(byte: u64, left: u64, top: u64) -> bool
 // A first byte, and at most `most` more, the last of these at most `top`.
 fn read_var(body: &[u8], byte: BytePlace, bit: BitPlace, most: u64, top: u64) -> Got
     requires { ⌜ PlaceIn (now body) (bit .0) × (bit .0 ≡ 8 * byte .0) × (1 ≤ most) × (1 ≤ top) × (top < 128) × (128 * cap (most - 1) top ≤ 2 ^ 64) ⌝ }
-    ensures { λ r. ⌜ numOf r ≡ readVar high (now (body .entry)) top (bit .0) most ⌝ }
+    ensures { λ r. ⌜ InEither (λ o. numOf r ≡ readVar o (now (body .entry)) top (bit .0) most) ⌝ }
 {
     let mut i = byte.0;
     let mut next = bit.0;
@@ -63,7 +62,7 @@ fn read_var(body: &[u8], byte: BytePlace, bit: BitPlace, most: u64, top: u64) ->
 // U32: at most 5 bytes, the fifth at most 15.
 pub(crate) fn read_u32(body: &[u8], byte: BytePlace, bit: BitPlace) -> Got
     requires { ⌜ PlaceIn (now body) (bit .0) × (bit .0 ≡ 8 * byte .0) ⌝ }
-    ensures { λ r. ⌜ numOf r ≡ readU32 high (now (body .entry)) (bit .0) ⌝ }
+    ensures { λ r. ⌜ InEither (λ o. numOf r ≡ readU32 o (now (body .entry)) (bit .0)) ⌝ }
 {
     read_var(body, byte, bit, 4, 15)
 }
@@ -71,7 +70,7 @@ pub(crate) fn read_u32(body: &[u8], byte: BytePlace, bit: BitPlace) -> Got
 // U64: at most 10 bytes, the tenth at most 1.
 pub(crate) fn read_u64(body: &[u8], byte: BytePlace, bit: BitPlace) -> Got
     requires { ⌜ PlaceIn (now body) (bit .0) × (bit .0 ≡ 8 * byte .0) ⌝ }
-    ensures { λ r. ⌜ numOf r ≡ readU64 high (now (body .entry)) (bit .0) ⌝ }
+    ensures { λ r. ⌜ InEither (λ o. numOf r ≡ readU64 o (now (body .entry)) (bit .0)) ⌝ }
 {
     read_var(body, byte, bit, 9, 1)
 }
@@ -79,7 +78,7 @@ pub(crate) fn read_u64(body: &[u8], byte: BytePlace, bit: BitPlace) -> Got
 // I32: a U32 d; the magnitude is d / 2, odd d is negative, minus zero is refused.
 pub(crate) fn read_i32(body: &[u8], byte: BytePlace, bit: BitPlace) -> Got
     requires { ⌜ PlaceIn (now body) (bit .0) × (bit .0 ≡ 8 * byte .0) ⌝ }
-    ensures { λ r. ⌜ numOf r ≡ mapNum sign (notOne (readU32 high (now (body .entry)) (bit .0))) ⌝ }
+    ensures { λ r. ⌜ InEither (λ o. numOf r ≡ mapNum sign (notOne (readU32 o (now (body .entry)) (bit .0)))) ⌝ }
 {
     let r = read_u32(body, byte, bit);
     let Got::Value(d, next) = r else {

@@ -5,7 +5,6 @@ use mathlib.Core.Path.{_≡_, refl, ap, sym, _∙_}
 use native.Mathlib.Omega.{arith}
 use lib.ListN.{length, take, length-append}
 use borrow.Author.Tests.{le-ltb, lt-ltb, le-leb}
-use Rattle.format.specs.Bits.{high}
 use Rattle.format.specs.FileAndTags.{Tag, Outcome, whole, fault, Walk}
 use Rattle.format.specs.TableOfNumbers.{numbers, table, tagTable}
 use Rattle.format.specs.Reasons.{walkFile, Result, gives, result, readFile, readTags, accepted, Left, accepts, refusesWith, into}
@@ -37,29 +36,29 @@ tags-counted (t ∷ ts) =
 
 -- ---- the program: the input f is not too long, `read` is lent m with room for 8,192 numbers, `tags` is lent g with room for 13,650
 abbrev walked : List ℕ → Walk
-walked f = walkFile high 1023 f
+walked f = walkFile 0 1023 f
 
 module _ (f m g : List ℕ) (short : length f ≤ 32768) (room : length m ≡ 8192) (rows : 13650 ≤ length g) where
-  printed-short : printed f ≡ answered f (readFile high 1023 f)
+  printed-short : printed f ≡ answered f (readFile 0 1023 f)
   printed-short = rw (le-ltb 32768 (length f) short)
 
-  printed-table : (ns : List ℕ) → length ns ≤ 8192 → readFile high 1023 f ≡ gives ns → printed f ≡ listing f (walked f)
+  printed-table : (ns : List ℕ) → length ns ≤ 8192 → readFile 0 1023 f ≡ gives ns → printed f ≡ listing f (walked f)
   printed-table ns h e = printed-short ∙ ap (answered f) e ∙ rw (le-ltb 8192 (length ns) h)
 
   -- `read` refused: the line of that refusal is all that is printed
-  pub refusal-printed : (m′ : List ℕ) (e n : ℕ) → into m (readFile high 1023 f) ≡ refusesWith m′ e n → refusal e n ≡ printed f
-  refusal-printed m′ e n h = go (readFile high 1023 f) refl (kept m (readFile high 1023 f) (sym h) refl .why)
+  pub refusal-printed : (m′ : List ℕ) (e n : ℕ) → into m (readFile 0 1023 f) ≡ refusesWith m′ e n → refusal e n ≡ printed f
+  refusal-printed m′ e n h = go (readFile 0 1023 f) refl (kept m (readFile 0 1023 f) (sym h) refl .why)
     where
-      go : (R : Result) → readFile high 1023 f ≡ R → Why m e n R → refusal e n ≡ printed f
+      go : (R : Result) → readFile 0 1023 f ≡ R → Why m e n R → refusal e n ≡ printed f
       go R d faulty = sym (printed-short ∙ ap (answered f) d)
       go R d (full {ns = ns} a b c) = rw (a, b) (sym (printed-short ∙ ap (answered f) d ∙ rw (lt-ltb 8192 (length ns) (omega (arith, c)))))
 
   -- `read` accepted: the walk is whole, and its table stands in front
-  module _ {m′ : List ℕ} {k : ℕ} (read : into m (readFile high 1023 f) ≡ accept k m′) where
+  module _ {m′ : List ℕ} {k : ℕ} (read : into m (readFile 0 1023 f) ≡ accept k m′) where
     table-left : (walked f .ended ≡ whole) × (take k m′ ≡ table f (walked f)) × (length (table f (walked f)) ≤ 8192)
     unfolding readFile
     table-left =
-        let u : Filled m m′ (readFile high 1023 f) k = filled m (readFile high 1023 f) (sym read) refl in
+        let u : Filled m m′ (readFile 0 1023 f) k = filled m (readFile 0 1023 f) (sym read) refl in
         go (walked f .ended) (u .shows) (u .count) (u .room)
       where
         go : (z : Outcome) → result (table f (walked f)) z ≡ gives (take k m′) → length (take k m′) ≡ k → k ≤ length m
@@ -67,23 +66,23 @@ module _ (f m g : List ℕ) (short : length f ≤ 32768) (room : length m ≡ 81
         go (fault e n) d c r = clash cc
         go whole d c r = let t : take k m′ ≡ table f (walked f) = cc in (refl, t, omega (arith, ap length t, c, r))
 
-    tags-are : readTags high 1023 f ≡ gives (tagTable (walked f .tags))
+    tags-are : readTags 0 1023 f ≡ gives (tagTable (walked f .tags))
     unfolding readTags
     tags-are = ap (result (tagTable (walked f .tags))) (table-left .0)
 
     -- `tags` accepts too
-    pub tags-accepted : into g (readTags high 1023 f) ≡ accepts g (tagTable (walked f .tags))
+    pub tags-accepted : into g (readTags 0 1023 f) ≡ accepts g (tagTable (walked f .tags))
     tags-accepted =
         let v : (3 * length (walked f .tags) ≤ length (numbers (walked f .tags))) × (length (tagTable (walked f .tags)) ≡ 5 * length (walked f .tags)) = tags-counted (walked f .tags) in
         ap (into g) tags-are ∙ rw (le-leb (length (tagTable (walked f .tags))) (length g) (omega (arith, table-left .2, v)))
 
     -- and the listing of what both left is printed
-    pub listing-printed : (g′ : List ℕ) (j : ℕ) → into g (readTags high 1023 f) ≡ accept j g′ → tableListing (length f) (take k m′) (take j g′) ≡ printed f
+    pub listing-printed : (g′ : List ℕ) (j : ℕ) → into g (readTags 0 1023 f) ≡ accept j g′ → tableListing (length f) (take k m′) (take j g′) ≡ printed f
     unfolding readFile
     listing-printed g′ j h =
-        let a : gives (tagTable (walked f .tags)) ≡ gives (take j g′) = sym tags-are ∙ filled g (readTags high 1023 f) (sym h) refl .shows in
+        let a : gives (tagTable (walked f .tags)) ≡ gives (take j g′) = sym tags-are ∙ filled g (readTags 0 1023 f) (sym h) refl .shows in
         let v : take j g′ ≡ tagTable (walked f .tags) = cc in
-        rw (table-left .1, v) (listed f (walked f) (good-start 1023 f (whole-start 1023 f high (table-left .0)) .version))
+        rw (table-left .1, v) (listed f (walked f) (good-start 0 1023 f (whole-start 0 1023 f (table-left .0)) .version))
         ∙ sym (printed-table (table f (walked f)) (table-left .2) (ap (result (table f (walked f))) (table-left .0)))
 
 -- the input is longer

@@ -4,7 +4,6 @@ use mathlib.Core.List.{List, [], _∷_, _++_, map}
 use lib.ListN.{length, getD}
 use lib.Dec.{ltb}
 use Rattle.format.specs.Tests.{pick}
-use Rattle.format.specs.Bits.{high}
 use Rattle.format.specs.FileAndTags.{compression, Tag, Walk}
 use Rattle.format.specs.Reasons.{Result, gives, refuses, walkFile, readFile}
 use Rattle.listing.specs.Decimal.{decimal}
@@ -40,9 +39,9 @@ tooLong = line (0x74 ∷ 0x6F ∷ 0x6F ∷ 0x20 ∷ 0x6C ∷ 0x6F ∷ 0x6E ∷ 0
 
 -- ---- The program reads at most 32,768 bytes at level 1023; a file needing more than 8,192 numbers is refused by 19.
 abbrev pub answered : List ℕ → Result → List ℕ
-answered f (gives t) = pick (ltb 8192 (length t)) (refusal 19 (length t)) (listing f (walkFile high 1023 f))
+answered f (gives t) = pick (ltb 8192 (length t)) (refusal 19 (length t)) (listing f (walkFile 0 1023 f))
 answered f (refuses e n) = refusal e n
 
 -- all that is printed for the input f
 abbrev pub printed : List ℕ → List ℕ
-printed f = pick (ltb 32768 (length f)) tooLong (answered f (readFile high 1023 f))
+printed f = pick (ltb 32768 (length f)) tooLong (answered f (readFile 0 1023 f))

@@ -10,7 +10,7 @@ use lib.Seq.{sets, length-sets, length-take-le, drop-drop, drop-length, take-all
 use lib.Dec.{eqb}
 use borrow.Author.Tests.{eqb-true, eqb-false}
 use Rattle.format.specs.Tests.{pick}
-use Rattle.format.specs.Bits.{high}
+use Rattle.format.specs.Bits.{Order}
 use Rattle.format.specs.Reading.{Ending, At, Fault}
 use Rattle.format.specs.Items.{run, toByte}
 use Rattle.format.specs.Bodies.{readBody}
@@ -79,19 +79,19 @@ walkOf R Container a s body (At p) = R (paper.inside a) (s + toByte p) (drop (to
 walkOf R Fixed a s body (At p) = noTags whole
 walkOf R Attributes a s body (At p) = noTags whole
 
-abbrev insideOf : (paper.Owner → ℕ → List ℕ → Walk) → Class → ℕ → ℕ → ℕ → List ℕ → TagInside
-insideOf R c code a s body =
-    record { state = stateOf c; values = valuesOf c code body .shown; walk = walkOf R c a s body (valuesOf c code body .ended) }
+abbrev insideOf : Order → (paper.Owner → ℕ → List ℕ → Walk) → Class → ℕ → ℕ → ℕ → List ℕ → TagInside
+insideOf o R c code a s body =
+    record { state = stateOf c; values = valuesOf o c code body .shown; walk = walkOf R c a s body (valuesOf o c code body .ended) }
 
 -- the code's bodies and fronts are the classes'
 right : Right leafBody (λ code. container (fixedOf code))
 unfolding leafBody fixedOf attributesOf
 right = refl
 
-within-is : (R : paper.Owner → ℕ → List ℕ → Walk) (scope : Scope) (level code a s : ℕ) (body : List ℕ)
-    → within high R (classBy scope level code) a s body ≡ insideOf R (named (classBy scope level code)) code a s body
-within-is R scope level code a s body =
-    ap (λ (c : paper.Class). within high R c a s body) (taken-by leafBody fixedOf right scope level code) ∙ go (named (classBy scope level code))
+within-is : (o : Order) (R : paper.Owner → ℕ → List ℕ → Walk) (scope : Scope) (level code a s : ℕ) (body : List ℕ)
+    → within o R (classBy scope level code) a s body ≡ insideOf o R (named (classBy scope level code)) code a s body
+within-is o R scope level code a s body =
+    ap (λ (c : paper.Class). within o R c a s body) (taken-by leafBody fixedOf right scope level code) ∙ go (named (classBy scope level code))
   where
     leaf : (xs : List ℕ) (z : Ending) → _≡_ {A = TagInside} (record { state = 1; values = xs; walk = noTags (endAt a z) }) (record { state = 1; values = xs; walk = walkOf R Fixed a s body z })
     leaf xs (At p) = refl
@@ -105,33 +105,33 @@ within-is R scope level code a s body =
     leaf-too xs (At p) = refl
     leaf-too xs (Fault e) = refl
 
-    go : (c : Class) → within high R (spelt leafBody (λ code. container (fixedOf code)) c code) a s body ≡ insideOf R c code a s body
+    go : (c : Class) → within o R (spelt leafBody (λ code. container (fixedOf code)) c code) a s body ≡ insideOf o R c code a s body
     go Opaque = refl
     go End = refl
-    go Container = fronted (run high body (front (fixedOf code)) 0 .shown) (run high body (front (fixedOf code)) 0 .ended)
-    go Fixed = leaf (readBody high (leafBody code) body .shown) (readBody high (leafBody code) body .ended)
-    go Attributes = leaf-too (readBody high (leafBody code) body .shown) (readBody high (leafBody code) body .ended)
+    go Container = fronted (run o body (front (fixedOf code)) 0 .shown) (run o body (front (fixedOf code)) 0 .ended)
+    go Fixed = leaf (readBody o (leafBody code) body .shown) (readBody o (leafBody code) body .ended)
+    go Attributes = leaf-too (readBody o (leafBody code) body .shown) (readBody o (leafBody code) body .ended)
 
 -- what a step says of the class c and of the walk w inside the tag, whose body stands from `start` up to `stop` of the list at place a
 abbrev Follows : (paper.Owner → ℕ → List ℕ → Walk) → ℕ → ℕ → ℕ → ℕ → List ℕ → Class → Walk → ℕ → Step → Type 0
 Follows R a place start stop body c w j (step.Fault e) = w ≡ broken e place
 Follows R a place start stop body c w j (step.Next p n) = (p .0 ≡ stop) × (n ≡ j) × (ends c ≡ false) × (w ≡ noTags whole)
 Follows R a place start stop body c w j (step.Last p n) = (p .0 ≡ stop) × (n ≡ j) × (ends c ≡ true) × (w ≡ noTags whole)
-Follows R a place start stop body c w j (step.Open o) =
-    (o .stop .0 ≡ stop) × (o .behind ≡ j) × (ends c ≡ false) × (contains c ≡ true) × (start ≤ o .list .0) × (o .list .0 ≤ start + length body)
-    × (w ≡ R (paper.inside place) (a + o .list .0) (drop (o .list .0 - start) body))
+Follows R a place start stop body c w j (step.Open x) =
+    (x .stop .0 ≡ stop) × (x .behind ≡ j) × (ends c ≡ false) × (contains c ≡ true) × (start ≤ x .list .0) × (x .list .0 ≤ start + length body)
+    × (w ≡ R (paper.inside place) (a + x .list .0) (drop (x .list .0 - start) body))
 
-follows : (R : paper.Owner → ℕ → List ℕ → Walk) (a place start stop code j : ℕ) (body : List ℕ) (c : Class)
-    → Follows R a place start stop body c (walkOf R c place (a + start) body (valuesOf c code body .ended)) j (stepOf c start stop j (valuesOf c code body .ended))
-follows R a place start stop code j body c = go c (valuesOf c code body .ended) refl
+follows : (o : Order) (R : paper.Owner → ℕ → List ℕ → Walk) (a place start stop code j : ℕ) (body : List ℕ) (c : Class)
+    → Follows R a place start stop body c (walkOf R c place (a + start) body (valuesOf o c code body .ended)) j (stepOf c start stop j (valuesOf o c code body .ended))
+follows o R a place start stop code j body c = go c (valuesOf o c code body .ended) refl
   where
-    go : (c : Class) (z : Ending) → valuesOf c code body .ended ≡ z → Follows R a place start stop body c (walkOf R c place (a + start) body z) j (stepOf c start stop j z)
+    go : (c : Class) (z : Ending) → valuesOf o c code body .ended ≡ z → Follows R a place start stop body c (walkOf R c place (a + start) body z) j (stepOf c start stop j z)
     go Opaque (At p) e = (refl, refl, refl, refl)
     go Opaque (Fault x) e = refl
     go End (At p) e = (refl, refl, refl, refl)
     go End (Fault x) e = refl
     go Container (At p) e =
-        let l : (0 ≤ p) × (p ≤ 8 * length body) = run-le high body (front (fixedOf code)) 0 p (omega arith) e in
+        let l : (0 ≤ p) × (p ≤ 8 * length body) = run-le o body (front (fixedOf code)) 0 p (omega arith) e in
         let q : start + p / 8 - start ≡ p / 8 = omega arith in
         let r : a + start + p / 8 ≡ a + (start + p / 8) = omega arith in
         (refl, refl, refl, refl, omega arith, omega (arith, l .1), rw (q, r))
@@ -148,12 +148,12 @@ listed-eq : {t t′ g g′ : List ℕ} {x x′ : Walked} → t ≡ t′ → g �
 listed-eq p q r = λ i. record { table = p i; rows = q i; answer = r i }
 
 -- the list of the owner at place a, whose room is r, over the tables t₀ from k on and g₀ from m on
-module _ (scope : Scope) (level depths : ℕ) (own : paper.Owner) (a : ℕ) (r t₀ : List ℕ) (k : ℕ) (g₀ : List ℕ) (m : ℕ) where
+module _ (o : Order) (scope : Scope) (level depths : ℕ) (own : paper.Owner) (a : ℕ) (r t₀ : List ℕ) (k : ℕ) (g₀ : List ℕ) (m : ℕ) where
   abbrev from : ℕ → Walk
-  from i = walkList high (classBy scope level) depths own (a + i) (drop i r)
+  from i = walkList o (classBy scope level) depths own (a + i) (drop i r)
 
   abbrev all : Walk
-  all = walkList high (classBy scope level) depths own a r
+  all = walkList o (classBy scope level) depths own a r
 
   -- some tags were passed, and `rest` is the walk of what is left
   pub record Passed (t g : List ℕ) (j w : ℕ) (rest : Walk) : Type 0 where
@@ -183,11 +183,11 @@ module _ (scope : Scope) (level depths : ℕ) (own : paper.Owner) (a : ℕ) (r t
   -- the indexes stay in the list's room
   pub passed-room : {t g : List ℕ} {j w : ℕ} (rest : Walk) → Passed t g j w rest → (j ≤ k + 8 * length r) × (w ≤ m + 5 * length r)
   passed-room rest s =
-      let u : Room high (length r) all = walk-room high (classBy scope level) (fair-by high scope level) (length r) depths own a r in
+      let u : Room (length r) all = walk-room o (classBy scope level) (fair-by o scope level) (length r) depths own a r in
       let ns : length (numbers (all .tags)) ≡ length (numbers (s .tags)) + length (numbers (rest .tags)) =
       ap (λ (w : Walk). length (numbers (w .tags))) (s .split) ∙ ap length (numbers-append (s .tags) (rest .tags)) ∙ length-append (numbers (s .tags)) (numbers (rest .tags)) in
       let ts : length (all .tags) ≡ length (s .tags) + length (rest .tags) = ap (λ (w : Walk). length (w .tags)) (s .split) ∙ length-append (s .tags) (rest .tags) in
-      (omega (arith, s .index, u .count, ns), omega (arith, s .row, u .tags, ts, tag-table-length high (s .tags)))
+      (omega (arith, s .index, u .count, ns), omega (arith, s .row, u .tags, ts, tag-table-length (s .tags)))
 
   -- ---- the end
   pub passed-fault : {t g : List ℕ} {j w : ℕ} (rest : Walk) {e n : ℕ} → Passed t g j w rest → rest ≡ broken e n → listed t g (walked.Fault e (byteAt n)) ≡ walkOver t₀ k g₀ m all
@@ -243,7 +243,7 @@ module _ (scope : Scope) (level depths : ℕ) (own : paper.Owner) (a : ℕ) (r t
       go : (z : Outcome) → Passed t g j w (chain (inner .tags) z rest) → walked.Fault x n ≡ walkedOf (j + length (numbers (inner .tags))) (w + length (tagTable (inner .tags))) z
           → listed t′ g′ (walked.Fault x n) ≡ walkOver t₀ k g₀ m all
       go whole s f = cc
-      go (fault y o) s f =
+      go (fault y z) s f =
           ap (λ (v : Walked). listed t′ g′ v) f ∙ passed-cut (inner .tags) rest s (ap (λ (l : Listed). l .table) e) (ap (λ (l : Listed). l .rows) e)
 
   -- the walk of what is left, put otherwise
@@ -268,7 +268,7 @@ module _ (scope : Scope) (level depths : ℕ) (own : paper.Owner) (a : ℕ) (r t
   used-up {t} {g} {i} {j} {w} go l {n} e =
       let z : i ≡ length r = omega (arith, go .inside) in
       let d : drop i r ≡ [] = rw z (drop-length r) in
-      let f : from i ≡ broken 7 (blame own (a + i)) = rw d (list-nil high (classBy scope level) depths own (a + i)) in
+      let f : from i ≡ broken 7 (blame own (a + i)) = rw d (list-nil o (classBy scope level) depths own (a + i)) in
       passed-fault (from i) (go .passed) (f ∙ ap (λ (x : ℕ). broken 7 (blame own (a + x))) z ∙ ap (broken 7) (sym e))
 
   -- the tag at i is a container, whose list has the room from l up to p; n and m′ are the next indexes
@@ -278,8 +278,8 @@ module _ (scope : Scope) (level depths : ℕ) (own : paper.Owner) (a : ℕ) (r t
     pub order : l ≤ p
     pub inside : p ≤ length r
     pub passed : Passed t g n m′
-        (chain (walkList high (classBy scope level) (pred depths) (paper.inside (a + i)) (a + l) (piece l p r) .tags)
-        (walkList high (classBy scope level) (pred depths) (paper.inside (a + i)) (a + l) (piece l p r) .ended) (from p))
+        (chain (walkList o (classBy scope level) (pred depths) (paper.inside (a + i)) (a + l) (piece l p r) .tags)
+        (walkList o (classBy scope level) (pred depths) (paper.inside (a + i)) (a + l) (piece l p r) .ended) (from p))
 
   -- ---- the tag at i
   module _ {t g : List ℕ} {i j w : ℕ} (going : Going t g i j w) (some : i < length r) where
@@ -287,7 +287,7 @@ module _ (scope : Scope) (level depths : ℕ) (own : paper.Owner) (a : ℕ) (r t
     left-over = rw length-drop (omega arith)
 
     head-fault : {e : ℕ} → readHead (classBy scope level) depths (drop i r) ≡ noHead e → listed t g (walked.Fault e (byteAt (a + i))) ≡ walkOver t₀ k g₀ m all
-    head-fault {e} is = passed-fault (from i) (going .passed) (list-fault high (classBy scope level) depths own (a + i) (drop i r) e left-over is)
+    head-fault {e} is = passed-fault (from i) (going .passed) (list-fault o (classBy scope level) depths own (a + i) (drop i r) e left-over is)
 
     -- its header passes
     module _ {code len size : ℕ} (stands : readHead (classBy scope level) depths (drop i r) ≡ head code len size) where
@@ -295,7 +295,7 @@ module _ (scope : Scope) (level depths : ℕ) (own : paper.Owner) (a : ℕ) (r t
       fits = subst (Fits (classBy scope level) depths (drop i r)) stands (head-fits (classBy scope level) depths (drop i r))
 
       abbrev R : paper.Owner → ℕ → List ℕ → Walk
-      R = walkList high (classBy scope level) (pred depths)
+      R = walkList o (classBy scope level) (pred depths)
 
       abbrev start : ℕ
       start = i + size
@@ -310,19 +310,19 @@ module _ (scope : Scope) (level depths : ℕ) (own : paper.Owner) (a : ℕ) (r t
       c = named (classBy scope level code)
 
       abbrev inner : Walk
-      inner = walkOf R c (a + i) (a + start) body (valuesOf c code body .ended)
+      inner = walkOf R c (a + i) (a + start) body (valuesOf o c code body .ended)
 
       abbrev later : Bool → Walk
-      later b = afterTag b own (a + stop) (drop stop r) (walkList high (classBy scope level) depths own)
+      later b = afterTag b own (a + stop) (drop stop r) (walkList o (classBy scope level) depths own)
 
       abbrev t′ : List ℕ
-      t′ = sets t j (tagShown c code body .shown)
+      t′ = sets t j (tagShown o c code body .shown)
 
       abbrev g′ : List ℕ
       g′ = sets g w ((8 - depths) ∷ code ∷ (a + i) ∷ size ∷ len ∷ [])
 
       abbrev j′ : ℕ
-      j′ = j + length (tagShown c code body .shown)
+      j′ = j + length (tagShown o c code body .shown)
 
       stop-fits : (i < stop) × (stop ≤ length r)
       stop-fits = (omega (arith, fits .0), omega (arith, fits .1, length-drop i r))
@@ -330,23 +330,23 @@ module _ (scope : Scope) (level depths : ℕ) (own : paper.Owner) (a : ℕ) (r t
       body-length : length body ≡ len
       body-length = length-take-le len (drop size (drop i r)) (rw (length-drop, length-drop) (omega (arith, stop-fits .1)))
 
-      tag-is : from i ≡ tagThen (8 - depths) code (a + i) size len (insideOf R c code (a + i) (a + start) body) (later (ends c))
+      tag-is : from i ≡ tagThen (8 - depths) code (a + i) size len (insideOf o R c code (a + i) (a + start) body) (later (ends c))
       tag-is =
           let p : a + i + size ≡ a + start = omega arith in
           let q : a + i + size + len ≡ a + stop = omega arith in
           let n : i + (size + len) ≡ stop = omega arith in
           let d : drop (size + len) (drop i r) ≡ drop stop r = drop-drop (size + len) i r ∙ ap (λ (n : ℕ). drop n r) n in
-          list-tag high (classBy scope level) depths own (a + i) (drop i r) code len size left-over stands
-          ∙ rw (q, p, d, ends-named (classBy scope level code), within-is R scope level code (a + i) (a + start) body)
+          list-tag o (classBy scope level) depths own (a + i) (drop i r) code len size left-over stands
+          ∙ rw (q, p, d, ends-named (classBy scope level code), within-is o R scope level code (a + i) (a + start) body)
 
       tag-passed : Passed t′ g′ j′ (w + 5) (chain (inner .tags) (inner .ended) (later (ends c)))
-      tag-passed = passed-tag (8 - depths) code (a + i) size len (insideOf R c code (a + i) (a + start) body) (later (ends c))
-          (passed-as (from i) (tagThen (8 - depths) code (a + i) size len (insideOf R c code (a + i) (a + start) body) (later (ends c))) tag-is (going .passed)) refl refl (omega arith) refl
+      tag-passed = passed-tag (8 - depths) code (a + i) size len (insideOf o R c code (a + i) (a + start) body) (later (ends c))
+          (passed-as (from i) (tagThen (8 - depths) code (a + i) size len (insideOf o R c code (a + i) (a + start) body) (later (ends c))) tag-is (going .passed)) refl refl (omega arith) refl
 
       -- the step after it
-      module _ (S : Step) (next : S ≡ stepOf c start stop j′ (valuesOf c code body .ended)) where
+      module _ (S : Step) (next : S ≡ stepOf c start stop j′ (valuesOf o c code body .ended)) where
         tag-follows : Follows R a (a + i) start stop body c inner j′ S
-        tag-follows = subst (Follows R a (a + i) start stop body c inner j′) (sym next) (follows R a (a + i) start stop code j′ body c)
+        tag-follows = subst (Follows R a (a + i) start stop body c inner j′) (sym next) (follows o R a (a + i) start stop code j′ body c)
 
         -- a reason
         stood-fault : {e : ℕ} → S ≡ step.Fault e → listed t′ g′ (walked.Fault e (byteAt (a + i))) ≡ walkOver t₀ k g₀ m all
@@ -359,14 +359,14 @@ module _ (scope : Scope) (level depths : ℕ) (own : paper.Owner) (a : ℕ) (r t
         nothing-inside {b} e f = ap (λ (v : Walk). chain (v .tags) (v .ended) (later (ends c))) f ∙ ap (λ (x : Bool). chain [] whole (later x)) e
 
         -- End
-        stood-last : {p : BytePlace} {n : ℕ} {x : Walked} (o : Owner) → own ≡ ownerOf o → S ≡ step.Last p n → x ≡ lastOf o a (p .0) (length r) n (w + 5) → listed t′ g′ x ≡ walkOver t₀ k g₀ m all
-        stood-last {p} {n} {x} o is z e =
+        stood-last : {p : BytePlace} {n : ℕ} {x : Walked} (own′ : Owner) → own ≡ ownerOf own′ → S ≡ step.Last p n → x ≡ lastOf own′ a (p .0) (length r) n (w + 5) → listed t′ g′ x ≡ walkOver t₀ k g₀ m all
+        stood-last {p} {n} {x} own′ is z e =
             let f : (p .0 ≡ stop) × (n ≡ j′) × (ends c ≡ true) × (inner ≡ noTags whole) = subst (Follows R a (a + i) start stop body c inner j′) z tag-follows in
             ap (listed t′ g′) (e ∙ rw (f .0, f .1)) ∙ go (eqb stop (length r)) refl (drop stop r) refl
             (passed-as (chain (inner .tags) (inner .ended) (later (ends c))) (later true) (nothing-inside (f .2) (f .3)) tag-passed)
           where
             go : (y : Bool) → eqb stop (length r) ≡ y → (q : List ℕ) → drop stop r ≡ q → Passed t′ g′ j′ (w + 5) (atEnd own (a + stop) (drop stop r))
-                → listed t′ g′ (pick y (walked.Next j′ (w + 5)) (walked.Fault 11 (byteAt (blame (ownerOf o) (a + stop))))) ≡ walkOver t₀ k g₀ m all
+                → listed t′ g′ (pick y (walked.Next j′ (w + 5)) (walked.Fault 11 (byteAt (blame (ownerOf own′) (a + stop))))) ≡ walkOver t₀ k g₀ m all
             go true u [] v s = passed-whole (atEnd own (a + stop) (drop stop r)) s (ap (atEnd own (a + stop)) v)
             go true u (y ∷ q) v s = absurd (omega (arith, eqb-true stop (length r) u, ap length v, length-drop stop r))
             go false u [] v s = absurd (eqb-false stop (length r) u (omega (arith, ap length v, length-drop stop r, stop-fits .1)))
@@ -384,10 +384,10 @@ module _ (scope : Scope) (level depths : ℕ) (own : paper.Owner) (a : ℕ) (r t
             rw (f .0, f .1) (stop-fits .0, record { inside = stop-fits .1; passed = passed-as (chain (inner .tags) (inner .ended) (later (ends c))) (from stop) (nothing-inside (f .2) (f .3)) tag-passed })
 
         -- a container: its list starts at l
-        stood-open : (o : Opened) → S ≡ step.Open o → Opens t′ g′ i (o .list .0) (o .stop .0) (o .behind) (w + 5)
-        stood-open o z =
-            let l : ℕ = o .list .0 in
-            let f : (o .stop .0 ≡ stop) × (o .behind ≡ j′) × (ends c ≡ false) × (contains c ≡ true) × (start ≤ l) × (l ≤ start + length body) × (inner ≡ R (paper.inside (a + i)) (a + l) (drop (l - start) body)) =
+        stood-open : (op : Opened) → S ≡ step.Open op → Opens t′ g′ i (op .list .0) (op .stop .0) (op .behind) (w + 5)
+        stood-open op z =
+            let l : ℕ = op .list .0 in
+            let f : (op .stop .0 ≡ stop) × (op .behind ≡ j′) × (ends c ≡ false) × (contains c ≡ true) × (start ≤ l) × (l ≤ start + length body) × (inner ≡ R (paper.inside (a + i)) (a + l) (drop (l - start) body)) =
             subst (Follows R a (a + i) start stop body c inner j′) z tag-follows in
             let d : pick true (eqb depths 0) false ≡ false = subst (λ (b : Bool). pick b (eqb depths 0) false ≡ false) (contains-named (classBy scope level code) ∙ f .3) (fits .3) in
             let q : len - (l - start) ≡ stop - l = omega (arith, f .4) in
@@ -407,19 +407,19 @@ module _ (scope : Scope) (level depths : ℕ) (own : paper.Owner) (a : ℕ) (r t
 
     -- reading it, by the class of its code, left this
     module _ {class : Class} {t′ g′ : List ℕ} (x : Step) (is-named : class ≡ named (classBy scope level (le16 (drop i r) / 64)))
-        (read : stepped t′ g′ x ≡ tagAt class depths a r i t j g w (headBy class depths (drop i r))) where
-      read-is : stepped t′ g′ x ≡ tagAt (named (classBy scope level (le16 (drop i r) / 64))) depths a r i t j g w (readHead (classBy scope level) depths (drop i r))
+        (read : stepped t′ g′ x ≡ tagAt o class depths a r i t j g w (headBy class depths (drop i r))) where
+      read-is : stepped t′ g′ x ≡ tagAt o (named (classBy scope level (le16 (drop i r) / 64))) depths a r i t j g w (readHead (classBy scope level) depths (drop i r))
       read-is = read ∙ rw (is-named, head-by (classBy scope level) depths (drop i r))
 
       -- by what its header gives
       by-head : (P : Stepped → Type 0) → ((e : ℕ) → readHead (classBy scope level) depths (drop i r) ≡ noHead e → P (stepped t g (step.Fault e)))
-          → ((code len size : ℕ) → readHead (classBy scope level) depths (drop i r) ≡ head code len size → P (tagAt (named (classBy scope level code)) depths a r i t j g w (head code len size))) → P (stepped t′ g′ x)
+          → ((code len size : ℕ) → readHead (classBy scope level) depths (drop i r) ≡ head code len size → P (tagAt o (named (classBy scope level code)) depths a r i t j g w (head code len size))) → P (stepped t′ g′ x)
       by-head P f h = subst P (sym read-is) (go (readHead (classBy scope level) depths (drop i r)) refl)
         where
-          go : (d : paper.Head) → readHead (classBy scope level) depths (drop i r) ≡ d → P (tagAt (named (classBy scope level (le16 (drop i r) / 64))) depths a r i t j g w d)
+          go : (d : paper.Head) → readHead (classBy scope level) depths (drop i r) ≡ d → P (tagAt o (named (classBy scope level (le16 (drop i r) / 64))) depths a r i t j g w d)
           go (noHead e) q = f e q
           go (head code len size) q =
-              subst (λ (n : ℕ). P (tagAt (named (classBy scope level n)) depths a r i t j g w (head code len size))) (fits q .4) (h code len size q)
+              subst (λ (n : ℕ). P (tagAt o (named (classBy scope level n)) depths a r i t j g w (head code len size))) (fits q .4) (h code len size q)
 
       -- the lent tables keep their lengths
       pub tag-sizes : (length t′ ≡ length t₀) × (length g′ ≡ length g₀)
@@ -436,38 +436,38 @@ module _ (scope : Scope) (level depths : ℕ) (own : paper.Owner) (a : ℕ) (r t
       tag-stops {p} {n} =
           by-head (λ (s : Stepped). s .step ≡ step.Last p n → p .0 ≤ length r) (λ e q z. clash cc) (λ code len size q z. stood-stops q _ refl z)
 
-      pub tag-last : {p : BytePlace} {n : ℕ} {y : Walked} (o : Owner) → own ≡ ownerOf o → x ≡ step.Last p n → y ≡ lastOf o a (p .0) (length r) n (w + 5) → listed t′ g′ y ≡ walkOver t₀ k g₀ m all
-      tag-last {p} {n} {y} o is =
-          by-head (λ (s : Stepped). s .step ≡ step.Last p n → y ≡ lastOf o a (p .0) (length r) n (w + 5) → listed (s .table) (s .rows) y ≡ walkOver t₀ k g₀ m all)
-          (λ e q z v. clash cc) (λ code len size q z v. stood-last q _ refl o is z v)
+      pub tag-last : {p : BytePlace} {n : ℕ} {y : Walked} (own′ : Owner) → own ≡ ownerOf own′ → x ≡ step.Last p n → y ≡ lastOf own′ a (p .0) (length r) n (w + 5) → listed t′ g′ y ≡ walkOver t₀ k g₀ m all
+      tag-last {p} {n} {y} own′ is =
+          by-head (λ (s : Stepped). s .step ≡ step.Last p n → y ≡ lastOf own′ a (p .0) (length r) n (w + 5) → listed (s .table) (s .rows) y ≡ walkOver t₀ k g₀ m all)
+          (λ e q z v. clash cc) (λ code len size q z v. stood-last q _ refl own′ is z v)
 
       pub tag-next : {p : BytePlace} {n : ℕ} → x ≡ step.Next p n → (i < p .0) × Going t′ g′ (p .0) n (w + 5)
       tag-next {p} {n} =
           by-head (λ (s : Stepped). s .step ≡ step.Next p n → (i < p .0) × Going (s .table) (s .rows) (p .0) n (w + 5)) (λ e q z. clash cc)
           (λ code len size q z. stood-next q _ refl z)
 
-      pub tag-open : (o : Opened) → x ≡ step.Open o → Opens t′ g′ i (o .list .0) (o .stop .0) (o .behind) (w + 5)
-      tag-open o =
-          by-head (λ (s : Stepped). s .step ≡ step.Open o → Opens (s .table) (s .rows) i (o .list .0) (o .stop .0) (o .behind) (w + 5)) (λ e q z. clash cc)
-          (λ code len size q z. stood-open q _ refl o z)
+      pub tag-open : (op : Opened) → x ≡ step.Open op → Opens t′ g′ i (op .list .0) (op .stop .0) (op .behind) (w + 5)
+      tag-open op =
+          by-head (λ (s : Stepped). s .step ≡ step.Open op → Opens (s .table) (s .rows) i (op .list .0) (op .stop .0) (op .behind) (w + 5)) (λ e q z. clash cc)
+          (λ code len size q z. stood-open q _ refl op z)
 
       -- and its list was read from there
-      module _ (o : Opened) (z : x ≡ step.Open o) where
+      module _ (op : Opened) (z : x ≡ step.Open op) where
         abbrev l : ℕ
-        l = o .list .0
+        l = op .list .0
 
         abbrev p : ℕ
-        p = o .stop .0
+        p = op .stop .0
 
         abbrev n : ℕ
-        n = o .behind
+        n = op .behind
 
         abbrev R′ : Walk
-        R′ = walkList high (classBy scope level) (pred depths) (paper.inside (a + i)) (a + l) (piece l p r)
+        R′ = walkList o (classBy scope level) (pred depths) (paper.inside (a + i)) (a + l) (piece l p r)
 
         pub open-bounds : Bounds depths a (length r) k m → Bounds (depths - 1) (a + l) (length (piece l p r)) n (w + 5)
         open-bounds b =
-            let q : Opens t′ g′ i l p n (w + 5) = tag-open o z in
+            let q : Opens t′ g′ i l p n (w + 5) = tag-open op z in
             let v : (n ≤ k + 8 * length r) × (w + 5 ≤ m + 5 * length r) = passed-room _ (q .passed) in
             let y : length (piece l p r) ≡ p - l = length-piece l p r (q .inside) in
             record {
@@ -477,7 +477,7 @@ module _ (scope : Scope) (level depths : ℕ) (own : paper.Owner) (a : ℕ) (r t
               row = omega (arith, b .row, b .place, v .1, q .deep, b .depth);
             }
 
-        module _ {t″ g″ : List ℕ} (y : Walked) (done : listed t″ g″ y ≡ walkOver t′ n g′ (w + 5) (walkList high (classBy scope level) (depths - 1) (paper.inside (a + i)) (a + l) (piece l p r))) where
+        module _ {t″ g″ : List ℕ} (y : Walked) (done : listed t″ g″ y ≡ walkOver t′ n g′ (w + 5) (walkList o (classBy scope level) (depths - 1) (paper.inside (a + i)) (a + l) (piece l p r))) where
           read-inner : listed t″ g″ y ≡ walkOver t′ n g′ (w + 5) R′
           read-inner = rw (pred-is depths) done
 
@@ -488,7 +488,7 @@ module _ (scope : Scope) (level depths : ℕ) (own : paper.Owner) (a : ℕ) (r t
           )
 
           pub open-next : {j′ w′ : ℕ} → y ≡ walked.Next j′ w′ → (i < p) × Going t″ g″ p j′ w′
-          open-next e = (tag-open o z .ahead, record { inside = tag-open o z .inside; passed = inner-next R′ (from p) (tag-open o z .passed) (ap (listed t″ g″) (sym e) ∙ read-inner) })
+          open-next e = (tag-open op z .ahead, record { inside = tag-open op z .inside; passed = inner-next R′ (from p) (tag-open op z .passed) (ap (listed t″ g″) (sym e) ∙ read-inner) })
 
           pub open-fault : {e : ℕ} {place : BytePlace} → y ≡ walked.Fault e place → listed t″ g″ y ≡ walkOver t₀ k g₀ m all
-          open-fault e = ap (listed t″ g″) e ∙ inner-fault R′ (from p) (tag-open o z .passed) (ap (listed t″ g″) (sym e) ∙ read-inner)
+          open-fault e = ap (listed t″ g″) e ∙ inner-fault R′ (from p) (tag-open op z .passed) (ap (listed t″ g″) (sym e) ∙ read-inner)

@@ -8,6 +8,7 @@ use lib.Seq.{sets, drop-drop, length-take-le}
 use lib.Dec.{eqb}
 use borrow.Author.Tests.{eq-eqb, ne-eqb}
 use Rattle.bits.specs.declared.BytePlace.{BytePlace}
+use Rattle.format.specs.Bits.{Order}
 use Rattle.format.specs.Reading.{At, Fault}
 use Rattle.format.specs.FileAndTags as paper
 use Rattle.format.specs.FileAndTags.{blame}
@@ -38,18 +39,18 @@ stepped-eq : {t t′ g g′ : List ℕ} {x x′ : Step} → t ≡ t′ → g ≡
 stepped-eq p q r = λ i. record { table = p i; rows = q i; step = r i }
 
 -- a tag's values end in its body
-pub values-fit : (class : Class) (code : ℕ) (body t : List ℕ) (k : ℕ) {u : List ℕ} {R : Shown} {p : BytePlace} {j : ℕ} → shownLeaves u R ≡ shownOver t k (tagShown class code body) → R ≡ Done p j
+pub values-fit : (o : Order) (class : Class) (code : ℕ) (body t : List ℕ) (k : ℕ) {u : List ℕ} {R : Shown} {p : BytePlace} {j : ℕ} → shownLeaves u R ≡ shownOver t k (tagShown o class code body) → R ≡ Done p j
     → p .0 ≤ length body
 unfolding shownOver
-values-fit class code body t k {u} {R} {p} {j} e is =
-    let f : At (8 * p .0) ≡ valuesOf class code body .ended = ap (λ (z : Shown). shownLeaves u z .ended) (sym is) ∙ ap (λ (s : State). s .ended) e in
-    omega (arith, values-le class code body (8 * p .0) (sym f))
+values-fit o class code body t k {u} {R} {p} {j} e is =
+    let f : At (8 * p .0) ≡ valuesOf o class code body .ended = ap (λ (z : Shown). shownLeaves u z .ended) (sym is) ∙ ap (λ (s : State). s .ended) e in
+    omega (arith, values-le o class code body (8 * p .0) (sym f))
 
 -- the tag at i of the list r at place a; H is its header, by its class
-module _ (class : Class) (depths a : ℕ) (r : List ℕ) (i : ℕ) (t : List ℕ) (k : ℕ) (g : List ℕ) (m : ℕ) (H : paper.Head) {h : Head} (at : asHead h ≡ H) where
+module _ (o : Order) (class : Class) (depths a : ℕ) (r : List ℕ) (i : ℕ) (t : List ℕ) (k : ℕ) (g : List ℕ) (m : ℕ) (H : paper.Head) {h : Head} (at : asHead h ≡ H) where
   -- the header is refused
-  pub tag-none : {e : ℕ} → h ≡ heads.Fault e → stepped t g (step.Fault e) ≡ tagAt class depths a r i t k g m H
-  tag-none {e} is = ap (tagAt class depths a r i t k g m) (sym (ap asHead is) ∙ at)
+  pub tag-none : {e : ℕ} → h ≡ heads.Fault e → stepped t g (step.Fault e) ≡ tagAt o class depths a r i t k g m H
+  tag-none {e} is = ap (tagAt o class depths a r i t k g m) (sym (ap asHead is) ∙ at)
 
   -- it stands in the room with its body
   pub tag-stands : {head : Header} → H ≡ headBy class depths (drop i r) → h ≡ heads.Tag head → (i ≤ length r) → i + head .size + head .length ≤ length r
@@ -60,7 +61,7 @@ module _ (class : Class) (depths a : ℕ) (r : List ℕ) (i : ℕ) (t : List ℕ
 
   -- it passes, and the row and the numbers are stored
   module _ {head : Header} {start stop : ℕ} {body g′ t′ : List ℕ} (R : Shown) (is : h ≡ heads.Tag head) (begin : start ≡ i + head .size) (end : stop ≡ start + head .length)
-      (part : body ≡ take (stop - start) (drop start r)) (row : g′ ≡ sets g m ((8 - depths) ∷ head .code ∷ (a + i) ∷ head .size ∷ head .length ∷ [])) (ran : shownLeaves t′ R ≡ shownOver t k (tagShown class (head .code) body)) where
+      (part : body ≡ take (stop - start) (drop start r)) (row : g′ ≡ sets g m ((8 - depths) ∷ head .code ∷ (a + i) ∷ head .size ∷ head .length ∷ [])) (ran : shownLeaves t′ R ≡ shownOver t k (tagShown o class (head .code) body)) where
     abbrev code : ℕ
     code = head .code
 
@@ -78,20 +79,20 @@ module _ (class : Class) (depths a : ℕ) (r : List ℕ) (i : ℕ) (t : List ℕ
     head-is : paper.head code len size ≡ H
     head-is = sym (ap asHead is) ∙ at
 
-    ran-is : shownLeaves t′ R ≡ shownOver t k (tagShown class code (take len (drop size (drop i r))))
-    ran-is = ran ∙ ap (λ (b : List ℕ). shownOver t k (tagShown class code b)) body-is
+    ran-is : shownLeaves t′ R ≡ shownOver t k (tagShown o class code (take len (drop size (drop i r))))
+    ran-is = ran ∙ ap (λ (b : List ℕ). shownOver t k (tagShown o class code b)) body-is
 
-    tag-done : {x : Step} → x ≡ stepOf class start stop (shownLeaves t′ R .count) (shownLeaves t′ R .ended) → stepped t′ g′ x ≡ tagAt class depths a r i t k g m H
+    tag-done : {x : Step} → x ≡ stepOf class start stop (shownLeaves t′ R .count) (shownLeaves t′ R .ended) → stepped t′ g′ x ≡ tagAt o class depths a r i t k g m H
     unfolding shownOver
     tag-done {x} e =
         let b : start + len ≡ i + size + len = omega arith in
         stepped-eq (ap (λ (s : State). s .table) ran-is) row (e ∙ ap (λ (s : State). stepOf class start stop (s .count) (s .ended)) ran-is ∙ rw (end, b, begin))
-        ∙ ap (tagAt class depths a r i t k g m) head-is
+        ∙ ap (tagAt o class depths a r i t k g m) head-is
 
-    pub tag-stop : {e j : ℕ} → R ≡ Stop e j → stepped t′ g′ (step.Fault e) ≡ tagAt class depths a r i t k g m H
+    pub tag-stop : {e j : ℕ} → R ≡ Stop e j → stepped t′ g′ (step.Fault e) ≡ tagAt o class depths a r i t k g m H
     tag-stop e = tag-done (ap (λ (q : Shown). stepOf class start stop (shownLeaves t′ q .count) (shownLeaves t′ q .ended)) (sym e))
 
-    pub tag-shown : {p : BytePlace} {j : ℕ} {x : Step} → R ≡ Done p j → x ≡ stepBy class (byteAt (start + p .0)) (byteAt stop) j → stepped t′ g′ x ≡ tagAt class depths a r i t k g m H
+    pub tag-shown : {p : BytePlace} {j : ℕ} {x : Step} → R ≡ Done p j → x ≡ stepBy class (byteAt (start + p .0)) (byteAt stop) j → stepped t′ g′ x ≡ tagAt o class depths a r i t k g m H
     tag-shown {p} {j} e f =
         let n : 8 * p .0 / 8 ≡ p .0 = omega arith in
         tag-done (f ∙ ap (λ (n : ℕ). stepBy class (byteAt (start + n)) (byteAt stop) j) (sym n) ∙ ap (λ (q : Shown). stepOf class start stop (shownLeaves t′ q .count) (shownLeaves t′ q .ended)) (sym e))
@@ -101,7 +102,7 @@ module _ (class : Class) (depths a : ℕ) (r : List ℕ) (i : ℕ) (t : List ℕ
     list-fits e l f =
         let u : i + size + len ≤ length r = tag-stands e is l in
         let n : length body ≡ stop - start = ap length part ∙ length-take-le (stop - start) (drop start r) (rw length-drop (omega arith)) in
-        omega (arith, values-fit class code body t k ran f)
+        omega (arith, values-fit o class code body t k ran f)
 
 -- after End
 pub last-whole : (own : Owner) (a stop room k m : ℕ) → stop ≡ room → walked.Next k m ≡ lastOf own a stop room k m

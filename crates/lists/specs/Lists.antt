@@ -4,6 +4,7 @@ use mathlib.Core.List.{List, [], _∷_}
 use lib.ListN.{length, take, drop}
 use lib.Seq.{sets}
 use lib.Dec.{eqb}
+use Rattle.format.specs.Bits.{Order}
 use Rattle.format.specs.Tests.{pick}
 use Rattle.format.specs.Reading.{Ending, At, Reading}
 use Rattle.format.specs.Reading as reading
@@ -33,8 +34,8 @@ byteAt n = record { 0 = n }
 -- ---- one tag
 
 -- its code, state, count and values
-abbrev pub tagShown : Class → ℕ → List ℕ → Reading
-tagShown class code body = headed code (stateOf class) (valuesOf class code body)
+abbrev pub tagShown : Order → Class → ℕ → List ℕ → Reading
+tagShown o class code body = headed code (stateOf class) (valuesOf o class code body)
 
 -- what comes after it: it ends at `stop`, its list starts at `list`, and j is the next index
 abbrev pub stepBy : Class → BytePlace → BytePlace → ℕ → Step
@@ -58,11 +59,11 @@ abbrev pub stepped : List ℕ → List ℕ → Step → Stepped
 stepped t g x = record { table = t; rows = g; step = x }
 
 -- the tag at i of the list r, which stands at place a: its numbers over the table t from index k on, its row over the tag table g from index m on
-abbrev pub tagAt : Class → ℕ → ℕ → List ℕ → ℕ → List ℕ → ℕ → List ℕ → ℕ → paper.Head → Stepped
-tagAt class depths a r i t k g m (paper.noHead e) = stepped t g (step.Fault e)
-tagAt class depths a r i t k g m (paper.head code len size) =
-    stepped (sets t k (tagShown class code (take len (drop size (drop i r))) .shown)) (sets g m ((8 - depths) ∷ code ∷ (a + i) ∷ size ∷ len ∷ []))
-    (stepOf class (i + size) (i + size + len) (k + length (tagShown class code (take len (drop size (drop i r))) .shown)) (tagShown class code (take len (drop size (drop i r))) .ended))
+abbrev pub tagAt : Order → Class → ℕ → ℕ → List ℕ → ℕ → List ℕ → ℕ → List ℕ → ℕ → paper.Head → Stepped
+tagAt o class depths a r i t k g m (paper.noHead e) = stepped t g (step.Fault e)
+tagAt o class depths a r i t k g m (paper.head code len size) =
+    stepped (sets t k (tagShown o class code (take len (drop size (drop i r))) .shown)) (sets g m ((8 - depths) ∷ code ∷ (a + i) ∷ size ∷ len ∷ []))
+    (stepOf class (i + size) (i + size + len) (k + length (tagShown o class code (take len (drop size (drop i r))) .shown)) (tagShown o class code (take len (drop size (drop i r))) .ended))
 
 -- after End, which ends at `stop` of the room
 abbrev pub lastOf : Owner → ℕ → ℕ → ℕ → ℕ → ℕ → Walked

@@ -2,12 +2,13 @@
 ghost use mathlib.Core.Path.{_≡_};
 ghost use Prim.Native.Nat.{_+_, _<_, _≤_, _^_};
 ghost use lib.ListN.{length, drop};
-ghost use Rattle.format.specs.Bits.{high};
 ghost use Rattle.format.specs.FileAndTags.{blame as blameOf, walkList};
 ghost use Rattle.classes.specs.Classes.{classBy};
 ghost use Rattle.headers.specs.Heads.{headBy};
 ghost use Rattle.lists.specs.Lists.{ownerOf, listed, walkOver, stepBy, stepped, tagAt, lastOf, Bounds};
+ghost use Rattle.bits.specs.Places.{orderOf};
 use bits::BytePlace;
+use bits::Order;
 use bodies::Shown;
 use classes::Class;
 use classes::Scope;
@@ -90,6 +91,7 @@ fn next_step(class: Class, list: BytePlace, stop: BytePlace, behind: usize) -> S
 
 // The tag at a place of the room, in the list at place `at`; `class` is that of its code. Its header, its row, and its own numbers.
 fn read_tag(
+    order: Order,
     class: Class,
     depths: u32,
     at: BytePlace,
@@ -101,7 +103,7 @@ fn read_tag(
     row: usize,
 ) -> Step
     requires { ⌜ (depths ≤ 8) × (place .0 ≤ length (now room)) × (at .0 + length (now room) ≤ 16777216) × (from < 2 ^ 60) × (row < 2 ^ 60) ⌝ }
-    ensures { λ r. ⌜ stepped (now (table .exit)) (now (rows .exit)) r ≡ tagAt class depths (at .0) (now (room .entry)) (place .0) (now (table .entry)) from (now (rows .entry)) row (headBy class depths (drop (place .0) (now (room .entry)))) ⌝ }
+    ensures { λ r. ⌜ stepped (now (table .exit)) (now (rows .exit)) r ≡ tagAt (orderOf order) class depths (at .0) (now (room .entry)) (place .0) (now (table .entry)) from (now (rows .entry)) row (headBy class depths (drop (place .0) (now (room .entry)))) ⌝ }
 {
     match headers::read_head(class, depths, room, place) {
         Head::Fault(why) => Step::Fault(why),
@@ -113,7 +115,7 @@ fn read_tag(
             let stop = start + len as usize;
             let tag = at.0 + place.0;
             tags::show_row(8 - depths, code, BytePlace(tag), size, len, rows, row);
-            match tags::show_tag(class, code, &room[start..stop], table, from) {
+            match tags::show_tag(order, class, code, &room[start..stop], table, from) {
                 Shown::Stop(why, _) => Step::Fault(why),
                 Shown::Done(next, behind) => {
                     let list = start + next.0;
@@ -130,6 +132,7 @@ fn read_tag(
 pub fn read_list(
     scope: Scope,
     level: u32,
+    order: Order,
     depths: u32,
     owner: Owner,
     at: BytePlace,
@@ -140,7 +143,7 @@ pub fn read_list(
     row: usize,
 ) -> Walked
     requires { ⌜ Bounds depths (at .0) (length (now room)) from row ⌝ }
-    ensures { λ r. ⌜ listed (now (table .exit)) (now (rows .exit)) r ≡ walkOver (now (table .entry)) from (now (rows .entry)) row (walkList high (classBy scope level) depths (ownerOf owner) (at .0) (now (room .entry))) ⌝ }
+    ensures { λ r. ⌜ listed (now (table .exit)) (now (rows .exit)) r ≡ walkOver (now (table .entry)) from (now (rows .entry)) row (walkList (orderOf order) (classBy scope level) depths (ownerOf owner) (at .0) (now (room .entry))) ⌝ }
 {
     let classes = classes::all();
     let mut place = BytePlace(0);
@@ -153,7 +156,18 @@ pub fn read_list(
         let code = headers::code_at(room, place);
         let listed = classes[(code / 32) as usize][(code % 32) as usize];
         let class = classes::taken_as(scope, classes::at_level(level, code, listed));
-        match read_tag(class, depths, at, room, place, table, index, rows, mine) {
+        match read_tag(
+            order,
+            class,
+            depths,
+            at,
+            room,
+            place,
+            table,
+            index,
+            rows,
+            mine,
+        ) {
             Step::Fault(why) => return Walked::Fault(why, BytePlace(tag)),
             Step::Last(stop, behind) => return last(owner, at, stop, room.len(), behind, line),
             Step::Next(stop, behind) => {
@@ -169,7 +183,19 @@ pub fn read_list(
                 let home = BytePlace(start);
                 let part = &room[first..stop];
                 let next = opened.behind;
-                let x = read_list(scope, level, less, own, home, part, table, next, rows, line);
+                let x = read_list(
+                    scope,
+                    level,
+                    order,
+                    less,
+                    own,
+                    home,
+                    part,
+                    table,
+                    next,
+                    rows,
+                    line,
+                );
                 let Walked::Next(behind, after) = x else {
                     return x;
                 };

@@ -21,8 +21,8 @@ plain-is at (num v q) = refl
 plain-is at (bad e) = refl
 
 -- the call's promise, with its answer made plain
-pub plainly : (b : List ℕ) (at : BitPlace) (n : ℕ) (signed : Bool) (x : Step) {r : PagField} → x ≡ stepAt signed b at n → r ≡ plainStep x → r ≡ plainField (at .0) (fieldOf signed b (at .0) n)
-plainly b at n signed x e d = d ∙ ap plainStep e ∙ plain-is at (fieldOf signed b (at .0) n)
+pub plainly : (order : ℕ) (b : List ℕ) (at : BitPlace) (n : ℕ) (signed : Bool) (x : Step) {r : PagField} → x ≡ stepAt order signed b at n → r ≡ plainStep x → r ≡ plainField (at .0) (fieldOf order signed b (at .0) n)
+plainly order b at n signed x e d = d ∙ ap plainStep e ∙ plain-is at (fieldOf order signed b (at .0) n)
 
 -- no second answer fits
 pub bits-one : (p : ℕ) (x : Num) (r r′ : PagField) → r ≡ plainField p x → r′ ≡ plainField p x → r ≡ r′

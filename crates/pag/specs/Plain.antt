@@ -2,7 +2,6 @@
 use Prim.Native.Nat.{ℕ}
 use mathlib.Core.List.{List}
 use mathlib.Core.Path.{_≡_}
-use Rattle.format.specs.Bits.{high}
 use Rattle.format.specs.Reasons as paper
 use Rattle.format.specs.Reasons.{Writes}
 use Rattle.answers.specs.declared.Answer.{Answer}
@@ -23,5 +22,5 @@ abbrev pub leavesPlain : List ℕ → PagAnswer → paper.Left → Type 0
 leavesPlain m r x = (r ≡ plainOf (x .answer)) × (m ≡ x .lent)
 
 -- what `write` may leave, by the reader's definition, with its answer made plain: for the table t and the output m, which then is m′
-abbrev pub WritesPlain : ℕ → List ℕ → List ℕ → List ℕ → PagAnswer → Type 0
-WritesPlain level t m m′ r = (x : paper.Left) × Writes high level t m x × leavesPlain m′ r x
+abbrev pub WritesPlain : ℕ → ℕ → List ℕ → List ℕ → List ℕ → PagAnswer → Type 0
+WritesPlain order level t m m′ r = (x : paper.Left) × Writes order level t m x × leavesPlain m′ r x

@@ -1,6 +1,5 @@
 // The exports for hosts, over the proved calls. An answer is a plain struct here: reason 0 means accepted, and the number is the count.
 ghost use mathlib.Core.Path.{_≡_};
-ghost use Rattle.format.specs.Bits.{high};
 ghost use Rattle.format.specs.Reasons.{readFile, readTags, into};
 ghost use Rattle.bit_reader.specs.Fields.{fieldOf};
 ghost use Rattle.pag.specs.Plain.{plain, leavesPlain, WritesPlain};
@@ -32,24 +31,24 @@ fn plain(answer: Answer) -> PagAnswer
 }
 
 #[no_mangle]
-pub extern "C" fn pag_read(level: u32, file: &[u8], table: &mut [u64]) -> PagAnswer
-    ensures { λ r. ⌜ leavesPlain (now (table .exit)) r (into (now (table .entry)) (readFile high level (now (file .entry)))) ⌝ }
+pub extern "C" fn pag_read(level: u32, order: u32, file: &[u8], table: &mut [u64]) -> PagAnswer
+    ensures { λ r. ⌜ leavesPlain (now (table .exit)) r (into (now (table .entry)) (readFile order level (now (file .entry)))) ⌝ }
 {
-    plain(reader::read(level, file, table))
+    plain(reader::read(level, order, file, table))
 }
 
 #[no_mangle]
-pub extern "C" fn pag_tags(level: u32, file: &[u8], tags: &mut [u32]) -> PagAnswer
-    ensures { λ r. ⌜ leavesPlain (now (tags .exit)) r (into (now (tags .entry)) (readTags high level (now (file .entry)))) ⌝ }
+pub extern "C" fn pag_tags(level: u32, order: u32, file: &[u8], tags: &mut [u32]) -> PagAnswer
+    ensures { λ r. ⌜ leavesPlain (now (tags .exit)) r (into (now (tags .entry)) (readTags order level (now (file .entry)))) ⌝ }
 {
-    plain(reader::tags(level, file, tags))
+    plain(reader::tags(level, order, file, tags))
 }
 
 #[no_mangle]
-pub extern "C" fn pag_write(level: u32, table: &[u64], out: &mut [u8]) -> PagAnswer
-    ensures { λ r. ⌜ WritesPlain level (now (table .entry)) (now (out .entry)) (now (out .exit)) r ⌝ }
+pub extern "C" fn pag_write(level: u32, order: u32, table: &[u64], out: &mut [u8]) -> PagAnswer
+    ensures { λ r. ⌜ WritesPlain order level (now (table .entry)) (now (out .entry)) (now (out .exit)) r ⌝ }
 {
-    plain(writer::write(level, table, out))
+    plain(writer::write(level, order, table, out))
 }
 
 // A field's answer: reason 0 means accepted, and the place is the next one; after a refusal the value is 0 and the place the same.
@@ -80,11 +79,11 @@ fn plain_step(step: Step) -> PagField
     }
 }
 
-// A bit field at a bit place of the file: UB, or SB where `signed` is not 0.
+// A bit field at a bit place of the file, in the order of this number: UB, or SB where `signed` is not 0.
 #[no_mangle]
-pub extern "C" fn pag_bits(file: &[u8], place: u64, width: u32, signed: u32) -> PagField
-    ensures { λ r. ⌜ r ≡ plainField place (fieldOf (isSigned signed) (now (file .entry)) place width) ⌝ }
+pub extern "C" fn pag_bits(order: u32, file: &[u8], place: u64, width: u32, signed: u32) -> PagField
+    ensures { λ r. ⌜ r ≡ plainField place (fieldOf order (isSigned signed) (now (file .entry)) place width) ⌝ }
 {
     let at = BitPlace(place as usize);
-    plain_step(bit_reader::field_at(file, at, width, signed != 0))
+    plain_step(bit_reader::field_at(order, file, at, width, signed != 0))
 }

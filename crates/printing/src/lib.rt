@@ -2,13 +2,15 @@
 ghost use mathlib.Core.Path.{_≡_};
 ghost use Prim.Native.Nat.{_+_, _≤_};
 ghost use lib.ListN.{length};
-ghost use Rattle.format.specs.Bits.{high};
 ghost use Rattle.format.specs.Reasons.{readFile, readTags, into};
 ghost use Rattle.printing.specs.Input.{Within};
 use answers::Answer;
 use libc::STDERR_FILENO;
 use libc::STDOUT_FILENO;
 use listing::Cursor;
+
+// The programs are high first.
+const HIGH_FIRST: u32 = 0;
 
 // What was read: so many bytes up to the end of the input or of the room for it; or a read failed.
 pub enum Input {
@@ -104,11 +106,11 @@ fn print_listing(len: u64, table: &[u64], rows: &[u32]) {
 // A file: its listing at a level, or the reason why it is refused. `tags` does not refuse what `read` accepts, if it is lent five numbers for
 // every three.
 pub fn print_tables(level: u32, file: &[u8], table: &mut [u64], rows: &mut [u32])
-    ensures { λ _. ⌜ now (table .exit) ≡ into (now (table .entry)) (readFile high level (now (file .entry))) .lent ⌝ }
-    ensures { λ _. ⌜ now (rows .exit) ≡ into (now (rows .entry)) (readTags high level (now (file .entry))) .lent ⌝ }
+    ensures { λ _. ⌜ now (table .exit) ≡ into (now (table .entry)) (readFile 0 level (now (file .entry))) .lent ⌝ }
+    ensures { λ _. ⌜ now (rows .exit) ≡ into (now (rows .entry)) (readTags 0 level (now (file .entry))) .lent ⌝ }
 {
-    let tagged = reader::tags(level, file, rows);
-    match reader::read(level, file, table) {
+    let tagged = reader::tags(level, HIGH_FIRST, file, rows);
+    match reader::read(level, HIGH_FIRST, file, table) {
         Answer::Refused(reason, number) => print_refusal(reason, number),
         Answer::Accepted(count) => match tagged {
             Answer::Refused(reason, number) => print_refusal(reason, number),

@@ -4,7 +4,7 @@ use mathlib.Core.List.{List, [], _∷_, _++_}
 use mathlib.Core.Path.{_≡_, refl, ap, subst, sym}
 use mathlib.Core.Bool.{Bool, true, false}
 use lib.ListN.{length, take, drop}
-use Rattle.format.specs.Bits.{high}
+use Rattle.format.specs.Bits.{Order}
 use Rattle.format.specs.Reading.{Ending, At, Fault}
 use Rattle.format.specs.Items.{run, toByte}
 use Rattle.format.specs.Bodies.{readBody}
@@ -45,22 +45,22 @@ alike-after true c a [] N M x = (refl, refl)
 alike-after true c a (y ∷ r) N M x = tt
 
 -- what stands in a tag of the class C; lists are read by R and by S
-alike-within : (R S : Owner → ℕ → List ℕ → Walk) → ((c : Owner) (a : ℕ) (r : List ℕ) → Alike (R c a r) (S c a r) (R c a r .ended))
-    → (C : Class) (a s : ℕ) (body : List ℕ) → Alike (within high R C a s body .walk) (within high S (skimmed Lists C) a s body .walk) (within high R C a s body .walk .ended)
-alike-within R S u opaque a s body = (refl, refl)
-alike-within R S u end a s body = (refl, refl)
-alike-within R S u (known y) a s body = go (readBody high y body .ended)
+alike-within : (o : Order) (R S : Owner → ℕ → List ℕ → Walk) → ((c : Owner) (a : ℕ) (r : List ℕ) → Alike (R c a r) (S c a r) (R c a r .ended))
+    → (C : Class) (a s : ℕ) (body : List ℕ) → Alike (within o R C a s body .walk) (within o S (skimmed Lists C) a s body .walk) (within o R C a s body .walk .ended)
+alike-within o R S u opaque a s body = (refl, refl)
+alike-within o R S u end a s body = (refl, refl)
+alike-within o R S u (known y) a s body = go (readBody o y body .ended)
   where
     go : (z : Ending) → Alike (noTags (endAt a z)) (noTags whole) (endAt a z)
     go (At p) = (refl, refl)
     go (Fault e) = tt
-alike-within R S u (container f) a s body = go (run high body (front f) 0 .shown) (run high body (front f) 0 .ended)
+alike-within o R S u (container f) a s body = go (run o body (front f) 0 .shown) (run o body (front f) 0 .ended)
   where
     go : (xs : List ℕ) (z : Ending) → Alike (opened R a s body xs z .walk) (opened S a s body xs z .walk) (opened R a s body xs z .walk .ended)
     go xs (At p) = u (inside a) (s + toByte p) (drop (toByte p) body)
     go xs (Fault e) = tt
 
-module _ (level : ℕ) where
+module _ (o : Order) (level : ℕ) where
   -- a header passes alike
   heads-alike : (left : ℕ) (r : List ℕ) → readHead (classBy Lists level) left r ≡ readHead (classOf level) left r
   heads-alike left r = go (rawHead r)
@@ -71,32 +71,32 @@ module _ (level : ℕ) where
 
   alike-one : (R S : ℕ → Owner → ℕ → List ℕ → Walk) → ((left : ℕ) (c : Owner) (a : ℕ) (r : List ℕ) → Alike (R left c a r) (S left c a r) (R left c a r .ended))
       → (left : ℕ) (c : Owner) (a : ℕ) (r : List ℕ) (h : Head)
-      → Alike (oneTag high (classOf level) R left c a r h) (oneTag high (classBy Lists level) S left c a r h) (oneTag high (classOf level) R left c a r h .ended)
+      → Alike (oneTag o (classOf level) R left c a r h) (oneTag o (classBy Lists level) S left c a r h) (oneTag o (classOf level) R left c a r h .ended)
   alike-one R S u left c a r (noHead e) = tt
   alike-one R S u left c a r (head code len size) =
       rw (end-skimmed Lists (classOf level code))
       (alike-then (8 - left) code a size len
-      (within high (R (pred left)) (classOf level code) a (a + size) (take len (drop size r)))
-      (within high (S (pred left)) (classBy Lists level code) a (a + size) (take len (drop size r)))
+      (within o (R (pred left)) (classOf level code) a (a + size) (take len (drop size r)))
+      (within o (S (pred left)) (classBy Lists level code) a (a + size) (take len (drop size r)))
       (afterTag (isEnd (classOf level code)) c (a + size + len) (drop (size + len) r) (R left c))
       (afterTag (isEnd (classOf level code)) c (a + size + len) (drop (size + len) r) (S left c))
-      (alike-within (R (pred left)) (S (pred left)) (u (pred left)) (classOf level code) a (a + size) (take len (drop size r)))
+      (alike-within o (R (pred left)) (S (pred left)) (u (pred left)) (classOf level code) a (a + size) (take len (drop size r)))
       (alike-after (isEnd (classOf level code)) c (a + size + len) (drop (size + len) r) (R left c) (S left c) (u left c (a + size + len) (drop (size + len) r))))
 
-  alike : (k left : ℕ) (c : Owner) (a : ℕ) (r : List ℕ) → Alike (walk high (classOf level) k left c a r) (walk high (classBy Lists level) k left c a r) (walk high (classOf level) k left c a r .ended)
+  alike : (k left : ℕ) (c : Owner) (a : ℕ) (r : List ℕ) → Alike (walk o (classOf level) k left c a r) (walk o (classBy Lists level) k left c a r) (walk o (classOf level) k left c a r .ended)
   unfolding walk
   alike zero left c a r = tt
   alike (suc k) left c a [] = tt
   alike (suc k) left c a (x ∷ r) =
       subst
-      (λ (h : Head). Alike (oneTag high (classOf level) (walk high (classOf level) k) left c a (x ∷ r) (readHead (classOf level) left (x ∷ r)))
-      (oneTag high (classBy Lists level) (walk high (classBy Lists level) k) left c a (x ∷ r) h)
-      (oneTag high (classOf level) (walk high (classOf level) k) left c a (x ∷ r) (readHead (classOf level) left (x ∷ r)) .ended))
+      (λ (h : Head). Alike (oneTag o (classOf level) (walk o (classOf level) k) left c a (x ∷ r) (readHead (classOf level) left (x ∷ r)))
+      (oneTag o (classBy Lists level) (walk o (classBy Lists level) k) left c a (x ∷ r) h)
+      (oneTag o (classOf level) (walk o (classOf level) k) left c a (x ∷ r) (readHead (classOf level) left (x ∷ r)) .ended))
       (sym (heads-alike left (x ∷ r)))
-      (alike-one (walk high (classOf level) k) (walk high (classBy Lists level) k) (alike k) left c a (x ∷ r) (readHead (classOf level) left (x ∷ r)))
+      (alike-one (walk o (classOf level) k) (walk o (classBy Lists level) k) (alike k) left c a (x ∷ r) (readHead (classOf level) left (x ∷ r)))
 
   -- the walk of the lists alone accepts too, with the same tag table
-  pub skim-rows : (left : ℕ) (own : Owner) (a : ℕ) (r : List ℕ) → walkList high (classOf level) left own a r .ended ≡ whole
-      → (walkList high (classBy Lists level) left own a r .ended ≡ whole) × (tagTable (walkList high (classBy Lists level) left own a r .tags) ≡ tagTable (walkList high (classOf level) left own a r .tags))
+  pub skim-rows : (left : ℕ) (own : Owner) (a : ℕ) (r : List ℕ) → walkList o (classOf level) left own a r .ended ≡ whole
+      → (walkList o (classBy Lists level) left own a r .ended ≡ whole) × (tagTable (walkList o (classBy Lists level) left own a r .tags) ≡ tagTable (walkList o (classOf level) left own a r .tags))
   skim-rows left own a r e =
-      subst (Alike (walkList high (classOf level) left own a r) (walkList high (classBy Lists level) left own a r)) e (alike (length r) left own a r)
+      subst (Alike (walkList o (classOf level) left own a r) (walkList o (classBy Lists level) left own a r)) e (alike (length r) left own a r)

@@ -17,32 +17,39 @@ const FILLED_NUMBER: u64 = 0xAAAA_AAAA_AAAA_AAAA;
 // How many numbers are lent for a file's table, and bytes for a file.
 const ROOM: usize = 16384;
 
-// A record's kind, its level and the count of the bytes that follow.
+// A record's kind, its bit order, its level and the count of the bytes that follow.
 struct Head {
     kind: u8,
+    order: u32,
     level: u32,
     count: usize,
 }
 
-fn wide(b: u8) -> u32
+fn wide(byte: u8) -> u32
     ensures { λ r. ⌜ r < 256 ⌝ }
 {
-    b as u32
+    byte as u32
 }
 
-fn wide64(n: u32) -> u64
+fn wide64(number: u32) -> u64
     ensures { λ r. ⌜ r < 4294967296 ⌝ }
 {
-    n as u64
+    number as u64
 }
 
 fn say(text: &[u8]) {
     io::write_all(STDOUT_FILENO, text);
 }
 
-fn say_number(n: u64) {
+fn say_number(number: u64) {
     say(b" ");
-    io::print_decimal(STDOUT_FILENO, n);
+    io::print_decimal(STDOUT_FILENO, number);
+}
+
+// What goes with the calls of a record: its level and its bit order.
+fn say_call(level: u32, order: u32) {
+    say_number(level as u64);
+    say_number(order as u64);
 }
 
 fn say_refusal(reason: u32, number: u64) {
@@ -51,10 +58,10 @@ fn say_refusal(reason: u32, number: u64) {
     say_number(number);
 }
 
-fn least(a: usize, b: usize) -> usize
-    ensures { λ r. ⌜ (r ≤ a) × (r ≤ b) ⌝ }
+fn least(one: usize, other: usize) -> usize
+    ensures { λ r. ⌜ (r ≤ one) × (r ≤ other) ⌝ }
 {
-    if a < b { a } else { b }
+    if one < other { one } else { other }
 }
 
 fn fill(out: &mut [u8]) {
@@ -95,13 +102,13 @@ fn are_filled(table: &[u64]) -> bool {
     true
 }
 
-fn same_bytes(a: &[u8], b: &[u8]) -> bool {
-    if a.len() != b.len() {
+fn same_bytes(one: &[u8], other: &[u8]) -> bool {
+    if one.len() != other.len() {
         return false;
     }
     let mut i = 0;
-    while i < a.len() {
-        if a[i] != b[i] {
+    while i < one.len() {
+        if one[i] != other[i] {
             return false;
         }
         i += 1;
@@ -109,13 +116,13 @@ fn same_bytes(a: &[u8], b: &[u8]) -> bool {
     true
 }
 
-fn same_numbers(a: &[u64], b: &[u64]) -> bool {
-    if a.len() != b.len() {
+fn same_numbers(one: &[u64], other: &[u64]) -> bool {
+    if one.len() != other.len() {
         return false;
     }
     let mut i = 0;
-    while i < a.len() {
-        if a[i] != b[i] {
+    while i < one.len() {
+        if one[i] != other[i] {
             return false;
         }
         i += 1;
@@ -140,25 +147,25 @@ fn say_kept(kept: bool) {
 }
 
 // What was read of a file, written: the same bytes, and nothing behind them is touched.
-fn write_back(level: u32, table: &[u64], file: &[u8], out: &mut [u8]) {
+fn write_back(level: u32, order: u32, table: &[u64], file: &[u8], out: &mut [u8]) {
     fill(out);
-    match writer::write(level, table, out) {
+    match writer::write(level, order, table, out) {
         Answer::Refused(reason, number) => {
             say_refusal(reason, number);
             say_kept(is_filled(out));
         }
-        Answer::Accepted(n) => {
+        Answer::Accepted(count) => {
             say(b" write");
-            say_number(n);
-            let m = least(n as usize, out.len());
-            say_same(same_bytes(file, &out[0..m]));
-            say_kept(is_filled(&out[m..]));
+            say_number(count);
+            let used = least(count as usize, out.len());
+            say_same(same_bytes(file, &out[0..used]));
+            say_kept(is_filled(&out[used..]));
         }
     }
 }
 
 // And with one byte too few: 21, and nothing is touched.
-fn write_short(level: u32, table: &[u64], file: &[u8], out: &mut [u8]) {
+fn write_short(level: u32, order: u32, table: &[u64], file: &[u8], out: &mut [u8]) {
     let room = least(file.len(), out.len());
     if room == 0 {
         return;
@@ -166,7 +173,7 @@ fn write_short(level: u32, table: &[u64], file: &[u8], out: &mut [u8]) {
     let end = room - 1;
     let part = &mut out[0..end];
     fill(part);
-    match writer::write(level, table, part) {
+    match writer::write(level, order, table, part) {
         Answer::Accepted(_) => say(b" TAKEN"),
         Answer::Refused(reason, number) => {
             say(b" short");
@@ -178,7 +185,7 @@ fn write_short(level: u32, table: &[u64], file: &[u8], out: &mut [u8]) {
 }
 
 // A file that was accepted, read with room for one number less than it needs: 19, and nothing is touched.
-fn read_short(level: u32, file: &[u8], needed: usize) {
+fn read_short(level: u32, order: u32, file: &[u8], needed: usize) {
     let mut table = [0u64; ROOM];
     let room = least(needed, ROOM);
     if room == 0 {
@@ -187,7 +194,7 @@ fn read_short(level: u32, file: &[u8], needed: usize) {
     let end = room - 1;
     let part = &mut table[0..end];
     fill_numbers(part);
-    match reader::read(level, file, part) {
+    match reader::read(level, order, file, part) {
         Answer::Accepted(_) => say(b" TAKEN"),
         Answer::Refused(reason, number) => {
             say(b" short");
@@ -198,23 +205,23 @@ fn read_short(level: u32, file: &[u8], needed: usize) {
     say_kept(are_filled(part));
 }
 
-fn try_file(level: u32, file: &[u8], table: &mut [u64], out: &mut [u8]) {
+fn try_file(level: u32, order: u32, file: &[u8], table: &mut [u64], out: &mut [u8]) {
     say(b"file");
-    say_number(level as u64);
+    say_call(level, order);
     fill_numbers(table);
-    match reader::read(level, file, table) {
+    match reader::read(level, order, file, table) {
         Answer::Refused(reason, number) => {
             say_refusal(reason, number);
             say_kept(are_filled(table));
         }
-        Answer::Accepted(n) => {
+        Answer::Accepted(count) => {
             say(b" read");
-            say_number(n);
-            let m = least(n as usize, table.len());
-            say_kept(are_filled(&table[m..]));
-            read_short(level, file, m);
-            write_back(level, &table[0..m], file, out);
-            write_short(level, &table[0..m], file, out);
+            say_number(count);
+            let used = least(count as usize, table.len());
+            say_kept(are_filled(&table[used..]));
+            read_short(level, order, file, used);
+            write_back(level, order, &table[0..used], file, out);
+            write_short(level, order, &table[0..used], file, out);
         }
     }
 }
@@ -230,68 +237,70 @@ fn number_at(body: &[u8], i: usize) -> u64
 fn load(body: &[u8], table: &mut [u64]) -> usize
     ensures { λ r. ⌜ r ≤ length (now (table .entry)) ⌝ }
 {
-    let n = least(body.len() / 8, table.len());
+    let count = least(body.len() / 8, table.len());
     let mut i = 0;
-    while i < n {
+    while i < count {
         table[i] = number_at(body, i * 8);
         i += 1;
     }
-    n
+    count
 }
 
 // What was written of a table, read: the same numbers.
-fn read_back(level: u32, file: &[u8], table: &[u64]) {
+fn read_back(level: u32, order: u32, file: &[u8], table: &[u64]) {
     let mut again = [0u64; ROOM];
     fill_numbers(&mut again);
-    match reader::read(level, file, &mut again) {
+    match reader::read(level, order, file, &mut again) {
         Answer::Refused(reason, number) => {
             say_refusal(reason, number);
             say_kept(are_filled(&again));
         }
-        Answer::Accepted(n) => {
+        Answer::Accepted(count) => {
             say(b" read");
-            say_number(n);
-            let m = least(n as usize, ROOM);
-            say_same(same_numbers(table, &again[0..m]));
-            say_kept(are_filled(&again[m..]));
+            say_number(count);
+            let used = least(count as usize, ROOM);
+            say_same(same_numbers(table, &again[0..used]));
+            say_kept(are_filled(&again[used..]));
         }
     }
 }
 
-fn try_table(level: u32, table: &[u64], out: &mut [u8]) {
+fn try_table(level: u32, order: u32, table: &[u64], out: &mut [u8]) {
     say(b"table");
-    say_number(level as u64);
+    say_call(level, order);
     fill(out);
-    match writer::write(level, table, out) {
+    match writer::write(level, order, table, out) {
         Answer::Refused(reason, number) => {
             say_refusal(reason, number);
             say_kept(is_filled(out));
         }
-        Answer::Accepted(n) => {
+        Answer::Accepted(count) => {
             say(b" write");
-            say_number(n);
-            let m = least(n as usize, out.len());
-            say_kept(is_filled(&out[m..]));
-            read_back(level, &out[0..m], table);
+            say_number(count);
+            let used = least(count as usize, out.len());
+            say_kept(is_filled(&out[used..]));
+            read_back(level, order, &out[0..used], table);
         }
     }
 }
 
 // The next record's head; a count of no bytes and kind 255 at the end.
 fn read_head() -> Head {
-    let mut b = [0u8; 8];
-    let n = io::read_full(STDIN_FILENO, &mut b);
-    if n < 8 {
+    let mut bytes = [0u8; 8];
+    let got = io::read_full(STDIN_FILENO, &mut bytes);
+    if got < 8 {
         return Head {
             kind: 255,
+            order: 0,
             level: 0,
             count: 0,
         };
     }
     Head {
-        kind: b[0],
-        level: wide(b[2]) + 256 * wide(b[3]),
-        count: (wide(b[4]) + 256 * wide(b[5])) as usize,
+        kind: bytes[0],
+        order: wide(bytes[1]),
+        level: wide(bytes[2]) + 256 * wide(bytes[3]),
+        count: (wide(bytes[4]) + 256 * wide(bytes[5])) as usize,
     }
 }
 
@@ -304,25 +313,32 @@ fn read_body(room: &mut [u8], count: usize) -> bool
     got == count
 }
 
-fn try_record(kind: u8, level: u32, body: &[u8], table: &mut [u64], out: &mut [u8]) {
+fn try_record(kind: u8, level: u32, order: u32, body: &[u8], table: &mut [u64], out: &mut [u8]) {
     if kind == FILE {
-        try_file(level, body, table, out);
+        try_file(level, order, body, table, out);
         return;
     }
-    let k = load(body, table);
-    try_table(level, &table[0..k], out);
+    let count = load(body, table);
+    try_table(level, order, &table[0..count], out);
 }
 
 fn next_in(room: &mut [u8], table: &mut [u64], out: &mut [u8]) -> bool {
     let head = read_head();
-    let n = least(head.count, room.len());
+    let count = least(head.count, room.len());
     if head.kind == 255 {
         return false;
     }
-    if !read_body(room, n) {
+    if !read_body(room, count) {
         return false;
     }
-    try_record(head.kind, head.level, &room[0..n], table, out);
+    try_record(
+        head.kind,
+        head.level,
+        head.order,
+        &room[0..count],
+        table,
+        out,
+    );
     say(b"\n");
     true
 }

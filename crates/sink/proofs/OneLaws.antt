@@ -9,10 +9,10 @@ use Rattle.sink.specs.declared.Body.{Body}
 use Rattle.sink.specs.declared.Body.the-variants.{To, No}
 
 abbrev output : Lain → List ℕ
-output (lain o p) = o
+output (lain u p) = u
 
 abbrev answer : Lain → Body
-answer (lain o p) = To (record { 0 = p })
+answer (lain u p) = To (record { 0 = p })
 
 tells : (u : List ℕ) (a : Body) → Tells output answer No (lainAs u a) u a
 tells u (To p) = (refl, refl)

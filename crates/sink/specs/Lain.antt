@@ -17,11 +17,11 @@ longest = 16777216
 pub data Lain : Type 0 where
   lain : List ℕ → ℕ → Lain
 
--- bytes put over the output o from place a on; what does not fit the output is dropped, and what is longer than a file has no place
+-- bytes put over the output u from place a on; what does not fit the output is dropped, and what is longer than a file has no place
 unfoldable pub lies : List ℕ → ℕ → Possible (List ℕ) → Possible Lain
-lies o a (this b) = pick (leb (a + length b) longest) (this (lain (sets o a b) (a + length b))) cannot
-lies o a cannot = cannot
+lies u a (this b) = pick (leb (a + length b) longest) (this (lain (sets u a b) (a + length b))) cannot
+lies u a cannot = cannot
 
 abbrev pub lainAs : List ℕ → Body → Possible Lain
-lainAs o (To p) = this (lain o (p .0))
-lainAs o No = cannot
+lainAs u (To p) = this (lain u (p .0))
+lainAs u No = cannot

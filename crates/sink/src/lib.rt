@@ -1,19 +1,25 @@
 // Bits put after one another into a lent output: whole bytes are stored where there is room, the bits of a byte that has begun wait in the sink.
 ghost use mathlib.Core.Path.{_≡_};
-ghost use Prim.Native.Nat.{_*_, _^_, _<_, _≤_};
+ghost use Prim.Native.Nat.{_+_, _*_, _^_, _<_, _≤_};
 ghost use lib.ListN.{set};
-ghost use Rattle.format.specs.Bits.{high};
-ghost use Rattle.format.specs.Items.{skipped};
-ghost use Rattle.format.specs.WritingItems.{dig};
-ghost use Rattle.sink.specs.Laying.{at as under, lay, Holds, Skipped};
+ghost use Rattle.format.specs.WritingItems.{dig, glue as oneField};
+ghost use Rattle.bits.specs.Places.{orderOf};
+ghost use Rattle.sink.specs.Laying.{at as under, lay, Holds, Skipped, Split};
 use bits::BitPlace;
 use bits::BytePlace;
+use bits::Order;
 use bits::Whole;
 
-// The next bit place, and the bits of its byte that were put, as a number.
+// The next bit place, and the bits of its byte that were put, as a field.
 pub struct Sink {
     pub place: BitPlace,
     pub part: u64,
+}
+
+// A field taken apart.
+struct TwoFields {
+    first: u64,
+    last: u64,
 }
 
 // A body was written up to a byte place; or no file has it.
@@ -40,27 +46,63 @@ pub fn power(exponent: usize) -> u64
     1u64 << exponent
 }
 
+// Two fields as one: the first with so many bits before, the last with so many behind.
+pub fn glue(order: Order, first: u64, before: usize, last: u64, behind: usize) -> u64
+    requires { ⌜ (before + behind < 64) × (first < 2 ^ before) × (last < 2 ^ behind) ⌝ }
+    ensures { λ r. ⌜ (r ≡ oneField (orderOf order) before behind first last) × (r < 2 ^ (before + behind)) ⌝ }
+{
+    match order {
+        Order::HighFirst => first * power(behind) + last,
+        Order::LowFirst => last * power(before) + first,
+    }
+}
+
+// One field as two, so glued.
+fn split(order: Order, value: u64, before: usize, behind: usize) -> TwoFields
+    requires { ⌜ (before + behind < 64) × (value < 2 ^ (before + behind)) ⌝ }
+    ensures { λ r. ⌜ Split (orderOf order) before behind value (r .first) (r .last) ⌝ }
+{
+    match order {
+        Order::HighFirst => {
+            let unit = power(behind);
+            TwoFields {
+                first: value / unit,
+                last: value % unit,
+            }
+        }
+        Order::LowFirst => {
+            let unit = power(before);
+            TwoFields {
+                first: value % unit,
+                last: value / unit,
+            }
+        }
+    }
+}
+
 // A field of w bits: those that wait and these, a byte at a time.
-pub fn put_bits(out: &mut [u8], sink: Sink, value: u64, width: usize) -> Sink
+pub fn put_bits(order: Order, out: &mut [u8], sink: Sink, value: u64, width: usize) -> Sink
     requires { ⌜ Holds (sink .place .0) (sink .part) × (sink .place .0 ≤ 2 ^ 60) × (width ≤ 32) × (value < 2 ^ width) ⌝ }
-    ensures { λ r. ⌜ under (now (out .exit)) r ≡ lay (under (now (out .entry)) sink) (dig high width value) ⌝ }
+    ensures { λ r. ⌜ under (now (out .exit)) r ≡ lay (orderOf order) (under (now (out .entry)) sink) (dig (orderOf order) width value) ⌝ }
 {
     let at = sink.place.0;
     let begun = sink.part;
+    let used = at % 8;
     let mut i = at / 8;
-    let mut count = at % 8 + width;
-    let mut waiting = begun * power(width) + value;
+    let mut count = used + width;
+    let mut waiting = glue(order, begun, used, value, width);
     let place = BitPlace(at + width);
     // Past the end no byte is stored: only the bits that wait are left to know.
     if out.len() <= i {
-        let part = waiting % power(count % 8);
+        let rest = split(order, waiting, count / 8 * 8, count % 8);
+        let part = rest.last;
         return Sink { place, part };
     }
     while 8 <= count {
         count -= 8;
-        let unit = power(count);
-        put_byte(out, i, waiting / unit);
-        waiting %= unit;
+        let rest = split(order, waiting, 8, count);
+        put_byte(out, i, rest.first);
+        waiting = rest.last;
         i += 1;
     }
     Sink {
@@ -70,9 +112,9 @@ pub fn put_bits(out: &mut [u8], sink: Sink, value: u64, width: usize) -> Sink
 }
 
 // The next whole byte: zero bits up to it.
-pub fn align(out: &mut [u8], sink: Sink) -> Whole
+pub fn align(order: Order, out: &mut [u8], sink: Sink) -> Whole
     requires { ⌜ Holds (sink .place .0) (sink .part) × (sink .place .0 ≤ 2 ^ 60) ⌝ }
-    ensures { λ r. ⌜ Skipped (under (now (out .entry)) sink) (now (out .exit)) (r .byte .0) (r .bit .0) ⌝ }
+    ensures { λ r. ⌜ Skipped (orderOf order) (under (now (out .entry)) sink) (now (out .exit)) (r .byte .0) (r .bit .0) ⌝ }
 {
     let place = sink.place.0;
     let used = place % 8;
@@ -81,6 +123,6 @@ pub fn align(out: &mut [u8], sink: Sink) -> Whole
         return bits::next_byte(sink.place);
     }
     let begun = sink.part;
-    put_byte(out, place / 8, begun * power(8 - used));
+    put_byte(out, place / 8, glue(order, begun, used, 0, 8 - used));
     bits::next_byte(sink.place)
 }

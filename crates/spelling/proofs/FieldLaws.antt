@@ -3,7 +3,7 @@ use Prim.Native.Nat.{ℕ, zero, suc, pred, _+_, _-_, _*_, _/_, _%_, _^_, _≤_, 
 use mathlib.Core.List.{List, [], _∷_}
 use mathlib.Core.Path.{_≡_, refl, sym, ap, ap₂, _∙_, subst}
 use mathlib.Core.Bool.{Bool, true, false, not}
-use native.Mathlib.Nat.{add-zero, pow-suc, mod-eq-of-lt}
+use native.Mathlib.Nat.{add-zero, pow-suc, mod-eq-of-lt, mod-lt}
 use native.Mathlib.Numerals.{add-one}
 use native.Mathlib.Omega.{arith}
 use lib.ListN.{length, getD, take, drop, length-drop}
@@ -12,7 +12,7 @@ use lib.Pow.{pow-pos, pow-lt, high-ones, low as lo}
 use lib.Dec.{leb, ltb}
 use borrow.Author.Tests.{lt-ltb, le-ltb, eq-eqb, ne-eqb, ltb-true, ltb-false, leb-true, leb-false}
 use Rattle.format.specs.Tests.{pick}
-use Rattle.format.specs.Bits.{high}
+use Rattle.format.specs.Bits.{Order}
 use Rattle.format.specs.Formats.{item, Item, _▹_, times, the}
 use Rattle.format.specs.Items.{signExtend}
 use Rattle.format.specs.Possible.{Possible, this, cannot}
@@ -33,15 +33,18 @@ use Rattle.spelling.specs.Spellings.{Announces}
 use Rattle.spelling.proofs.RunLaws.{then-done, then-stop, finish-ends, times-end, times-one, times-bad, times-few, one-done, OneDone, the-one}
 use Rattle.spelling.proofs.NumberLaws.{passing-single}
 
--- ---- UB[w]
-ub-in : (w v : ℕ) → v < 2 ^ w → spellUB high w v ≡ this (dig high w v)
-ub-in w v h = rw (lt-ltb _ _ h)
+pub rest-small : (k x m : ℕ) → m ≡ 2 ^ k → x % m < 2 ^ k
+rest-small k x m e = rw e (mod-lt x (pow-pos k))
 
-ub-out : (w v : ℕ) → 2 ^ w ≤ v → spellUB high w v ≡ cannot
-ub-out w v h = rw (le-ltb _ _ h)
+-- ---- UB[w]
+ub-in : (o : Order) (w v : ℕ) → v < 2 ^ w → spellUB o w v ≡ this (dig o w v)
+ub-in o w v h = rw (lt-ltb _ _ h)
+
+ub-out : (o : Order) (w v : ℕ) → 2 ^ w ≤ v → spellUB o w v ≡ cannot
+ub-out o w v h = rw (le-ltb _ _ h)
 
 -- ---- SB[w]: m is 2 ^ w and h half of it; u is v + h, wrapped
-module _ (w v m h u : ℕ) (low : 1 ≤ w) (few : w ≤ 32) (is : m ≡ 2 ^ w) (half : h ≡ m / 2) (small : v < 2 ^ 64) (sum : u ≡ (v + h) % 2 ^ 64) where
+module _ (o : Order) (w v m h u : ℕ) (low : 1 ≤ w) (few : w ≤ 32) (is : m ≡ 2 ^ w) (half : h ≡ m / 2) (small : v < 2 ^ 64) (sum : u ≡ (v + h) % 2 ^ 64) where
   m-small : m < 2 ^ 33
   m-small = let k : w < 33 = omega arith in rw is (pow-lt k)
 
@@ -55,14 +58,14 @@ module _ (w v m h u : ℕ) (low : 1 ≤ w) (few : w ≤ 32) (is : m ≡ 2 ^ w) (
   wraps : (d : ℕ) → d + (2 ^ 64 - 2 ^ w) ≡ v → d < m → v % m ≡ d
   wraps d e l =
       let c : 64 - w + w ≡ 64 = omega arith in
-      let o : 2 ^ 64 - 2 ^ w ≡ (2 ^ (64 - w) - 1) * 2 ^ w = subst (λ (n : ℕ). 2 ^ n - 2 ^ w ≡ (2 ^ (64 - w) - 1) * 2 ^ w) c (high-ones (64 - w) w) in
+      let ones : 2 ^ 64 - 2 ^ w ≡ (2 ^ (64 - w) - 1) * 2 ^ w = subst (λ (n : ℕ). 2 ^ n - 2 ^ w ≡ (2 ^ (64 - w) - 1) * 2 ^ w) c (high-ones (64 - w) w) in
       let q : v ≡ (2 ^ (64 - w) - 1) * 2 ^ w + d = omega arith in
       rw (is, q) (lo (2 ^ (64 - w) - 1) w (omega arith))
 
-  pub sb-in : u < m → undo (signExtend w) (unextend w) (spellUB high w) v ≡ this (dig high w (v % m))
+  pub sb-in : u < m → undo (signExtend w) (unextend w) (spellUB o w) v ≡ this (dig o w (v % m))
   sb-in l = go (ltb v h) refl
     where
-      go : (c : Bool) → ltb v h ≡ c → undo (signExtend w) (unextend w) (spellUB high w) v ≡ this (dig high w (v % m))
+      go : (c : Bool) → ltb v h ≡ c → undo (signExtend w) (unextend w) (spellUB o w) v ≡ this (dig o w (v % m))
       go true q =
           let k : v < h = ltb-true v h q in
           let a : ltb (v * 2) (2 ^ w) ≡ true = lt-ltb (v * 2) (2 ^ w) (omega (arith, even)) in
@@ -79,13 +82,13 @@ module _ (w v m h u : ℕ) (low : 1 ≤ w) (few : w ≤ 32) (is : m ≡ 2 ^ w) (
           let f : ltb d (2 ^ w) ≡ true = lt-ltb d (2 ^ w) (omega (arith, m-small, even)) in
           rw (a, b, eq-eqb _ _ e, f, r)
 
-  pub sb-out : m ≤ u → undo (signExtend w) (unextend w) (spellUB high w) v ≡ cannot
+  pub sb-out : m ≤ u → undo (signExtend w) (unextend w) (spellUB o w) v ≡ cannot
   sb-out l = go (ltb ((v - (2 ^ 64 - 2 ^ w)) * 2) (2 ^ w)) refl
     where
       a : ltb (v * 2) (2 ^ w) ≡ false
       a = le-ltb (v * 2) (2 ^ w) (omega (arith, m-small, even))
 
-      go : (c : Bool) → ltb ((v - (2 ^ 64 - 2 ^ w)) * 2) (2 ^ w) ≡ c → undo (signExtend w) (unextend w) (spellUB high w) v ≡ cannot
+      go : (c : Bool) → ltb ((v - (2 ^ 64 - 2 ^ w)) * 2) (2 ^ w) ≡ c → undo (signExtend w) (unextend w) (spellUB o w) v ≡ cannot
       go true q = rw (a, q, ne-eqb (v - (2 ^ 64 - 2 ^ w)) v (λ z. omega (arith, m-small, even, pow-pos w)))
       go false q =
           rw (
@@ -95,109 +98,109 @@ module _ (w v m h u : ℕ) (low : 1 ≤ w) (few : w ≤ 32) (is : m ≡ 2 ^ w) (
           )
 
 -- ---- one field by its kind
-abbrev fieldSpelling : Field → ℕ → ℕ → Possible (List Bool)
-fieldSpelling Verb w v = spellUB high w v
-fieldSpelling Interpolation w v = spellUB high w v
-fieldSpelling Bit w v = spellUB high w v
-fieldSpelling ByteValue w v = spellUB high w v
-fieldSpelling Coordinate w v = undo (signExtend w) (unextend w) (spellUB high w) v
+abbrev fieldSpelling : Order → Field → ℕ → ℕ → Possible (List Bool)
+fieldSpelling o Verb w v = spellUB o w v
+fieldSpelling o Interpolation w v = spellUB o w v
+fieldSpelling o Bit w v = spellUB o w v
+fieldSpelling o ByteValue w v = spellUB o w v
+fieldSpelling o Coordinate w v = undo (signExtend w) (unextend w) (spellUB o w) v
 
-unfoldable pub fieldBits : Field → ℕ → ℕ → ℕ → Possible (List Bool)
-fieldBits f w p v = pick (allows f v) (fieldSpelling f w v) cannot
+unfoldable pub fieldBits : Order → Field → ℕ → ℕ → ℕ → Possible (List Bool)
+fieldBits o f w p v = pick (allows f v) (fieldSpelling o f w v) cannot
 
-pub field-is : (f : Field) (w : ℕ) (ns : List ℕ) (p : ℕ) → unrun high (fieldOf f w) ns p ≡ single (fieldBits f w p) ns
+pub field-is : (o : Order) (f : Field) (w : ℕ) (ns : List ℕ) (p : ℕ) → unrun o (fieldOf f w) ns p ≡ single (fieldBits o f w p) ns
 unfolding unrun writeItem fieldBits
-field-is Verb w ns p = refl
-field-is Interpolation w ns p = passing-single (λ ns. ltb 0 (the ns)) (spellUB high w) ns
-field-is Bit w ns p = refl
-field-is ByteValue w ns p = passing-single (λ ns. leb (the ns) 255) (spellUB high w) ns
-field-is Coordinate w ns p = refl
+field-is o Verb w ns p = refl
+field-is o Interpolation w ns p = passing-single (λ ns. ltb 0 (the ns)) (spellUB o w) ns
+field-is o Bit w ns p = refl
+field-is o ByteValue w ns p = passing-single (λ ns. leb (the ns) 255) (spellUB o w) ns
+field-is o Coordinate w ns p = refl
 
-pub field-sb : (w p v : ℕ) {b : Possible (List Bool)} → undo (signExtend w) (unextend w) (spellUB high w) v ≡ b → fieldBits Coordinate w p v ≡ b
+pub field-sb : (o : Order) (w p v : ℕ) {b : Possible (List Bool)} → undo (signExtend w) (unextend w) (spellUB o w) v ≡ b → fieldBits o Coordinate w p v ≡ b
 unfolding fieldBits
-field-sb w p v e = e
+field-sb o w p v e = e
 
-unsigned-is : (f : Field) (w v : ℕ) → signed f ≡ false → fieldSpelling f w v ≡ spellUB high w v
-unsigned-is Verb w v h = refl
-unsigned-is Interpolation w v h = refl
-unsigned-is Bit w v h = refl
-unsigned-is ByteValue w v h = refl
-unsigned-is Coordinate w v h = clash cc
+unsigned-is : (o : Order) (f : Field) (w v : ℕ) → signed f ≡ false → fieldSpelling o f w v ≡ spellUB o w v
+unsigned-is o Verb w v h = refl
+unsigned-is o Interpolation w v h = refl
+unsigned-is o Bit w v h = refl
+unsigned-is o ByteValue w v h = refl
+unsigned-is o Coordinate w v h = clash cc
 
 -- m is 2 ^ w, and c whether the number is allowed
-module _ (f : Field) (w p v m : ℕ) (un : signed f ≡ false) (is : m ≡ 2 ^ w) where
-  pub field-large : m ≤ v → fieldBits f w p v ≡ cannot
+module _ (o : Order) (f : Field) (w p v m : ℕ) (un : signed f ≡ false) (is : m ≡ 2 ^ w) where
+  pub field-large : m ≤ v → fieldBits o f w p v ≡ cannot
   unfolding fieldBits
   field-large h = go (allows f v)
     where
-      go : (c : Bool) → pick c (fieldSpelling f w v) cannot ≡ cannot
-      go true = unsigned-is f w v un ∙ ub-out w v (omega arith)
+      go : (c : Bool) → pick c (fieldSpelling o f w v) cannot ≡ cannot
+      go true = unsigned-is o f w v un ∙ ub-out o w v (omega arith)
       go false = refl
 
-  pub field-out : {c : Bool} → c ≡ allows f v → not c ≡ true → fieldBits f w p v ≡ cannot
+  pub field-out : {c : Bool} → c ≡ allows f v → not c ≡ true → fieldBits o f w p v ≡ cannot
   unfolding fieldBits
   field-out {c} e h = go c e h
     where
-      go : (c : Bool) → c ≡ allows f v → not c ≡ true → pick (allows f v) (fieldSpelling f w v) cannot ≡ cannot
+      go : (c : Bool) → c ≡ allows f v → not c ≡ true → pick (allows f v) (fieldSpelling o f w v) cannot ≡ cannot
       go true e h = clash cc
       go false e h = rw (sym e)
 
-  pub field-in : {c : Bool} → c ≡ allows f v → not c ≡ false → v < m → fieldBits f w p v ≡ this (dig high w v)
+  pub field-in : {c : Bool} → c ≡ allows f v → not c ≡ false → v < m → fieldBits o f w p v ≡ this (dig o w v)
   unfolding fieldBits
   field-in {c} e h l = go c e h
     where
-      go : (c : Bool) → c ≡ allows f v → not c ≡ false → pick (allows f v) (fieldSpelling f w v) cannot ≡ this (dig high w v)
-      go true e h = rw (sym e) (unsigned-is f w v un ∙ ub-in w v (omega arith))
+      go : (c : Bool) → c ≡ allows f v → not c ≡ false → pick (allows f v) (fieldSpelling o f w v) cannot ≡ this (dig o w v)
+      go true e h = rw (sym e) (unsigned-is o f w v un ∙ ub-in o w v (omega arith))
       go false e h = clash cc
 
 -- ---- a run of fields: i of n were put, and no place was judged
-pub record Going (f : Field) (w : ℕ) (t o : List ℕ) (s : Sink) (k n : ℕ) (u : List ℕ) (cur : Sink) (i : ℕ) : Type 0 where
-  pub size : length u ≡ length o
+pub record Going (o : Order) (f : Field) (w : ℕ) (t out : List ℕ) (s : Sink) (k n : ℕ) (u : List ℕ) (cur : Sink) (i : ℕ) : Type 0 where
+  pub size : length u ≡ length out
   pub within : i ≤ n
   pub holds : Holds (cur .place .0) (cur .part)
   pub low : cur .place .0 ≤ limit + 32 * i
-  pub rest : ran t (at o s) k (times n (fieldOf f w)) ≡ ran t (at u cur) (k + i) (times (n - i) (fieldOf f w))
+  pub rest : ran o t (at out s) k (times n (fieldOf f w)) ≡ ran o t (at u cur) (k + i) (times (n - i) (fieldOf f w))
 
-pub fields-few : (f : Field) (w : ℕ) (t o : List ℕ) (s : Sink) (k n : ℕ) {m : ℕ} → m ≡ min n (length t - k) → m < n → cannot ≡ ran t (at o s) k (times n (fieldOf f w))
-fields-few f w t o s k n e h = sym (times-few (fieldOf f w) (fieldBits f w) (field-is f w) t (at o s) k n (omega arith))
+pub fields-few : (o : Order) (f : Field) (w : ℕ) (t out : List ℕ) (s : Sink) (k n : ℕ) {m : ℕ} → m ≡ min n (length t - k) → m < n → cannot ≡ ran o t (at out s) k (times n (fieldOf f w))
+fields-few o f w t out s k n e h = sym (times-few o (fieldOf f w) (fieldBits o f w) (field-is o f w) t (at out s) k n (omega arith))
 
-pub fields-start : (f : Field) (w : ℕ) (t o : List ℕ) (s : Sink) (k n : ℕ) → Fine s → Going f w t o s k n o s 0
-fields-start f w t o s k n fine = record {
+pub fields-start : (o : Order) (f : Field) (w : ℕ) (t out : List ℕ) (s : Sink) (k n : ℕ) → Fine s → Going o f w t out s k n out s 0
+fields-start o f w t out s k n fine = record {
   size = refl;
   within = omega arith;
   holds = fine .0;
   low = omega (arith, fine .1);
-  rest = ap₂ (λ (j m : ℕ). ran t (at o s) j (times m (fieldOf f w))) (sym (add-zero k)) (let z : n ≡ n - 0 = omega arith in z);
+  rest = ap₂ (λ (j m : ℕ). ran o t (at out s) j (times m (fieldOf f w))) (sym (add-zero k)) (let z : n ≡ n - 0 = omega arith in z);
 }
 
-module _ {f : Field} {w : ℕ} {t o : List ℕ} {s : Sink} {k n : ℕ} {u : List ℕ} {cur : Sink} {i : ℕ} (g : Going f w t o s k n u cur i) (more : i < n) {m : ℕ} (is : m ≡ min n (length t - k)) (few : n ≤ m) where
-  pub fields-bad : fieldBits f w (cur .place .0) (getD t (k + i) 0) ≡ cannot → cannot ≡ ran t (at o s) k (times n (fieldOf f w))
-  fields-bad e = sym (g .rest ∙ times-bad (fieldOf f w) (fieldBits f w) (field-is f w) t (at u cur) (k + i) (n - i) (omega arith) (omega arith) e)
+module _ {o : Order} {f : Field} {w : ℕ} {t out : List ℕ} {s : Sink} {k n : ℕ} {u : List ℕ} {cur : Sink} {i : ℕ} (g : Going o f w t out s k n u cur i) (more : i < n) {m : ℕ} (is : m ≡ min n (length t - k)) (few : n ≤ m) where
+  pub fields-bad : fieldBits o f w (cur .place .0) (getD t (k + i) 0) ≡ cannot → cannot ≡ ran o t (at out s) k (times n (fieldOf f w))
+  fields-bad e = sym (g .rest ∙ times-bad o (fieldOf f w) (fieldBits o f w) (field-is o f w) t (at u cur) (k + i) (n - i) (omega arith) (omega arith) e)
 
-  pub fields-next : (x : ℕ) {u′ : List ℕ} {s′ : Sink} → w ≤ 32 → fieldBits f w (cur .place .0) (getD t (k + i) 0) ≡ this (dig high w x) → length u′ ≡ length u
-      → at u′ s′ ≡ lay (at u cur) (dig high w x) → Going f w t o s k n u′ s′ (i + 1)
+  pub fields-next : (x : ℕ) {u′ : List ℕ} {s′ : Sink} → w ≤ 32 → fieldBits o f w (cur .place .0) (getD t (k + i) 0) ≡ this (dig o w x) → length u′ ≡ length u
+      → at u′ s′ ≡ lay o (at u cur) (dig o w x) → Going o f w t out s k n u′ s′ (i + 1)
   fields-next x {u′} {s′} h e size d = record {
     size = size ∙ g .size;
     within = omega arith;
-    holds = subst (λ (z : State). Holds (z .place) (z .part)) (sym d) (lay-ok (at u cur) (dig high w x) (g .holds));
+    holds = subst (λ (z : State). Holds (z .place) (z .part)) (sym d) (lay-ok o (at u cur) (dig o w x) (g .holds));
     low =
-        let p : s′ .place .0 ≡ cur .place .0 + length (dig high w x) = ap (λ (z : State). z .place) d ∙ lay-place (at u cur) (dig high w x) in
-        omega (arith, g .low, length-dig high w x);
+        let p : s′ .place .0 ≡ cur .place .0 + length (dig o w x) = ap (λ (z : State). z .place) d ∙ lay-place o (at u cur) (dig o w x) in
+        omega (arith, g .low, length-dig o w x);
     rest =
         let a : k + i + 1 ≡ k + (i + 1) = omega arith in
         let b : n - i - 1 ≡ n - (i + 1) = omega arith in
         g .rest
-        ∙ times-one (fieldOf f w) (fieldBits f w) (field-is f w) t (at u cur) (k + i) (n - i) (dig high w x) (omega arith) (omega arith) e
-        ∙ ap (λ (z : State). ran t z (k + i + 1) (times (n - i - 1) (fieldOf f w))) (sym d)
-        ∙ ap₂ (λ (j l : ℕ). ran t (at u′ s′) j (times l (fieldOf f w))) a b;
+        ∙ times-one o (fieldOf f w) (fieldBits o f w) (field-is o f w) t (at u cur) (k + i) (n - i) (dig o w x) (omega arith) (omega arith) e
+        ∙ ap (λ (z : State). ran o t z (k + i + 1) (times (n - i - 1) (fieldOf f w))) (sym d)
+        ∙ ap₂ (λ (j l : ℕ). ran o t (at u′ s′) j (times l (fieldOf f w))) a b;
   }
 
-pub fields-over : {f : Field} {w : ℕ} {t o : List ℕ} {s : Sink} {k n : ℕ} {u : List ℕ} {cur : Sink} {i : ℕ} → Going f w t o s k n u cur i → n ≤ i
-    → {R : Put} → R ≡ finish cur (k + n) → seen u R ≡ ran t (at o s) k (times n (fieldOf f w))
-fields-over {f} {w} {t} {o} {s} {k} {n} {u} {cur} {i} g h e =
+pub fields-over : {o : Order} {f : Field} {w : ℕ} {t out : List ℕ} {s : Sink} {k n : ℕ} {u : List ℕ} {cur : Sink} {i : ℕ} → Going o f w t out s k n u cur i → n ≤ i
+    → {R : Put} → R ≡ finish cur (k + n) → seen u R ≡ ran o t (at out s) k (times n (fieldOf f w))
+fields-over {o} {f} {w} {t} {out} {s} {k} {n} {u} {cur} {i} g h e =
     let a : n - i ≡ 0 = omega arith in
     let b : k + i ≡ k + n = omega (arith, g .within) in
-    ap (seen u) e ∙ finish-ends u cur (k + n) ∙ sym (g .rest ∙ times-end t (at u cur) (k + i) (fieldOf f w) (n - i) a ∙ ap (ends (at u cur)) b)
+    ap (seen u) e ∙ finish-ends u cur (k + n) ∙ sym (g .rest ∙ times-end o t (at u cur) (k + i) (fieldOf f w) (n - i) a ∙ ap (ends (at u cur)) b)
 
 -- ---- and those that were put announce c
 abbrev pub Counted : Field → List ℕ → ℕ → ℕ → ℕ → Type 0
@@ -231,58 +234,58 @@ signed-announces : (t : List ℕ) (k n : ℕ) (R : Put) → Announces Coordinate
 signed-announces t k n (Done s j) = (none-announced (take (j - k) (drop k t)), omega arith)
 signed-announces t k n Impossible = tt
 
-pub signed-run : (f : Field) (w : ℕ) (t : List ℕ) (st : State) (k n : ℕ) (u : List ℕ) (R : Put) → signed f ≡ true → seen u R ≡ ran t st k (times n (fieldOf Coordinate w))
-    → (seen u R ≡ ran t st k (times n (fieldOf f w))) × Announces f t k n R 0
-signed-run Verb w t st k n u R h e = clash cc
-signed-run Interpolation w t st k n u R h e = clash cc
-signed-run Bit w t st k n u R h e = clash cc
-signed-run ByteValue w t st k n u R h e = clash cc
-signed-run Coordinate w t st k n u R h e = (e, signed-announces t k n R)
+pub signed-run : (o : Order) (f : Field) (w : ℕ) (t : List ℕ) (st : State) (k n : ℕ) (u : List ℕ) (R : Put) → signed f ≡ true → seen u R ≡ ran o t st k (times n (fieldOf Coordinate w))
+    → (seen u R ≡ ran o t st k (times n (fieldOf f w))) × Announces f t k n R 0
+signed-run o Verb w t st k n u R h e = clash cc
+signed-run o Interpolation w t st k n u R h e = clash cc
+signed-run o Bit w t st k n u R h e = clash cc
+signed-run o ByteValue w t st k n u R h e = clash cc
+signed-run o Coordinate w t st k n u R h e = (e, signed-announces t k n R)
 
 -- what a run that was written announces
 pub announces-done : (f : Field) (t : List ℕ) (k n m : ℕ) {R : Put} {s : Sink} {j : ℕ} → Announces f t k n R m → R ≡ Done s j → (m ≡ announced f (take (j - k) (drop k t))) × (m ≤ 6 * n)
 announces-done f t k n m a e = subst (λ (x : Put). Announces f t k n x m) e a
 
 -- ---- a width
-unfoldable pub widthBits : ℕ → ℕ → Possible (List Bool)
-widthBits p v = undo suc pred (spellUB high 5) v
+unfoldable pub widthBits : Order → ℕ → ℕ → Possible (List Bool)
+widthBits o p v = undo suc pred (spellUB o 5) v
 
-pub width-is : (ns : List ℕ) (p : ℕ) → unrun high (item Item.width) ns p ≡ single (widthBits p) ns
+pub width-is : (o : Order) (ns : List ℕ) (p : ℕ) → unrun o (item Item.width) ns p ≡ single (widthBits o p) ns
 unfolding unrun writeItem widthBits
-width-is ns p = refl
+width-is o ns p = refl
 
-pub width-zero : (p v : ℕ) → v ≡ 0 → widthBits p v ≡ cannot
+pub width-zero : (o : Order) (p v : ℕ) → v ≡ 0 → widthBits o p v ≡ cannot
 unfolding widthBits
-width-zero p v e = rw e
+width-zero o p v e = rw e
 
-pub width-large : (p v : ℕ) → 32 < v → widthBits p v ≡ cannot
+pub width-large : (o : Order) (p v : ℕ) → 32 < v → widthBits o p v ≡ cannot
 unfolding widthBits
-width-large p zero h = absurd (omega arith)
-width-large p (suc v) h = rw (eq-eqb (suc v) (suc v) refl, le-ltb v (2 ^ 5) (omega arith))
+width-large o p zero h = absurd (omega arith)
+width-large o p (suc v) h = rw (eq-eqb (suc v) (suc v) refl, le-ltb v (2 ^ 5) (omega arith))
 
-pub width-in : (p v : ℕ) → (v ≡ 0 → ⊥) → v ≤ 32 → widthBits p v ≡ this (dig high 5 (v - 1))
+pub width-in : (o : Order) (p v : ℕ) → (v ≡ 0 → ⊥) → v ≤ 32 → widthBits o p v ≡ this (dig o 5 (v - 1))
 unfolding widthBits
-width-in p zero h l = absurd (h refl)
-width-in p (suc v) h l = let z : suc v - 1 ≡ v = omega arith in rw (eq-eqb (suc v) (suc v) refl, lt-ltb v (2 ^ 5) (omega arith), z)
+width-in o p zero h l = absurd (h refl)
+width-in o p (suc v) h l = let z : suc v - 1 ≡ v = omega arith in rw (eq-eqb (suc v) (suc v) refl, lt-ltb v (2 ^ 5) (omega arith), z)
 
 -- ---- a width, and n fields of it
-module _ (f : Field) (t : List ℕ) (st : State) (k n : ℕ) (u : List ℕ) (R : Put) (first : seen u R ≡ ran t st k (item Item.width)) where
-  pub scaled-stop : R ≡ Impossible → ran t st k (item Item.width ▹ λ w. times n (fieldOf f (the w))) ≡ cannot
-  scaled-stop e = then-stop t st k (item Item.width) (λ w. times n (fieldOf f (the w))) u R first e
+module _ (o : Order) (f : Field) (t : List ℕ) (st : State) (k n : ℕ) (u : List ℕ) (R : Put) (first : seen u R ≡ ran o t st k (item Item.width)) where
+  pub scaled-stop : R ≡ Impossible → ran o t st k (item Item.width ▹ λ w. times n (fieldOf f (the w))) ≡ cannot
+  scaled-stop e = then-stop o t st k (item Item.width) (λ w. times n (fieldOf f (the w))) u R first e
 
   module _ (s : Sink) (j : ℕ) (e : R ≡ Done s j) where
-    at-width : OneDone (item Item.width) widthBits width-is t st k j
-    at-width = one-done (item Item.width) widthBits width-is t st k (at u s) j (sym first ∙ ap (seen u) e)
+    at-width : OneDone o (item Item.width) (widthBits o) (width-is o) t st k j
+    at-width = one-done o (item Item.width) (widthBits o) (width-is o) t st k (at u s) j (sym first ∙ ap (seen u) e)
 
     pub width-range : (k < length t) × (1 ≤ getD t k 0) × (getD t k 0 ≤ 32)
     width-range = (at-width .inside, go (leb 1 (getD t k 0)) refl (leb (getD t k 0) 32) refl .0, go (leb 1 (getD t k 0)) refl (leb (getD t k 0) 32) refl .1)
       where
         go : (a : Bool) → leb 1 (getD t k 0) ≡ a → (b : Bool) → leb (getD t k 0) 32 ≡ b → (1 ≤ getD t k 0) × (getD t k 0 ≤ 32)
-        go false p b q = absurd (at-width .spells (width-zero (st .place) (getD t k 0) (omega (arith, leb-false 1 (getD t k 0) p))))
-        go true p false q = absurd (at-width .spells (width-large (st .place) (getD t k 0) (leb-false (getD t k 0) 32 q)))
+        go false p b q = absurd (at-width .spells (width-zero o (st .place) (getD t k 0) (omega (arith, leb-false 1 (getD t k 0) p))))
+        go true p false q = absurd (at-width .spells (width-large o (st .place) (getD t k 0) (leb-false (getD t k 0) 32 q)))
         go true p true q = (leb-true 1 (getD t k 0) p, leb-true (getD t k 0) 32 q)
 
-    pub scaled-done : ran t st k (item Item.width ▹ λ w. times n (fieldOf f (the w))) ≡ ran t (at u s) j (times n (fieldOf f (getD t k 0)))
+    pub scaled-done : ran o t st k (item Item.width ▹ λ w. times n (fieldOf f (the w))) ≡ ran o t (at u s) j (times n (fieldOf f (getD t k 0)))
     scaled-done =
-        then-done t st k (item Item.width) (λ w. times n (fieldOf f (the w))) u R first s j e
-        ∙ ap (λ (w : ℕ). ran t (at u s) j (times n (fieldOf f w))) (the-one t k j (at-width .next) (at-width .inside))
+        then-done o t st k (item Item.width) (λ w. times n (fieldOf f (the w))) u R first s j e
+        ∙ ap (λ (w : ℕ). ran o t (at u s) j (times n (fieldOf f w))) (the-one t k j (at-width .next) (at-width .inside))

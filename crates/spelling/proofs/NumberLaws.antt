@@ -8,7 +8,7 @@ use lib.ListN.{length, getD, set}
 use lib.Dec.{leb, ltb, eqb}
 use borrow.Author.Tests.{lt-ltb, le-ltb, le-leb, lt-leb, eq-eqb, ne-eqb, leb-true}
 use Rattle.format.specs.Tests.{pick, _and_, _or_}
-use Rattle.format.specs.Bits.{high}
+use Rattle.format.specs.Bits.{Order}
 use Rattle.format.specs.Formats.{Format, _▹_, the}
 use Rattle.format.specs.Items.{skipped}
 use Rattle.format.specs.Possible.{Possible, this, cannot}
@@ -27,72 +27,72 @@ use Rattle.spelling.specs.Spellings.{spellingOf}
 use Rattle.spelling.proofs.RunLaws.{then-stop, then-done, laid-before, laid-in, laid-no, one-done, OneDone, the-one}
 
 -- ---- a byte
-pub byte-in : (o : List ℕ) (i p v : ℕ) {u : List ℕ} → p ≡ 8 * i → v ≤ 255 → u ≡ set o i v → this (mk u (p + 8) 0) ≡ bitsOver (mk o p 0) (spellUB high 8 v)
-byte-in o i p v e h d = laid-in (mk o p 0) (spellUB high 8 v) (rw (lt-ltb v (2 ^ 8) (omega arith))) (sym (lay-byte o i v (omega arith) e d))
+pub byte-in : (o : Order) (out : List ℕ) (i p v : ℕ) {u : List ℕ} → p ≡ 8 * i → v ≤ 255 → u ≡ set out i v → this (mk u (p + 8) 0) ≡ bitsOver o (mk out p 0) (spellUB o 8 v)
+byte-in o out i p v e h d = laid-in o (mk out p 0) (spellUB o 8 v) (rw (lt-ltb v (2 ^ 8) (omega arith))) (sym (lay-byte o out i v (omega arith) e d))
 
-pub byte-no : (st : State) (v : ℕ) → 255 < v → cannot ≡ bitsOver st (spellUB high 8 v)
-byte-no st v h = laid-no st (spellUB high 8 v) (rw (le-ltb v (2 ^ 8) (omega arith)))
+pub byte-no : (o : Order) (st : State) (v : ℕ) → 255 < v → cannot ≡ bitsOver o st (spellUB o 8 v)
+byte-no o st v h = laid-no o st (spellUB o 8 v) (rw (le-ltb v (2 ^ 8) (omega arith)))
 
 -- one byte, and what follows it
-pub byte-then : (o : List ℕ) (i p v : ℕ) {u : List ℕ} (b : Possible (List Bool)) → v < 256 → p ≡ 8 * i → u ≡ set o i v → bitsOver (mk o p 0) (before (dig high 8 v) b) ≡ bitsOver (mk u (p + 8) 0) b
-byte-then o i p v b h e d = laid-before (mk o p 0) (dig high 8 v) b ∙ ap (λ (st : State). bitsOver st b) (lay-byte o i v h e d)
+pub byte-then : (o : Order) (out : List ℕ) (i p v : ℕ) {u : List ℕ} (b : Possible (List Bool)) → v < 256 → p ≡ 8 * i → u ≡ set out i v → bitsOver o (mk out p 0) (before (dig o 8 v) b) ≡ bitsOver o (mk u (p + 8) 0) b
+byte-then o out i p v b h e d = laid-before o (mk out p 0) (dig o 8 v) b ∙ ap (λ (st : State). bitsOver o st b) (lay-byte o out i v h e d)
 
 -- ---- a Float
-pub float-in : (o : List ℕ) (i p v : ℕ) {u₀ u₁ u₂ u₃ : List ℕ} → p ≡ 8 * i → v ≤ 4294967295
-    → u₀ ≡ set o i (v % 256) → u₁ ≡ set u₀ (i + 1) (v / 256 % 256) → u₂ ≡ set u₁ (i + 2) (v / 65536 % 256) → u₃ ≡ set u₂ (i + 3) (v / 16777216)
-    → this (mk u₃ (p + 32) 0) ≡ bitsOver (mk o p 0) (spellLE high v 4)
+pub float-in : (o : Order) (out : List ℕ) (i p v : ℕ) {u₀ u₁ u₂ u₃ : List ℕ} → p ≡ 8 * i → v ≤ 4294967295
+    → u₀ ≡ set out i (v % 256) → u₁ ≡ set u₀ (i + 1) (v / 256 % 256) → u₂ ≡ set u₁ (i + 2) (v / 65536 % 256) → u₃ ≡ set u₂ (i + 3) (v / 16777216)
+    → this (mk u₃ (p + 32) 0) ≡ bitsOver o (mk out p 0) (spellLE o v 4)
 unfolding spellLE
-float-in o i p v {u₀} {u₁} {u₂} {u₃} e h e₀ e₁ e₂ e₃ =
+float-in o out i p v {u₀} {u₁} {u₂} {u₃} e h e₀ e₁ e₂ e₃ =
     let q₂ : v / 256 / 256 ≡ v / 65536 = omega arith in
     let q₃ : v / 65536 / 256 ≡ v / 16777216 = omega arith in
     let q₄ : v / 16777216 / 256 ≡ 0 = omega arith in
     let l₃ : v / 16777216 % 256 ≡ v / 16777216 = omega arith in
     let l : p + 8 + 8 + 8 + 8 ≡ p + 32 = omega arith in
-    let b₃ : Possible (List Bool) = before (dig high 8 (v / 16777216)) (this []) in
-    let b₂ : Possible (List Bool) = before (dig high 8 (v / 65536 % 256)) b₃ in
-    let b₁ : Possible (List Bool) = before (dig high 8 (v / 256 % 256)) b₂ in
+    let b₃ : Possible (List Bool) = before (dig o 8 (v / 16777216)) (this []) in
+    let b₂ : Possible (List Bool) = before (dig o 8 (v / 65536 % 256)) b₃ in
+    let b₁ : Possible (List Bool) = before (dig o 8 (v / 256 % 256)) b₂ in
     sym
     (rw (q₂, q₃, q₄, l₃)
-    (byte-then o i p (v % 256) b₁ (omega arith) e e₀
-    ∙ byte-then u₀ (i + 1) (p + 8) (v / 256 % 256) b₂ (omega arith) (omega arith) e₁
-    ∙ byte-then u₁ (i + 2) (p + 8 + 8) (v / 65536 % 256) b₃ (omega arith) (omega arith) e₂
-    ∙ byte-then u₂ (i + 3) (p + 8 + 8 + 8) (v / 16777216) (this []) (omega arith) (omega arith) e₃
-    ∙ ap (λ (x : ℕ). bitsOver (mk u₃ x 0) (this [])) l
-    ∙ ap this (lay-none (mk u₃ (p + 32) 0))))
+    (byte-then o out i p (v % 256) b₁ (omega arith) e e₀
+    ∙ byte-then o u₀ (i + 1) (p + 8) (v / 256 % 256) b₂ (omega arith) (omega arith) e₁
+    ∙ byte-then o u₁ (i + 2) (p + 8 + 8) (v / 65536 % 256) b₃ (omega arith) (omega arith) e₂
+    ∙ byte-then o u₂ (i + 3) (p + 8 + 8 + 8) (v / 16777216) (this []) (omega arith) (omega arith) e₃
+    ∙ ap (λ (x : ℕ). bitsOver o (mk u₃ x 0) (this [])) l
+    ∙ ap this (lay-none o (mk u₃ (p + 32) 0))))
 
-pub float-no : (st : State) (v : ℕ) → 4294967295 < v → cannot ≡ bitsOver st (spellLE high v 4)
+pub float-no : (o : Order) (st : State) (v : ℕ) → 4294967295 < v → cannot ≡ bitsOver o st (spellLE o v 4)
 unfolding spellLE
-float-no st v h =
+float-no o st v h =
     let n : eqb (v / 256 / 256 / 256 / 256) 0 ≡ false = ne-eqb (v / 256 / 256 / 256 / 256) 0 (λ e. omega arith) in
     rw n
 
 -- ---- seven bits a byte
-module _ (o : List ℕ) (i p top v : ℕ) (e : p ≡ 8 * i) where
-  pub var-more : (k : ℕ) {u : List ℕ} → (k ≡ 0 → ⊥) → 128 ≤ v → u ≡ set o i (128 + v % 128)
-      → bitsOver (mk o p 0) (spellVar high top v k) ≡ bitsOver (mk u (p + 8) 0) (spellVar high top (v / 128) (k - 1))
+module _ (o : Order) (out : List ℕ) (i p top v : ℕ) (e : p ≡ 8 * i) where
+  pub var-more : (k : ℕ) {u : List ℕ} → (k ≡ 0 → ⊥) → 128 ≤ v → u ≡ set out i (128 + v % 128)
+      → bitsOver o (mk out p 0) (spellVar o top v k) ≡ bitsOver o (mk u (p + 8) 0) (spellVar o top (v / 128) (k - 1))
   unfolding spellVar
   var-more zero h l d = absurd (h refl)
   var-more (suc k) h l d =
       let q : suc k - 1 ≡ k = omega arith in
-      rw (le-ltb v 128 l, q) (byte-then o i p (128 + v % 128) (spellVar high top (v / 128) k) (omega arith) e d)
+      rw (le-ltb v 128 l, q) (byte-then o out i p (128 + v % 128) (spellVar o top (v / 128) k) (omega arith) e d)
 
-  pub var-long : (k : ℕ) → top < 128 → k ≡ 0 → 128 ≤ v → cannot ≡ bitsOver (mk o p 0) (spellVar high top v k)
+  pub var-long : (k : ℕ) → top < 128 → k ≡ 0 → 128 ≤ v → cannot ≡ bitsOver o (mk out p 0) (spellVar o top v k)
   unfolding spellVar
   var-long k t h l = rw (h, lt-leb v top (omega arith))
 
-  pub var-over : (k : ℕ) → k ≡ 0 → top < v → cannot ≡ bitsOver (mk o p 0) (spellVar high top v k)
+  pub var-over : (k : ℕ) → k ≡ 0 → top < v → cannot ≡ bitsOver o (mk out p 0) (spellVar o top v k)
   unfolding spellVar
   var-over k h l = rw (h, lt-leb v top l)
 
-  pub var-end : (k : ℕ) {u : List ℕ} → v < 128 → (k ≡ 0 → v ≤ top) → u ≡ set o i v → this (mk u (p + 8) 0) ≡ bitsOver (mk o p 0) (spellVar high top v k)
+  pub var-end : (k : ℕ) {u : List ℕ} → v < 128 → (k ≡ 0 → v ≤ top) → u ≡ set out i v → this (mk u (p + 8) 0) ≡ bitsOver o (mk out p 0) (spellVar o top v k)
   unfolding spellVar
-  var-end zero l h d = rw (le-leb v top (h refl)) (ap this (sym (lay-byte o i v (omega arith) e d)))
-  var-end (suc k) l h d = rw (lt-ltb v 128 l) (ap this (sym (lay-byte o i v (omega arith) e d)))
+  var-end zero l h d = rw (le-leb v top (h refl)) (ap this (sym (lay-byte o out i v (omega arith) e d)))
+  var-end (suc k) l h d = rw (lt-ltb v 128 l) (ap this (sym (lay-byte o out i v (omega arith) e d)))
 
 -- ---- I32
-var-none : (d : ℕ) → 4294967296 ≤ d → spellVar high 15 d 4 ≡ cannot
+var-none : (o : Order) (d : ℕ) → 4294967296 ≤ d → spellVar o 15 d 4 ≡ cannot
 unfolding spellVar
-var-none d h =
+var-none o d h =
     rw (
       le-ltb d 128 (omega arith),
       le-ltb (d / 128) 128 (omega arith),
@@ -101,30 +101,30 @@ var-none d h =
       lt-leb (d / 128 / 128 / 128 / 128) 15 (omega arith),
     )
 
-pub i32-plus : (v : ℕ) → v < 9223372036854775808 → spellI32 high v ≡ spellVar high 15 (v * 2) 4
-i32-plus v h =
+pub i32-plus : (o : Order) (v : ℕ) → v < 9223372036854775808 → spellI32 o v ≡ spellVar o 15 (v * 2) 4
+i32-plus o v h =
     let a : ltb v (2 ^ 63) ≡ true = lt-ltb v (2 ^ 63) (omega arith) in
     let b : eqb (v * 2 % 2) 0 ≡ true = eq-eqb (v * 2 % 2) 0 (omega arith) in
     let c : eqb (v * 2 / 2) v ≡ true = eq-eqb (v * 2 / 2) v (omega arith) in
     rw (a, b, c, ne-eqb (v * 2) 1 (λ e. omega arith))
 
-minus : (v : ℕ) → v < 18446744073709551616 → 9223372036854775808 ≤ v → spellI32 high v ≡ spellVar high 15 ((2 ^ 64 - v) * 2 + 1) 4
-minus v l h =
+minus : (o : Order) (v : ℕ) → v < 18446744073709551616 → 9223372036854775808 ≤ v → spellI32 o v ≡ spellVar o 15 ((2 ^ 64 - v) * 2 + 1) 4
+minus o v l h =
     let a : ltb v (2 ^ 63) ≡ false = le-ltb v (2 ^ 63) (omega arith) in
     let b : eqb (((2 ^ 64 - v) * 2 + 1) % 2) 0 ≡ false = ne-eqb (((2 ^ 64 - v) * 2 + 1) % 2) 0 (λ e. omega arith) in
     let c : eqb (2 ^ 64 - ((2 ^ 64 - v) * 2 + 1) / 2) v ≡ true = eq-eqb (2 ^ 64 - ((2 ^ 64 - v) * 2 + 1) / 2) v (omega arith) in
     rw (a, b, c, ne-eqb ((2 ^ 64 - v) * 2 + 1) 1 (λ e. omega arith))
 
 -- m is the magnitude of a negative number
-pub i32-minus : (v m : ℕ) → v < 18446744073709551616 → 9223372036854775808 ≤ v → 2 ^ 64 - v ≡ m → spellI32 high v ≡ spellVar high 15 (m * 2 + 1) 4
-i32-minus v m l h e = minus v l h ∙ ap (λ (x : ℕ). spellVar high 15 (x * 2 + 1) 4) e
+pub i32-minus : (o : Order) (v m : ℕ) → v < 18446744073709551616 → 9223372036854775808 ≤ v → 2 ^ 64 - v ≡ m → spellI32 o v ≡ spellVar o 15 (m * 2 + 1) 4
+i32-minus o v m l h e = minus o v l h ∙ ap (λ (x : ℕ). spellVar o 15 (x * 2 + 1) 4) e
 
-pub i32-none : (v m : ℕ) → v < 18446744073709551616 → 9223372036854775808 ≤ v → 2 ^ 64 - v ≡ m → 2147483647 < m → spellI32 high v ≡ cannot
-i32-none v m l h e g = i32-minus v m l h e ∙ var-none (m * 2 + 1) (omega arith)
+pub i32-none : (o : Order) (v m : ℕ) → v < 18446744073709551616 → 9223372036854775808 ≤ v → 2 ^ 64 - v ≡ m → 2147483647 < m → spellI32 o v ≡ cannot
+i32-none o v m l h e g = i32-minus o v m l h e ∙ var-none o (m * 2 + 1) (omega arith)
 
 -- ---- an item: the skip, its spelling, its range
-unfoldable pub bitsOf : Item → ℕ → ℕ → Possible (List Bool)
-bitsOf kind p v = pick (eqb (rangeFault kind v) 0) (before (dig high (skipped p) 0) (spellingOf kind v)) cannot
+unfoldable pub bitsOf : Order → Item → ℕ → ℕ → Possible (List Bool)
+bitsOf o kind p v = pick (eqb (rangeFault kind v) 0) (before (dig o (skipped p) 0) (spellingOf o kind v)) cannot
 
 pub single-eq : (f g : ℕ → Possible (List Bool)) → ((v : ℕ) → f v ≡ g v) → (ns : List ℕ) → single f ns ≡ single g ns
 single-eq f g h [] = refl
@@ -153,43 +153,43 @@ tested true e b h = refl
 tested false e b h = rw (ne-eqb e 0 h)
 
 -- with a test: its fault is e
-range-is : (c : List ℕ → Bool) (e p : ℕ) (f : ℕ → Possible (List Bool)) (ns : List ℕ) → (e ≡ 0 → ⊥)
-    → passing c (adjoin [] (dig high (skipped p) 0) (single f ns)) ≡ single (λ v. pick (eqb (pick (c (v ∷ [])) 0 e) 0) (before (dig high (skipped p) 0) (f v)) cannot) ns
-range-is c e p f ns h =
-    ap (passing c) (adjoin-single (dig high (skipped p) 0) f ns)
-    ∙ passing-single c (λ v. before (dig high (skipped p) 0) (f v)) ns
-    ∙ single-eq _ _ (λ v. tested (c (v ∷ [])) e (before (dig high (skipped p) 0) (f v)) h) ns
+range-is : (o : Order) (c : List ℕ → Bool) (e p : ℕ) (f : ℕ → Possible (List Bool)) (ns : List ℕ) → (e ≡ 0 → ⊥)
+    → passing c (adjoin [] (dig o (skipped p) 0) (single f ns)) ≡ single (λ v. pick (eqb (pick (c (v ∷ [])) 0 e) 0) (before (dig o (skipped p) 0) (f v)) cannot) ns
+range-is o c e p f ns h =
+    ap (passing c) (adjoin-single (dig o (skipped p) 0) f ns)
+    ∙ passing-single c (λ v. before (dig o (skipped p) 0) (f v)) ns
+    ∙ single-eq _ _ (λ v. tested (c (v ∷ [])) e (before (dig o (skipped p) 0) (f v)) h) ns
 
-pub item-is : (kind : Item) (ns : List ℕ) (p : ℕ) → unrun high (formatOf kind) ns p ≡ single (bitsOf kind p) ns
+pub item-is : (o : Order) (kind : Item) (ns : List ℕ) (p : ℕ) → unrun o (formatOf kind) ns p ≡ single (bitsOf o kind p) ns
 unfolding unrun writeItem bitsOf rangeFault
-item-is U32 ns p = adjoin-single (dig high (skipped p) 0) (spellingOf U32) ns
-item-is I32 ns p = adjoin-single (dig high (skipped p) 0) (spellingOf I32) ns
-item-is Time ns p = adjoin-single (dig high (skipped p) 0) (spellingOf Time) ns
-item-is Float ns p = adjoin-single (dig high (skipped p) 0) (spellingOf Float) ns
-item-is Byte ns p = adjoin-single (dig high (skipped p) 0) (spellingOf Byte) ns
-item-is (Enum top) ns p = range-is (λ ns. leb (the ns) top) 16 p (spellUB high 8) ns (λ e. omega arith)
-item-is BlendMode ns p = range-is (λ ns. leb (the ns) 16 or (leb 21 (the ns) and leb (the ns) 26)) 16 p (spellUB high 8) ns (λ e. omega arith)
-item-is (Count lo) ns p = range-is (λ ns. leb lo (the ns) and leb (the ns) 4096) 17 p (λ v. spellVar high 15 v 4) ns (λ e. omega arith)
+item-is o U32 ns p = adjoin-single (dig o (skipped p) 0) (spellingOf o U32) ns
+item-is o I32 ns p = adjoin-single (dig o (skipped p) 0) (spellingOf o I32) ns
+item-is o Time ns p = adjoin-single (dig o (skipped p) 0) (spellingOf o Time) ns
+item-is o Float ns p = adjoin-single (dig o (skipped p) 0) (spellingOf o Float) ns
+item-is o Byte ns p = adjoin-single (dig o (skipped p) 0) (spellingOf o Byte) ns
+item-is o (Enum top) ns p = range-is o (λ ns. leb (the ns) top) 16 p (spellUB o 8) ns (λ e. omega arith)
+item-is o BlendMode ns p = range-is o (λ ns. leb (the ns) 16 or (leb 21 (the ns) and leb (the ns) 26)) 16 p (spellUB o 8) ns (λ e. omega arith)
+item-is o (Count lo) ns p = range-is o (λ ns. leb lo (the ns) and leb (the ns) 4096) 17 p (λ v. spellVar o 15 v 4) ns (λ e. omega arith)
 
-pub item-out : (kind : Item) (p v : ℕ) {r : ℕ} → r ≡ rangeFault kind v → (r ≡ 0 → ⊥) → bitsOf kind p v ≡ cannot
+pub item-out : (o : Order) (kind : Item) (p v : ℕ) {r : ℕ} → r ≡ rangeFault kind v → (r ≡ 0 → ⊥) → bitsOf o kind p v ≡ cannot
 unfolding bitsOf
-item-out kind p v e h = rw (ne-eqb (rangeFault kind v) 0 (λ z. h (e ∙ z)))
+item-out o kind p v e h = rw (ne-eqb (rangeFault kind v) 0 (λ z. h (e ∙ z)))
 
-pub item-in : (kind : Item) (st : State) (v : ℕ) {r byte bit : ℕ} {u : List ℕ} {x : Possible State} → r ≡ rangeFault kind v → (r ≡ 0) → Skipped st u byte bit
-    → x ≡ bitsOver (mk u bit 0) (spellingOf kind v) → x ≡ bitsOver st (bitsOf kind (st .place) v)
+pub item-in : (o : Order) (kind : Item) (st : State) (v : ℕ) {r byte bit : ℕ} {u : List ℕ} {x : Possible State} → r ≡ rangeFault kind v → (r ≡ 0) → Skipped o st u byte bit
+    → x ≡ bitsOver o (mk u bit 0) (spellingOf o kind v) → x ≡ bitsOver o st (bitsOf o kind (st .place) v)
 unfolding bitsOf
-item-in kind st v e h skip d =
-    d ∙ ap (λ (s : State). bitsOver s (spellingOf kind v)) (skip .laid) ∙ sym (laid-before st (dig high (skipped (st .place)) 0) (spellingOf kind v))
+item-in o kind st v e h skip d =
+    d ∙ ap (λ (s : State). bitsOver o s (spellingOf o kind v)) (skip .laid) ∙ sym (laid-before o st (dig o (skipped (st .place)) 0) (spellingOf o kind v))
     ∙ (let z : eqb (rangeFault kind v) 0 ≡ true = eq-eqb (rangeFault kind v) 0 (sym e ∙ h) in rw z)
 
 -- ---- a count that was written is in its range
-pub count-done : (lo : ℕ) (t : List ℕ) (st st′ : State) (k j : ℕ) → ran t st k (formatOf (Count lo)) ≡ this (here st′ j)
+pub count-done : (o : Order) (lo : ℕ) (t : List ℕ) (st st′ : State) (k j : ℕ) → ran o t st k (formatOf (Count lo)) ≡ this (here st′ j)
     → (j ≡ k + 1) × (k < length t) × (lo ≤ getD t k 0) × (getD t k 0 ≤ 4096)
 unfolding bitsOf rangeFault
-count-done lo t st st′ k j e = (d .next, d .inside, go (leb lo (getD t k 0)) refl (leb (getD t k 0) 4096) refl .0, go (leb lo (getD t k 0)) refl (leb (getD t k 0) 4096) refl .1)
+count-done o lo t st st′ k j e = (d .next, d .inside, go (leb lo (getD t k 0)) refl (leb (getD t k 0) 4096) refl .0, go (leb lo (getD t k 0)) refl (leb (getD t k 0) 4096) refl .1)
   where
-    d : OneDone (formatOf (Count lo)) (bitsOf (Count lo)) (item-is (Count lo)) t st k j
-    d = one-done (formatOf (Count lo)) (bitsOf (Count lo)) (item-is (Count lo)) t st k st′ j e
+    d : OneDone o (formatOf (Count lo)) (bitsOf o (Count lo)) (item-is o (Count lo)) t st k j
+    d = one-done o (formatOf (Count lo)) (bitsOf o (Count lo)) (item-is o (Count lo)) t st k st′ j e
 
     go : (a : Bool) → leb lo (getD t k 0) ≡ a → (b : Bool) → leb (getD t k 0) 4096 ≡ b → (lo ≤ getD t k 0) × (getD t k 0 ≤ 4096)
     go false p b q = absurd (d .spells (rw p))
@@ -197,13 +197,13 @@ count-done lo t st st′ k j e = (d .next, d .inside, go (leb lo (getD t k 0)) r
     go true p true q = (leb-true lo (getD t k 0) p, leb-true (getD t k 0) 4096 q)
 
 -- ---- a count, and what follows it
-module _ (lo : ℕ) (g : ℕ → Format) (t : List ℕ) (st : State) (k : ℕ) (u : List ℕ) (R : Put) (first : seen u R ≡ ran t st k (formatOf (Count lo))) where
-  pub counted-stop : R ≡ Impossible → seen u R ≡ ran t st k (formatOf (Count lo) ▹ λ n. g (the n))
-  counted-stop e = ap (seen u) e ∙ sym (then-stop t st k (formatOf (Count lo)) (λ n. g (the n)) u R first e)
+module _ (o : Order) (lo : ℕ) (g : ℕ → Format) (t : List ℕ) (st : State) (k : ℕ) (u : List ℕ) (R : Put) (first : seen u R ≡ ran o t st k (formatOf (Count lo))) where
+  pub counted-stop : R ≡ Impossible → seen u R ≡ ran o t st k (formatOf (Count lo) ▹ λ n. g (the n))
+  counted-stop e = ap (seen u) e ∙ sym (then-stop o t st k (formatOf (Count lo)) (λ n. g (the n)) u R first e)
 
   module _ (s : Sink) (j : ℕ) (e : R ≡ Done s j) where
     done : (j ≡ k + 1) × (k < length t) × (lo ≤ getD t k 0) × (getD t k 0 ≤ 4096)
-    done = count-done lo t st (at u s) k j (sym first ∙ ap (seen u) e)
+    done = count-done o lo t st (at u s) k j (sym first ∙ ap (seen u) e)
 
     pub counted-inside : k < length t
     counted-inside = done .1
@@ -211,10 +211,10 @@ module _ (lo : ℕ) (g : ℕ → Format) (t : List ℕ) (st : State) (k : ℕ) (
     pub counted-most : getD t k 0 ≤ 4096
     counted-most = done .3
 
-    pub counted-done : ran t st k (formatOf (Count lo) ▹ λ n. g (the n)) ≡ ran t (at u s) j (g (getD t k 0))
+    pub counted-done : ran o t st k (formatOf (Count lo) ▹ λ n. g (the n)) ≡ ran o t (at u s) j (g (getD t k 0))
     counted-done =
-        then-done t st k (formatOf (Count lo)) (λ n. g (the n)) u R first s j e
-        ∙ ap (λ (n : ℕ). ran t (at u s) j (g n)) (the-one t k j (done .0) (done .1))
+        then-done o t st k (formatOf (Count lo)) (λ n. g (the n)) u R first s j e
+        ∙ ap (λ (n : ℕ). ran o t (at u s) j (g n)) (the-one t k j (done .0) (done .1))
 
-    pub counted-on : {x : Possible Seen} → x ≡ ran t (at u s) j (g (getD t k 0)) → x ≡ ran t st k (formatOf (Count lo) ▹ λ n. g (the n))
+    pub counted-on : {x : Possible Seen} → x ≡ ran o t (at u s) j (g (getD t k 0)) → x ≡ ran o t st k (formatOf (Count lo) ▹ λ n. g (the n))
     counted-on d = d ∙ sym counted-done

@@ -5,7 +5,7 @@ use mathlib.Core.Path.{_≡_, refl, ap, _∙_}
 use mathlib.Core.Bool.{Bool}
 use native.Mathlib.Omega.{arith}
 use lib.ListN.{length, length-append}
-use Rattle.format.specs.Bits.{high}
+use Rattle.format.specs.Bits.{Order}
 use Rattle.format.specs.Formats.{Item, Format, nothing, item, only, _▹_}
 use Rattle.format.specs.Items.{skipped}
 use Rattle.format.specs.Possible.{Possible, this, cannot}
@@ -17,19 +17,19 @@ use Rattle.format.proofs.Absurd.{clash}
 skipped-shift : (p m : ℕ) → skipped (p + 8 * m) ≡ skipped p
 skipped-shift p m = let e : (p + 8 * m) % 8 ≡ p % 8 = omega arith in rw e
 
-item-shift : (i : Item) (ns : List ℕ) (p m : ℕ) → writeItem high i ns (p + 8 * m) ≡ writeItem high i ns p
+item-shift : (o : Order) (i : Item) (ns : List ℕ) (p m : ℕ) → writeItem o i ns (p + 8 * m) ≡ writeItem o i ns p
 unfolding writeItem
-item-shift Item.align ns p m = ap (λ (n : ℕ). this (wrote [] (dig high n 0) ns)) (skipped-shift p m)
-item-shift (Item.UB n) ns p m = refl
-item-shift (Item.SB n) ns p m = refl
-item-shift Item.width ns p m = refl
-item-shift Item.U32 ns p m = refl
-item-shift Item.U64 ns p m = refl
-item-shift Item.I32 ns p m = refl
-item-shift (Item.flag n) ns p m = refl
-item-shift (Item.echo n) ns p m = refl
-item-shift (Item.LE n) ns p m = refl
-item-shift Item.string ns p m = refl
+item-shift o Item.align ns p m = ap (λ (n : ℕ). this (wrote [] (dig o n 0) ns)) (skipped-shift p m)
+item-shift o (Item.UB n) ns p m = refl
+item-shift o (Item.SB n) ns p m = refl
+item-shift o Item.width ns p m = refl
+item-shift o Item.U32 ns p m = refl
+item-shift o Item.U64 ns p m = refl
+item-shift o Item.I32 ns p m = refl
+item-shift o (Item.flag n) ns p m = refl
+item-shift o (Item.echo n) ns p m = refl
+item-shift o (Item.LE n) ns p m = refl
+item-shift o Item.string ns p m = refl
 
 pub onward-shift : (w : Possible Written) (p m : ℕ) (k : List ℕ → List ℕ → ℕ → Possible Written) → ((xs ys : List ℕ) (q : ℕ) → k xs ys (q + 8 * m) ≡ k xs ys q)
     → onward w (p + 8 * m) k ≡ onward w p k
@@ -38,19 +38,19 @@ onward-shift (this (wrote xs bs ys)) p m k h =
     let e : p + 8 * m + length bs ≡ p + length bs + 8 * m = omega arith in
     ap (adjoin xs bs) (ap (k xs ys) e ∙ h xs ys (p + length bs))
 
-pub shift : (f : Format) (ns : List ℕ) (p m : ℕ) → unrun high f ns (p + 8 * m) ≡ unrun high f ns p
+pub shift : (o : Order) (f : Format) (ns : List ℕ) (p m : ℕ) → unrun o f ns (p + 8 * m) ≡ unrun o f ns p
 unfolding unrun
-shift nothing ns p m = refl
-shift (item i) ns p m = item-shift i ns p m
-shift (only t e f) ns p m = ap (passing t) (shift f ns p m)
-shift (f ▹ g) ns p m =
-    ap (λ (w : Possible Written). onward w (p + 8 * m) (λ xs ys q. unrun high (g xs) ys q)) (shift f ns p m)
-    ∙ onward-shift (unrun high f ns p) p m (λ xs ys q. unrun high (g xs) ys q) (λ xs ys q. shift (g xs) ys q m)
+shift o nothing ns p m = refl
+shift o (item i) ns p m = item-shift o i ns p m
+shift o (only t e f) ns p m = ap (passing t) (shift o f ns p m)
+shift o (f ▹ g) ns p m =
+    ap (λ (w : Possible Written). onward w (p + 8 * m) (λ xs ys q. unrun o (g xs) ys q)) (shift o f ns p m)
+    ∙ onward-shift (unrun o f ns p) p m (λ xs ys q. unrun o (g xs) ys q) (λ xs ys q. shift o (g xs) ys q m)
 
 -- what ends with the skip to a whole byte is whole bytes
-pub whole-bytes : (w : Possible Written) (xs : List ℕ) (bs : List Bool) (ys : List ℕ) → onward w 0 (λ xs ys q. writeItem high Item.align ys q) ≡ this (wrote xs bs ys) → length bs % 8 ≡ 0
+pub whole-bytes : (o : Order) (w : Possible Written) (xs : List ℕ) (bs : List Bool) (ys : List ℕ) → onward w 0 (λ xs ys q. writeItem o Item.align ys q) ≡ this (wrote xs bs ys) → length bs % 8 ≡ 0
 unfolding writeItem
-whole-bytes cannot xs bs ys h = clash cc
-whole-bytes (this (wrote xs′ bs′ ys′)) xs bs ys h =
-    let z : bs ≡ bs′ ++ dig high (skipped (0 + length bs′)) 0 = cc in
-    omega (arith, ap length z, length-append bs′ (dig high (skipped (0 + length bs′)) 0), length-dig high (skipped (0 + length bs′)) 0)
+whole-bytes o cannot xs bs ys h = clash cc
+whole-bytes o (this (wrote xs′ bs′ ys′)) xs bs ys h =
+    let z : bs ≡ bs′ ++ dig o (skipped (0 + length bs′)) 0 = cc in
+    omega (arith, ap length z, length-append bs′ (dig o (skipped (0 + length bs′)) 0), length-dig o (skipped (0 + length bs′)) 0)

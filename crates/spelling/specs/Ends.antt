@@ -2,7 +2,7 @@
 use Prim.Native.Nat.{ℕ, _/_}
 use lib.Dec.{eqb}
 use Rattle.format.specs.Tests.{pick}
-use Rattle.format.specs.Bits.{high}
+use Rattle.format.specs.Bits.{Order}
 use Rattle.format.specs.Items.{skipped}
 use Rattle.format.specs.Possible.{Possible, this, cannot}
 use Rattle.format.specs.WritingItems.{dig}
@@ -13,13 +13,13 @@ use Rattle.spelling.specs.declared.Put.{Put}
 use Rattle.spelling.specs.declared.Put.the-variants.{Done, Impossible}
 
 -- the state after the skip to a whole byte
-abbrev pub skippedTo : State → State
-skippedTo st = lay st (dig high (skipped (st .place)) 0)
+abbrev pub skippedTo : Order → State → State
+skippedTo o st = lay o st (dig o (skipped (st .place)) 0)
 
 -- n values are to be used up
-abbrev pub concluded : ℕ → Possible Seen → Possible Lain
-concluded n (this (here st k)) = pick (eqb k n) (this (lain (skippedTo st .bytes) (skippedTo st .place / 8))) cannot
-concluded n cannot = cannot
+abbrev pub concluded : Order → ℕ → Possible Seen → Possible Lain
+concluded o n (this (here st k)) = pick (eqb k n) (this (lain (skippedTo o st .bytes) (skippedTo o st .place / 8))) cannot
+concluded o n cannot = cannot
 
 -- a sink that code may go on with, if there is one
 abbrev pub FineAfter : Put → Type 0

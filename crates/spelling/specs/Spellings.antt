@@ -4,7 +4,7 @@ use mathlib.Core.Path.{_≡_}
 use mathlib.Core.List.{List}
 use mathlib.Core.Bool.{Bool}
 use lib.ListN.{take, drop}
-use Rattle.format.specs.Bits.{high}
+use Rattle.format.specs.Bits.{Order}
 use Rattle.format.specs.Possible.{Possible}
 use Rattle.format.specs.WritingItems.{spellUB, spellVar, spellI32, spellLE}
 use Rattle.items.specs.declared.Item.{Item}
@@ -14,15 +14,15 @@ use Rattle.table.specs.declared.fields.Field.{Field}
 use Rattle.spelling.specs.declared.Put.{Put}
 use Rattle.spelling.specs.declared.Put.the-variants.{Done, Impossible}
 
-abbrev pub spellingOf : Item → ℕ → Possible (List Bool)
-spellingOf U32 v = spellVar high 15 v 4
-spellingOf I32 v = spellI32 high v
-spellingOf Time v = spellVar high 1 v 9
-spellingOf Float v = spellLE high v 4
-spellingOf Byte v = spellUB high 8 v
-spellingOf (Enum top) v = spellUB high 8 v
-spellingOf BlendMode v = spellUB high 8 v
-spellingOf (Count lo) v = spellVar high 15 v 4
+abbrev pub spellingOf : Order → Item → ℕ → Possible (List Bool)
+spellingOf o U32 v = spellVar o 15 v 4
+spellingOf o I32 v = spellI32 o v
+spellingOf o Time v = spellVar o 1 v 9
+spellingOf o Float v = spellLE o v 4
+spellingOf o Byte v = spellUB o 8 v
+spellingOf o (Enum top) v = spellUB o 8 v
+spellingOf o BlendMode v = spellUB o 8 v
+spellingOf o (Count lo) v = spellVar o 15 v 4
 
 -- a run of n fields from index k of the values t announces m signed fields; nothing is said where no file has the run
 abbrev pub Announces : Field → List ℕ → ℕ → ℕ → Put → ℕ → Type 0

@@ -7,7 +7,7 @@ use mathlib.Core.List.{List}
 use lib.Dec.{leb}
 use lib.ListN.{length, drop}
 use Rattle.format.specs.Tests.{pick}
-use Rattle.format.specs.Bits.{high}
+use Rattle.format.specs.Bits.{Order}
 use Rattle.format.specs.Formats.{Format}
 use Rattle.format.specs.Possible.{Possible, this, cannot}
 use Rattle.format.specs.WritingItems.{Written, wrote}
@@ -20,21 +20,21 @@ use Rattle.spelling.specs.declared.Spelt.{Spelt}
 use Rattle.spelling.specs.declared.Spelt.the-variants.{In, No}
 
 -- one number
-abbrev pub bitsOver : State → Possible (List Bool) → Possible State
-bitsOver st (this bs) = this (lay st bs)
-bitsOver st cannot = cannot
+abbrev pub bitsOver : Order → State → Possible (List Bool) → Possible State
+bitsOver o st (this bs) = this (lay o st bs)
+bitsOver o st cannot = cannot
 
 abbrev pub got : List ℕ → Spelt → Possible State
-got o (In s) = this (at o s)
-got o No = cannot
+got u (In s) = this (at u s)
+got u No = cannot
 
 -- some values: the state after them, and the index of the next one
 pub data Seen : Type 0 where
   here : State → ℕ → Seen
 
 abbrev pub seen : List ℕ → Put → Possible Seen
-seen o (Done s k) = this (here (at o s) k)
-seen o Impossible = cannot
+seen u (Done s k) = this (here (at u s) k)
+seen u Impossible = cannot
 
 -- in bits: no file is longer
 abbrev pub limit : ℕ
@@ -43,13 +43,13 @@ limit = 134217728
 unfoldable pub ends : State → ℕ → Possible Seen
 ends st k = pick (leb (st .place) limit) (this (here st k)) cannot
 
-unfoldable pub writtenOver : State → ℕ → Possible Written → Possible Seen
-writtenOver st k (this (wrote xs bs ys)) = ends (lay st bs) (k + length xs)
-writtenOver st k cannot = cannot
+unfoldable pub writtenOver : Order → State → ℕ → Possible Written → Possible Seen
+writtenOver o st k (this (wrote xs bs ys)) = ends (lay o st bs) (k + length xs)
+writtenOver o st k cannot = cannot
 
 -- a format written from index k of the values t
-unfoldable pub ran : List ℕ → State → ℕ → Format → Possible Seen
-ran t st k f = writtenOver st k (unrun high f (drop k t) (st .place))
+unfoldable pub ran : Order → List ℕ → State → ℕ → Format → Possible Seen
+ran o t st k f = writtenOver o st k (unrun o f (drop k t) (st .place))
 
 -- a sink that code may go on with
 abbrev pub Fine : Sink → Type 0

@@ -3,6 +3,7 @@ ghost use mathlib.Core.Path.{_≡_};
 ghost use mathlib.Core.Bool.{false};
 ghost use Prim.Native.Nat.{_-_, _≤_, _<_, _^_};
 ghost use Rattle.format.specs.Formats.{item, Item, times, the, _▹_};
+ghost use Rattle.bits.specs.Places.{orderOf};
 ghost use Rattle.table.specs.Fields.{fieldOf, signed};
 ghost use Rattle.table.specs.declared.fields.Field.the-variants.{Coordinate};
 ghost use Rattle.sink.specs.Laying.{at as under};
@@ -10,6 +11,7 @@ ghost use Rattle.spelling.specs.Writing.{seen, ran, Fine};
 ghost use Rattle.spelling.specs.Spellings.{Announces};
 use crate::Put;
 use crate::ended;
+use bits::Order;
 use sink::Sink;
 use table::fields::Field;
 
@@ -21,6 +23,7 @@ pub struct Announced {
 
 // n SB fields of w bits. The sum wraps a negative number back: v is one from -half up to half. Places only grow, so the last one alone is judged.
 fn write_signed(
+    order: Order,
     width: usize,
     count: usize,
     out: &mut [u8],
@@ -29,7 +32,7 @@ fn write_signed(
     from: usize,
 ) -> Put
     requires { ⌜ Fine sink × (1 ≤ width) × (width ≤ 32) × (count < 2 ^ 32) ⌝ }
-    ensures { λ r. ⌜ seen (now (out .exit)) r ≡ ran (now (values .entry)) (under (now (out .entry)) sink) from (times count (fieldOf Coordinate width)) ⌝ }
+    ensures { λ r. ⌜ seen (now (out .exit)) r ≡ ran (orderOf order) (now (values .entry)) (under (now (out .entry)) sink) from (times count (fieldOf Coordinate width)) ⌝ }
 {
     if table::room_for(values.len(), from, count) < count {
         return Put::Impossible;
@@ -43,7 +46,7 @@ fn write_signed(
         if size <= std::num::wrapping_add_u64(value, half) {
             return Put::Impossible;
         }
-        cur = sink::put_bits(out, cur, value % size, width);
+        cur = sink::put_bits(order, out, cur, value % size, width);
         i += 1;
     }
     ended(cur, from + count)
@@ -51,6 +54,7 @@ fn write_signed(
 
 // n UB fields of w bits, and how many signed fields they announce.
 fn write_unsigned(
+    order: Order,
     kind: Field,
     width: usize,
     count: usize,
@@ -60,7 +64,7 @@ fn write_unsigned(
     from: usize,
 ) -> Announced
     requires { ⌜ Fine sink × (1 ≤ width) × (width ≤ 32) × (count < 2 ^ 32) × (signed kind ≡ false) ⌝ }
-    ensures states { λ r. ⌜ seen (now (out .exit)) (r .put) ≡ ran (now (values .entry)) (under (now (out .entry)) sink) from (times count (fieldOf kind width)) ⌝ }
+    ensures states { λ r. ⌜ seen (now (out .exit)) (r .put) ≡ ran (orderOf order) (now (values .entry)) (under (now (out .entry)) sink) from (times count (fieldOf kind width)) ⌝ }
     ensures counts { λ r. ⌜ Announces kind (now (values .entry)) from count (r .put) (r .count) ⌝ }
 {
     let put = Put::Impossible;
@@ -81,7 +85,7 @@ fn write_unsigned(
         if !table::fields::allowed(kind, value) {
             return none;
         }
-        cur = sink::put_bits(out, cur, value, width);
+        cur = sink::put_bits(order, out, cur, value, width);
         sum += table::fields::weight(&weights, value);
         i += 1;
     }
@@ -91,6 +95,7 @@ fn write_unsigned(
 
 // n fields of w bits.
 pub fn write_fields(
+    order: Order,
     kind: Field,
     width: usize,
     count: usize,
@@ -100,20 +105,20 @@ pub fn write_fields(
     from: usize,
 ) -> Announced
     requires { ⌜ Fine sink × (1 ≤ width) × (width ≤ 32) × (count < 2 ^ 32) ⌝ }
-    ensures states { λ r. ⌜ seen (now (out .exit)) (r .put) ≡ ran (now (values .entry)) (under (now (out .entry)) sink) from (times count (fieldOf kind width)) ⌝ }
+    ensures states { λ r. ⌜ seen (now (out .exit)) (r .put) ≡ ran (orderOf order) (now (values .entry)) (under (now (out .entry)) sink) from (times count (fieldOf kind width)) ⌝ }
     ensures counts { λ r. ⌜ Announces kind (now (values .entry)) from count (r .put) (r .count) ⌝ }
 {
     if table::fields::is_signed(kind) {
-        let put = write_signed(width, count, out, sink, values, from);
+        let put = write_signed(order, width, count, out, sink, values, from);
         return Announced { put, count: 0 };
     }
-    write_unsigned(kind, width, count, out, sink, values, from)
+    write_unsigned(order, kind, width, count, out, sink, values, from)
 }
 
 // A width: one less than it, in five bits.
-fn write_width(out: &mut [u8], sink: Sink, values: &[u64], from: usize) -> Put
+fn write_width(order: Order, out: &mut [u8], sink: Sink, values: &[u64], from: usize) -> Put
     requires { ⌜ Fine sink ⌝ }
-    ensures { λ r. ⌜ seen (now (out .exit)) r ≡ ran (now (values .entry)) (under (now (out .entry)) sink) from (item Item.width) ⌝ }
+    ensures { λ r. ⌜ seen (now (out .exit)) r ≡ ran (orderOf order) (now (values .entry)) (under (now (out .entry)) sink) from (item Item.width) ⌝ }
 {
     if values.len() <= from {
         return Put::Impossible;
@@ -125,12 +130,13 @@ fn write_width(out: &mut [u8], sink: Sink, values: &[u64], from: usize) -> Put
     if 32 < width {
         return Put::Impossible;
     }
-    let next = sink::put_bits(out, sink, width - 1, 5);
+    let next = sink::put_bits(order, out, sink, width - 1, 5);
     ended(next, from + 1)
 }
 
 // A width, and n fields of it.
 pub fn write_scaled(
+    order: Order,
     kind: Field,
     count: usize,
     out: &mut [u8],
@@ -139,13 +145,14 @@ pub fn write_scaled(
     from: usize,
 ) -> Put
     requires { ⌜ Fine sink × (count < 2 ^ 32) ⌝ }
-    ensures { λ r. ⌜ seen (now (out .exit)) r ≡ ran (now (values .entry)) (under (now (out .entry)) sink) from (item Item.width ▹ λ w. times count (fieldOf kind (the w))) ⌝ }
+    ensures { λ r. ⌜ seen (now (out .exit)) r ≡ ran (orderOf order) (now (values .entry)) (under (now (out .entry)) sink) from (item Item.width ▹ λ w. times count (fieldOf kind (the w))) ⌝ }
 {
-    let r = write_width(out, sink, values, from);
+    let r = write_width(order, out, sink, values, from);
     let Put::Done(next, behind) = r else {
         return r;
     };
     let fields = write_fields(
+        order,
         kind,
         values[from] as usize,
         count,

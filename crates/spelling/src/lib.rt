@@ -1,9 +1,9 @@
 // The values of a tag, written as the items of a body: each function goes on from a sink and an index, and says that no file has the values where they cannot be written.
 ghost use mathlib.Core.Path.{_≡_};
 ghost use Rattle.items.specs.Kinds.{formatOf};
-ghost use Rattle.format.specs.Bits.{high};
 ghost use Rattle.format.specs.Items.{skipped};
 ghost use Rattle.format.specs.WritingItems.{dig};
+ghost use Rattle.bits.specs.Places.{orderOf};
 ghost use Rattle.sink.specs.Lain.{lainAs};
 ghost use Rattle.sink.specs.Laying.{at as under, lay};
 ghost use Rattle.spelling.specs.Ends.{concluded, FineAfter};
@@ -13,6 +13,7 @@ pub mod fields;
 mod numbers;
 pub mod text;
 
+use bits::Order;
 use items::Item;
 use sink::Body;
 use sink::Sink;
@@ -42,9 +43,16 @@ pub(crate) fn ended(sink: Sink, behind: usize) -> Put
 }
 
 // One item: in its range, on a whole byte.
-pub fn write_one(kind: Item, out: &mut [u8], sink: Sink, values: &[u64], from: usize) -> Put
+pub fn write_one(
+    order: Order,
+    kind: Item,
+    out: &mut [u8],
+    sink: Sink,
+    values: &[u64],
+    from: usize,
+) -> Put
     requires { ⌜ Fine sink ⌝ }
-    ensures { λ r. ⌜ seen (now (out .exit)) r ≡ ran (now (values .entry)) (under (now (out .entry)) sink) from (formatOf kind) ⌝ }
+    ensures { λ r. ⌜ seen (now (out .exit)) r ≡ ran (orderOf order) (now (values .entry)) (under (now (out .entry)) sink) from (formatOf kind) ⌝ }
 {
     if values.len() <= from {
         return Put::Impossible;
@@ -53,7 +61,7 @@ pub fn write_one(kind: Item, out: &mut [u8], sink: Sink, values: &[u64], from: u
     if items::out_of_range(kind, value) != 0 {
         return Put::Impossible;
     }
-    let start = sink::align(out, sink);
+    let start = sink::align(order, out, sink);
     let r = numbers::spell_item(kind, out, start, value);
     match r {
         Spelt::In(next) => ended(next, from + 1),
@@ -62,19 +70,19 @@ pub fn write_one(kind: Item, out: &mut [u8], sink: Sink, values: &[u64], from: u
 }
 
 // Zero bits up to the next whole byte.
-pub fn skip(out: &mut [u8], sink: Sink) -> Sink
+pub fn skip(order: Order, out: &mut [u8], sink: Sink) -> Sink
     requires { ⌜ Fine sink ⌝ }
-    ensures { λ r. ⌜ (under (now (out .exit)) r ≡ lay (under (now (out .entry)) sink) (dig high (skipped (sink .place .0)) 0)) × Fine r ⌝ }
+    ensures { λ r. ⌜ (under (now (out .exit)) r ≡ lay (orderOf order) (under (now (out .entry)) sink) (dig (orderOf order) (skipped (sink .place .0)) 0)) × Fine r ⌝ }
 {
-    let start = sink::align(out, sink);
+    let start = sink::align(order, out, sink);
     let place = start.bit;
     Sink { place, part: 0 }
 }
 
 // The end of a body: all n values are used up, and zero bits go up to a whole byte.
-pub fn conclude(written: Put, count: usize, out: &mut [u8]) -> Body
+pub fn conclude(order: Order, written: Put, count: usize, out: &mut [u8]) -> Body
     requires { ⌜ FineAfter written ⌝ }
-    ensures { λ b. ⌜ lainAs (now (out .exit)) b ≡ concluded count (seen (now (out .entry)) written) ⌝ }
+    ensures { λ b. ⌜ lainAs (now (out .exit)) b ≡ concluded (orderOf order) count (seen (now (out .entry)) written) ⌝ }
 {
     let Put::Done(sink, behind) = written else {
         return Body::No;
@@ -82,7 +90,7 @@ pub fn conclude(written: Put, count: usize, out: &mut [u8]) -> Body
     if behind != count {
         return Body::No;
     }
-    let end = sink::align(out, sink);
+    let end = sink::align(order, out, sink);
     let stop = end.byte;
     Body::To(stop)
 }

@@ -1,8 +1,8 @@
-// The spellings of one number, from a whole byte on.
+// The spellings of one number, from a whole byte on: whole bytes are the same in either order.
 ghost use mathlib.Core.Path.{_≡_};
 ghost use Prim.Native.Nat.{_<_, _≤_};
-ghost use Rattle.format.specs.Bits.{high};
 ghost use Rattle.format.specs.WritingItems.{spellUB, spellVar, spellI32, spellLE};
+ghost use Rattle.bits.specs.Places.{InEither};
 ghost use Rattle.sink.specs.Laying.{mk};
 ghost use Rattle.spelling.specs.Writing.{bitsOver, got, OnByte};
 ghost use Rattle.spelling.specs.Spellings.{spellingOf};
@@ -16,7 +16,7 @@ use sink::put_byte;
 // One byte.
 fn spell_byte(out: &mut [u8], at: Whole, value: u64) -> Spelt
     requires { ⌜ OnByte (at .byte .0) (at .bit .0) ⌝ }
-    ensures { λ r. ⌜ got (now (out .exit)) r ≡ bitsOver (mk (now (out .entry)) (at .bit .0) 0) (spellUB high 8 value) ⌝ }
+    ensures { λ r. ⌜ InEither (λ o. got (now (out .exit)) r ≡ bitsOver o (mk (now (out .entry)) (at .bit .0) 0) (spellUB o 8 value)) ⌝ }
 {
     if 255 < value {
         return Spelt::No;
@@ -32,7 +32,7 @@ fn spell_byte(out: &mut [u8], at: Whole, value: u64) -> Spelt
 // A Float: four bytes, lowest first.
 fn spell_float(out: &mut [u8], at: Whole, value: u64) -> Spelt
     requires { ⌜ OnByte (at .byte .0) (at .bit .0) ⌝ }
-    ensures { λ r. ⌜ got (now (out .exit)) r ≡ bitsOver (mk (now (out .entry)) (at .bit .0) 0) (spellLE high value 4) ⌝ }
+    ensures { λ r. ⌜ InEither (λ o. got (now (out .exit)) r ≡ bitsOver o (mk (now (out .entry)) (at .bit .0) 0) (spellLE o value 4)) ⌝ }
 {
     if 4294967295 < value {
         return Spelt::No;
@@ -51,7 +51,7 @@ fn spell_float(out: &mut [u8], at: Whole, value: u64) -> Spelt
 // Seven bits a byte, lowest first: at most `most` bytes with the top bit set, and a last one, which is at most `top` after so many.
 fn spell_var(out: &mut [u8], at: Whole, value: u64, most: u64, top: u64) -> Spelt
     requires { ⌜ OnByte (at .byte .0) (at .bit .0) × (most ≤ 9) × (top < 128) ⌝ }
-    ensures { λ r. ⌜ got (now (out .exit)) r ≡ bitsOver (mk (now (out .entry)) (at .bit .0) 0) (spellVar high top value most) ⌝ }
+    ensures { λ r. ⌜ InEither (λ o. got (now (out .exit)) r ≡ bitsOver o (mk (now (out .entry)) (at .bit .0) 0) (spellVar o top value most)) ⌝ }
 {
     let mut i = at.byte.0;
     let mut next = at.bit.0;
@@ -82,7 +82,7 @@ fn spell_var(out: &mut [u8], at: Whole, value: u64, most: u64, top: u64) -> Spel
 // I32: twice the magnitude, plus 1 for a negative number, which the wrapping difference turns back.
 fn spell_i32(out: &mut [u8], at: Whole, value: u64) -> Spelt
     requires { ⌜ OnByte (at .byte .0) (at .bit .0) ⌝ }
-    ensures { λ r. ⌜ got (now (out .exit)) r ≡ bitsOver (mk (now (out .entry)) (at .bit .0) 0) (spellI32 high value) ⌝ }
+    ensures { λ r. ⌜ InEither (λ o. got (now (out .exit)) r ≡ bitsOver o (mk (now (out .entry)) (at .bit .0) 0) (spellI32 o value)) ⌝ }
 {
     if value < 9223372036854775808 {
         return spell_var(out, at, value * 2, 4, 15);
@@ -97,7 +97,7 @@ fn spell_i32(out: &mut [u8], at: Whole, value: u64) -> Spelt
 // One number by its kind; its range is looked at before.
 pub(crate) fn spell_item(kind: Item, out: &mut [u8], at: Whole, value: u64) -> Spelt
     requires { ⌜ OnByte (at .byte .0) (at .bit .0) ⌝ }
-    ensures { λ r. ⌜ got (now (out .exit)) r ≡ bitsOver (mk (now (out .entry)) (at .bit .0) 0) (spellingOf kind value) ⌝ }
+    ensures { λ r. ⌜ InEither (λ o. got (now (out .exit)) r ≡ bitsOver o (mk (now (out .entry)) (at .bit .0) 0) (spellingOf o kind value)) ⌝ }
 {
     match kind {
         Item::U32 => spell_var(out, at, value, 4, 15),

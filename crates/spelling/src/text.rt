@@ -2,15 +2,16 @@
 ghost use mathlib.Core.Path.{_≡_};
 ghost use Prim.Native.Nat.{_≤_};
 ghost use lib.ListN.{length};
-ghost use Rattle.format.specs.Bits.{high};
 ghost use Rattle.format.specs.Items.{string};
 ghost use Rattle.format.specs.WritingItems.{spellTxt};
+ghost use Rattle.bits.specs.Places.{InEither, orderOf};
 ghost use Rattle.sink.specs.Laying.{mk, at as under};
 ghost use Rattle.spelling.specs.Writing.{bitsOver, got, seen, ran, Fine, OnByte};
 use crate::Put;
 use crate::Spelt;
 use crate::ended;
 use bits::BitPlace;
+use bits::Order;
 use bits::Whole;
 use sink::Sink;
 use sink::put_byte;
@@ -18,7 +19,7 @@ use sink::put_byte;
 // The bytes of a String, 1 to 255 each, and the zero byte that ends it.
 fn spell_text(out: &mut [u8], at: Whole, text: &[u64]) -> Spelt
     requires { ⌜ OnByte (at .byte .0) (at .bit .0) × (length (now text) ≤ 16777216) ⌝ }
-    ensures { λ r. ⌜ got (now (out .exit)) r ≡ bitsOver (mk (now (out .entry)) (at .bit .0) 0) (spellTxt high (now (text .entry))) ⌝ }
+    ensures { λ r. ⌜ InEither (λ o. got (now (out .exit)) r ≡ bitsOver o (mk (now (out .entry)) (at .bit .0) 0) (spellTxt o (now (text .entry)))) ⌝ }
 {
     let start = at.byte.0;
     let count = text.len();
@@ -43,9 +44,9 @@ fn spell_text(out: &mut [u8], at: Whole, text: &[u64]) -> Spelt
 }
 
 // A String: its length and then its bytes.
-pub fn write_string(out: &mut [u8], sink: Sink, values: &[u64], from: usize) -> Put
+pub fn write_string(order: Order, out: &mut [u8], sink: Sink, values: &[u64], from: usize) -> Put
     requires { ⌜ Fine sink ⌝ }
-    ensures { λ r. ⌜ seen (now (out .exit)) r ≡ ran (now (values .entry)) (under (now (out .entry)) sink) from string ⌝ }
+    ensures { λ r. ⌜ seen (now (out .exit)) r ≡ ran (orderOf order) (now (values .entry)) (under (now (out .entry)) sink) from string ⌝ }
 {
     if values.len() <= from {
         return Put::Impossible;
@@ -60,7 +61,7 @@ pub fn write_string(out: &mut [u8], sink: Sink, values: &[u64], from: usize) -> 
         return Put::Impossible;
     }
     let behind = first + count;
-    let start = sink::align(out, sink);
+    let start = sink::align(order, out, sink);
     let r = spell_text(out, start, &values[first..behind]);
     match r {
         Spelt::In(next) => ended(next, behind),

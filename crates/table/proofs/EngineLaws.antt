@@ -6,7 +6,7 @@ use lib.ListN.{length, length-append, set}
 use lib.Seq.{sets}
 use native.Mathlib.Nat.{add-zero, add-suc, suc-add, add-assoc}
 use native.Mathlib.Omega.{arith}
-use Rattle.format.specs.Bits.{Order, high}
+use Rattle.format.specs.Bits.{Order}
 use Rattle.format.specs.Reading.{Ending, At, Fault, Reading, shows, stop, follow}
 use Rattle.format.specs.Formats.{Format, nothing, _▹_, _▸_, times}
 use Rattle.format.specs.Items.{run}
@@ -118,13 +118,13 @@ module _ (o : Order) (b : List ℕ) (t : List ℕ) (k : ℕ) where
   times-stop (suc n) f p h e = sym (then-stop f (λ xs. times n f) p e)
 
 -- ---- a format that takes a bit at least for every number keeps the index in bounds
-pub fits-after : (b t : List ℕ) (f : Format) {u : List ℕ} {p k j q : ℕ} → Fair high 0 f → Fits b p k → state u j (At q) ≡ shownOver t k (run high b f p) → Fits b q j
+pub fits-after : (o : Order) (b t : List ℕ) (f : Format) {u : List ℕ} {p k j q : ℕ} → Fair o 0 f → Fits b p k → state u j (At q) ≡ shownOver t k (run o b f p) → Fits b q j
 unfolding shownOver
-fits-after b t f {u} {p} {k} {j} {q} fair h e =
-    let z : run high b f p .ended ≡ At q = ap (λ (s : State). s .ended) (sym e) in
-    let l : (p ≤ q) × (q ≤ 8 * length b) = run-le high b f p q (h .0 .0) z in
-    let n : FairEnd 0 (8 * length b) p (length (run high b f p .shown)) (At q) = rw z at (fair b p (h .0 .0)) in
-    let c : j ≡ k + length (run high b f p .shown) = ap (λ (s : State). s .count) e in
+fits-after o b t f {u} {p} {k} {j} {q} fair h e =
+    let z : run o b f p .ended ≡ At q = ap (λ (s : State). s .ended) (sym e) in
+    let l : (p ≤ q) × (q ≤ 8 * length b) = run-le o b f p q (h .0 .0) z in
+    let n : FairEnd 0 (8 * length b) p (length (run o b f p .shown)) (At q) = rw z at (fair b p (h .0 .0)) in
+    let c : j ≡ k + length (run o b f p .shown) = ap (λ (s : State). s .count) e in
     ((l .1, h .0 .1), omega (arith, n, c, h .1))
 
 -- ---- formats that are read alike

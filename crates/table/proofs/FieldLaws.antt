@@ -10,7 +10,7 @@ use lib.Dec.{eqb}
 use borrow.Author.Tests.{ne-eqb}
 use native.Mathlib.Omega.{arith}
 use Rattle.format.specs.Tests.{pick}
-use Rattle.format.specs.Bits.{high, ub}
+use Rattle.format.specs.Bits.{Order, ub}
 use Rattle.format.specs.Reading.{At, Fault, Reading, shows, stop}
 use Rattle.format.specs.Formats.{Item, item, only, times, the}
 use Rattle.format.specs.Items.{Num, num, bad, mapNum, showNum, readUB, readWidth, readItem, signExtend, judge, run, coordinatesOf, coordinates}
@@ -39,17 +39,17 @@ fieldBy w Bit n = showNum n
 fieldBy w ByteValue n = judge (λ ns. allows ByteValue (the ns)) 16 (showNum n .shown) (showNum n .ended)
 fieldBy w Coordinate n = showNum (mapNum (signExtend w) n)
 
-field-by : (kind : Field) (b : List ℕ) (p w : ℕ) → fieldBy w kind (readUB high b p w) ≡ run high b (fieldOf kind w) p
+field-by : (o : Order) (kind : Field) (b : List ℕ) (p w : ℕ) → fieldBy w kind (readUB o b p w) ≡ run o b (fieldOf kind w) p
 unfolding run readItem
-field-by Verb b p w = refl
-field-by Interpolation b p w = refl
-field-by Bit b p w = refl
-field-by ByteValue b p w = refl
-field-by Coordinate b p w = refl
+field-by o Verb b p w = refl
+field-by o Interpolation b p w = refl
+field-by o Bit b p w = refl
+field-by o ByteValue b p w = refl
+field-by o Coordinate b p w = refl
 
 -- its bits, shown by its kind and judged
-field-is : (kind : Field) (b : List ℕ) (p w : ℕ) → showNum (judgeNum kind (mapNum (λ x. pick (signed kind) (signExtend w x) x) (readUB high b p w))) ≡ run high b (fieldOf kind w) p
-field-is kind b p w = go kind (readUB high b p w) ∙ field-by kind b p w
+field-is : (o : Order) (kind : Field) (b : List ℕ) (p w : ℕ) → showNum (judgeNum kind (mapNum (λ x. pick (signed kind) (signExtend w x) x) (readUB o b p w))) ≡ run o b (fieldOf kind w) p
+field-is o kind b p w = go kind (readUB o b p w) ∙ field-by o kind b p w
   where
     test : (c : Bool) (v q : ℕ) → showNum (pick c (num v q) (bad 16)) ≡ pick c (shows (v ∷ []) q) (stop 16)
     test true v q = refl
@@ -67,39 +67,39 @@ field-is kind b p w = go kind (readUB high b p w) ∙ field-by kind b p w
     go Coordinate (num v q) = refl
     go Coordinate (bad e) = refl
 
-module _ (kind : Field) (b : List ℕ) (p w : ℕ) where
+module _ (o : Order) (kind : Field) (b : List ℕ) (p w : ℕ) where
   -- it runs past the bytes
-  pub field-past : 8 * length b < p + w → showNum (bad 13) ≡ run high b (fieldOf kind w) p
-  field-past h = ap (λ (n : Num). showNum (judgeNum kind (mapNum (λ x. pick (signed kind) (signExtend w x) x) n))) (ub-past b p w h) ∙ field-is kind b p w
+  pub field-past : 8 * length b < p + w → showNum (bad 13) ≡ run o b (fieldOf kind w) p
+  field-past h = ap (λ (n : Num). showNum (judgeNum kind (mapNum (λ x. pick (signed kind) (signExtend w x) x) n))) (ub-past o b p w h) ∙ field-is o kind b p w
 
   -- it stands in them, and its bits x show v
-  module _ {x v : ℕ} (inside : p + w ≤ 8 * length b) (bits : x ≡ ub high b p w) (shown : v ≡ pick (signed kind) (signExtend w x) x) where
-    field-judged : showNum (judgeNum kind (num v (p + w))) ≡ run high b (fieldOf kind w) p
+  module _ {x v : ℕ} (inside : p + w ≤ 8 * length b) (bits : x ≡ ub o b p w) (shown : v ≡ pick (signed kind) (signExtend w x) x) where
+    field-judged : showNum (judgeNum kind (num v (p + w))) ≡ run o b (fieldOf kind w) p
     field-judged =
         ap (λ (y : ℕ). showNum (judgeNum kind (num y (p + w)))) shown
-        ∙ ap (λ (n : Num). showNum (judgeNum kind (mapNum (λ x. pick (signed kind) (signExtend w x) x) n))) (ub-in b p w inside (sym bits))
-        ∙ field-is kind b p w
+        ∙ ap (λ (n : Num). showNum (judgeNum kind (mapNum (λ x. pick (signed kind) (signExtend w x) x) n))) (ub-in o b p w inside (sym bits))
+        ∙ field-is o kind b p w
 
-    pub field-in : allows kind v ≡ true → showNum (num v (p + w)) ≡ run high b (fieldOf kind w) p
+    pub field-in : allows kind v ≡ true → showNum (num v (p + w)) ≡ run o b (fieldOf kind w) p
     field-in h = ap (λ (c : Bool). showNum (pick c (num v (p + w)) (bad 16))) (sym h) ∙ field-judged
 
-    pub field-out : allows kind v ≡ false → showNum (bad 16) ≡ run high b (fieldOf kind w) p
+    pub field-out : allows kind v ≡ false → showNum (bad 16) ≡ run o b (fieldOf kind w) p
     field-out h = ap (λ (c : Bool). showNum (pick c (num v (p + w)) (bad 16))) (sym h) ∙ field-judged
 
 -- a width, from the code's answer
-module _ (b : List ℕ) (p : ℕ) {r : Got} (read : numOf r ≡ readWidth high b p) where
-  pub width-one : {v : ℕ} {q : BitPlace} → r ≡ Value v q → run high b (item Item.width) p ≡ shows (v ∷ []) (q .0)
+module _ (o : Order) (b : List ℕ) (p : ℕ) {r : Got} (read : numOf r ≡ readWidth o b p) where
+  pub width-one : {v : ℕ} {q : BitPlace} → r ≡ Value v q → run o b (item Item.width) p ≡ shows (v ∷ []) (q .0)
   unfolding run readItem
   width-one e = sym (ap (λ (z : Got). showNum (numOf z)) (sym e) ∙ ap showNum read)
 
-  pub width-stop : {e : ℕ} → r ≡ GotFault e → run high b (item Item.width) p ≡ stop e
+  pub width-stop : {e : ℕ} → r ≡ GotFault e → run o b (item Item.width) p ≡ stop e
   unfolding run readItem
   width-stop e = sym (ap (λ (z : Got). showNum (numOf z)) (sym e) ∙ ap showNum read)
 
   -- it is 1 to 32, and takes 5 bits
   pub width-fits : {v k : ℕ} {q : BitPlace} → r ≡ Value v q → Fits b p k → Fits b (q .0) (k + 1) × (1 ≤ v) × (v ≤ 32)
   width-fits e f =
-      let i : IsField suc b p 5 _ _ = map-got suc b p 5 (ap numOf (sym e) ∙ read) in
+      let i : IsField o suc b p 5 _ _ = map-got o suc b p 5 (ap numOf (sym e) ∙ read) in
       (((i .inside, f .0 .1), omega (arith, i .next, f .1)), omega (arith, i .value), omega (arith, i .value, i .below))
 
 -- ---- what a field announces
@@ -164,29 +164,29 @@ announced-frames (v ∷ vs) = go (eqb v 2) (announced-frames vs)
 -- ---- a run of fields, step by step
 
 -- a field takes a bit at least
-pub fair-field : (kind : Field) (w : ℕ) → 1 ≤ w → Fair high 0 (fieldOf kind w)
-fair-field Verb w h = fair-item high (Item.UB w) h
-fair-field Interpolation w h = fair-only high 0 (λ ns. allows Interpolation (the ns)) 16 (item (Item.UB w)) (fair-item high (Item.UB w) h)
-fair-field Bit w h = fair-item high (Item.UB w) h
-fair-field ByteValue w h = fair-only high 0 (λ ns. allows ByteValue (the ns)) 16 (item (Item.UB w)) (fair-item high (Item.UB w) h)
-fair-field Coordinate w h = fair-item high (Item.SB w) h
+pub fair-field : (o : Order) (kind : Field) (w : ℕ) → 1 ≤ w → Fair o 0 (fieldOf kind w)
+fair-field o Verb w h = fair-item o (Item.UB w) h
+fair-field o Interpolation w h = fair-only o 0 (λ ns. allows Interpolation (the ns)) 16 (item (Item.UB w)) (fair-item o (Item.UB w) h)
+fair-field o Bit w h = fair-item o (Item.UB w) h
+fair-field o ByteValue w h = fair-only o 0 (λ ns. allows ByteValue (the ns)) 16 (item (Item.UB w)) (fair-item o (Item.UB w) h)
+fair-field o Coordinate w h = fair-item o (Item.SB w) h
 
 -- what is announced by one field and the rest
-shown-next : (kind : Field) (w : ℕ) (s : List ℕ) (p m v q : ℕ) → 0 < m → showNum (num v q) ≡ run high s (fieldOf kind w) p
-    → announced kind (run high s (times m (fieldOf kind w)) p .shown) ≡ announces kind v + announced kind (run high s (times (m - 1) (fieldOf kind w)) q .shown)
+shown-next : (o : Order) (kind : Field) (w : ℕ) (s : List ℕ) (p m v q : ℕ) → 0 < m → showNum (num v q) ≡ run o s (fieldOf kind w) p
+    → announced kind (run o s (times m (fieldOf kind w)) p .shown) ≡ announces kind v + announced kind (run o s (times (m - 1) (fieldOf kind w)) q .shown)
 unfolding run times
-shown-next kind w s p zero v q h e = absurd (omega arith)
-shown-next kind w s p (suc m) v q h e = let z : suc m - 1 ≡ m = omega arith in rw (z, ← e)
+shown-next o kind w s p zero v q h e = absurd (omega arith)
+shown-next o kind w s p (suc m) v q h e = let z : suc m - 1 ≡ m = omega arith in rw (z, ← e)
 
-shown-stop : (kind : Field) (w : ℕ) (s : List ℕ) (p m e : ℕ) → 0 < m → showNum (bad e) ≡ run high s (fieldOf kind w) p
-    → announced kind (run high s (times m (fieldOf kind w)) p .shown) ≡ 0
+shown-stop : (o : Order) (kind : Field) (w : ℕ) (s : List ℕ) (p m e : ℕ) → 0 < m → showNum (bad e) ≡ run o s (fieldOf kind w) p
+    → announced kind (run o s (times m (fieldOf kind w)) p .shown) ≡ 0
 unfolding run times
-shown-stop kind w s p zero e h q = absurd (omega arith)
-shown-stop kind w s p (suc m) e h q = rw (← q)
+shown-stop o kind w s p zero e h q = absurd (omega arith)
+shown-stop o kind w s p (suc m) e h q = rw (← q)
 
-module _ (kind : Field) (w : ℕ) (s t₀ : List ℕ) (k n p₀ : ℕ) where
+module _ (o : Order) (kind : Field) (w : ℕ) (s t₀ : List ℕ) (k n p₀ : ℕ) where
   abbrev fieldsFrom : ℕ → ℕ → Reading
-  fieldsFrom m p = run high s (times m (fieldOf kind w)) p
+  fieldsFrom m p = run o s (times m (fieldOf kind w)) p
 
   -- the whole from the start is what is left from here
   pub record Going (t : List ℕ) (p j left count : ℕ) : Type 0 where
@@ -197,40 +197,40 @@ module _ (kind : Field) (w : ℕ) (s t₀ : List ℕ) (k n p₀ : ℕ) where
     pub few : count + 6 * left ≤ 6 * n
 
   module _ {t : List ℕ} {p j left count : ℕ} (wide : 1 ≤ w) (some : 0 < left) (g : Going t p j left count) where
-    pub fields-next : {v q c : ℕ} {u : List ℕ} → showNum (num v q) ≡ run high s (fieldOf kind w) p → u ≡ set t j v → (c ≡ announces kind v) × (c ≤ 6)
+    pub fields-next : {v q c : ℕ} {u : List ℕ} → showNum (num v q) ≡ run o s (fieldOf kind w) p → u ≡ set t j v → (c ≡ announces kind v) × (c ≤ 6)
         → Going u q (j + 1) (left - 1) (count + c)
     fields-next {v} {q} {c} {u} e d h =
-        let f : FairReading 0 (8 * length s) p (shows (v ∷ []) q) = subst (λ (r : Reading). FairReading 0 (8 * length s) p r) (sym e) (fair-field kind w wide s p (g .fits .0 .0)) in
-        let l : (p ≤ q) × (q ≤ 8 * length s) = run-le high s (fieldOf kind w) p q (g .fits .0 .0) (ap (λ (r : Reading). r .ended) (sym e)) in
+        let f : FairReading 0 (8 * length s) p (shows (v ∷ []) q) = subst (λ (r : Reading). FairReading 0 (8 * length s) p r) (sym e) (fair-field o kind w wide s p (g .fits .0 .0)) in
+        let l : (p ≤ q) × (q ≤ 8 * length s) = run-le o s (fieldOf kind w) p q (g .fits .0 .0) (ap (λ (r : Reading). r .ended) (sym e)) in
         record {
           size = ap length d ∙ length-set t j v ∙ g .size;
-          rest = g .rest ∙ times-next high s t j left (fieldOf kind w) p some (rw d (sym (after-one t j v q) ∙ ap (shownOver t j) e));
-          counts = g .counts ∙ ap (λ (m : ℕ). count + m) (shown-next kind w s p left v q some e) ∙ rw (h .0) (omega arith);
+          rest = g .rest ∙ times-next o s t j left (fieldOf kind w) p some (rw d (sym (after-one t j v q) ∙ ap (shownOver t j) e));
+          counts = g .counts ∙ ap (λ (m : ℕ). count + m) (shown-next o kind w s p left v q some e) ∙ rw (h .0) (omega arith);
           fits = ((l .1, g .fits .0 .1), omega (arith, f, g .fits .1));
           few = omega (arith, h .1, g .few);
         }
 
-    pub fields-stop : {e : ℕ} → showNum (bad e) ≡ run high s (fieldOf kind w) p
+    pub fields-stop : {e : ℕ} → showNum (bad e) ≡ run o s (fieldOf kind w) p
         → (state t j (Fault e) ≡ shownOver t₀ k (fieldsFrom n p₀)) × ((count ≡ announced kind (fieldsFrom n p₀ .shown)) × (count ≤ 6 * n))
     fields-stop {e} h = (
-      sym (g .rest ∙ times-stop high s t j left (fieldOf kind w) p some (sym (after-stop t j e) ∙ ap (shownOver t j) h)),
-      (sym (g .counts ∙ ap (λ (m : ℕ). count + m) (shown-stop kind w s p left e some h) ∙ add-zero count), omega (arith, g .few)),
+      sym (g .rest ∙ times-stop o s t j left (fieldOf kind w) p some (sym (after-stop t j e) ∙ ap (shownOver t j) h)),
+      (sym (g .counts ∙ ap (λ (m : ℕ). count + m) (shown-stop o kind w s p left e some h) ∙ add-zero count), omega (arith, g .few)),
     )
 
   pub fields-done : {t : List ℕ} {p j left count : ℕ} → left ≡ 0 → Going t p j left count
       → (state t j (At p) ≡ shownOver t₀ k (fieldsFrom n p₀)) × ((count ≡ announced kind (fieldsFrom n p₀ .shown)) × (count ≤ 6 * n))
   unfolding run times
   fields-done {t} {p} {j} {left} {count} e g = (
-    sym (g .rest ∙ times-none high s t j (fieldOf kind w) p e),
+    sym (g .rest ∙ times-none o s t j (fieldOf kind w) p e),
     (sym (g .counts ∙ rw e (add-zero count)), omega (arith, g .few)),
   )
 
 -- ---- a run of signed fields that all stand in the bytes
 
 -- the numbers of n fields from p on
-abbrev steps : ℕ → List ℕ → ℕ → ℕ → List ℕ
-steps w s zero p = []
-steps w s (suc n) p = signExtend w (ub high s p w) ∷ steps w s n (p + w)
+abbrev steps : Order → ℕ → List ℕ → ℕ → ℕ → List ℕ
+steps o w s zero p = []
+steps o w s (suc n) p = signExtend w (ub o s p w) ∷ steps o w s n (p + w)
 
 -- n fields of w bits are few bits
 pub run-small : (n w : ℕ) → n < 2 ^ 32 → w ≤ 32 → n * w ≤ 2 ^ 37
@@ -240,60 +240,60 @@ run-small n w h l = let m : n * w ≤ 2 ^ 32 * 32 = mul-le-mul {n₂ = 2 ^ 32} (
 step-in : (i n w : ℕ) → i < n → i * w + w ≤ n * w
 step-in i n w h = subst (λ (m : ℕ). m ≤ n * w) (suc-mul i w) (mul-le-mul-right w h)
 
-steps-run : (w : ℕ) (s : List ℕ) (n p : ℕ) → p + n * w ≤ 8 * length s → run high s (times n (fieldOf Coordinate w)) p ≡ shows (steps w s n p) (p + n * w)
+steps-run : (o : Order) (w : ℕ) (s : List ℕ) (n p : ℕ) → p + n * w ≤ 8 * length s → run o s (times n (fieldOf Coordinate w)) p ≡ shows (steps o w s n p) (p + n * w)
 unfolding run times
-steps-run w s zero p h = let e : p + 0 * w ≡ p = omega arith in rw e
-steps-run w s (suc n) p h =
+steps-run o w s zero p h = let e : p + 0 * w ≡ p = omega arith in rw e
+steps-run o w s (suc n) p h =
     let m : suc n * w ≡ n * w + w = suc-mul n w in
     let e : p + w + n * w ≡ p + suc n * w = omega (arith, m) in
-    let one : shows (signExtend w (ub high s p w) ∷ []) (p + w) ≡ run high s (fieldOf Coordinate w) p = field-in Coordinate s p w (omega (arith, h, m)) refl refl refl in
-    rw (← one, steps-run w s n (p + w) (omega (arith, h, m)), e)
+    let one : shows (signExtend w (ub o s p w) ∷ []) (p + w) ≡ run o s (fieldOf Coordinate w) p = field-in o Coordinate s p w (omega (arith, h, m)) refl refl refl in
+    rw (← one, steps-run o w s n (p + w) (omega (arith, h, m)), e)
 
-steps-length : (w : ℕ) (s : List ℕ) (n p : ℕ) → length (steps w s n p) ≡ n
-steps-length w s zero p = refl
-steps-length w s (suc n) p = ap suc (steps-length w s n (p + w))
+steps-length : (o : Order) (w : ℕ) (s : List ℕ) (n p : ℕ) → length (steps o w s n p) ≡ n
+steps-length o w s zero p = refl
+steps-length o w s (suc n) p = ap suc (steps-length o w s n (p + w))
 
-step-at : (w : ℕ) (s : List ℕ) (n p i : ℕ) → i < n → getD (steps w s n p) i 0 ≡ signExtend w (ub high s (p + i * w) w)
-step-at w s zero p i h = absurd (omega arith)
-step-at w s (suc n) p zero h = let e : p + 0 * w ≡ p = omega arith in rw e
-step-at w s (suc n) p (suc i) h = let e : p + suc i * w ≡ p + w + i * w = omega (arith, suc-mul i w) in rw e (step-at w s n (p + w) i (omega arith))
+step-at : (o : Order) (w : ℕ) (s : List ℕ) (n p i : ℕ) → i < n → getD (steps o w s n p) i 0 ≡ signExtend w (ub o s (p + i * w) w)
+step-at o w s zero p i h = absurd (omega arith)
+step-at o w s (suc n) p zero h = let e : p + 0 * w ≡ p = omega arith in rw e
+step-at o w s (suc n) p (suc i) h = let e : p + suc i * w ≡ p + w + i * w = omega (arith, suc-mul i w) in rw e (step-at o w s n (p + w) i (omega arith))
 
-module _ (w : ℕ) (s t₀ : List ℕ) (k n p₀ : ℕ) where
+module _ (o : Order) (w : ℕ) (s t₀ : List ℕ) (k n p₀ : ℕ) where
   -- the first i numbers are stored, and the next field is at q
   pub record Laying (t : List ℕ) (q i : ℕ) : Type 0 where
-    pub stored : Storing t₀ (steps w s n p₀) k t i
+    pub stored : Storing t₀ (steps o w s n p₀) k t i
     pub place : q ≡ p₀ + i * w
 
   pub laying-start : Laying t₀ p₀ 0
-  laying-start = record { stored = storing-start t₀ (steps w s n p₀) k; place = omega arith }
+  laying-start = record { stored = storing-start t₀ (steps o w s n p₀) k; place = omega arith }
 
   module _ {t : List ℕ} {q i : ℕ} (g : Laying t q i) where
     pub laying-upto : i ≤ n
-    laying-upto = omega (arith, g .stored .upto, steps-length w s n p₀)
+    laying-upto = omega (arith, g .stored .upto, steps-length o w s n p₀)
 
     pub laying-in : i < n → p₀ + n * w ≤ 8 * length s → q + w ≤ 8 * length s
     laying-in h l = omega (arith, g .place, step-in i n w h, l)
 
-    pub laying-next : {x v : ℕ} → i < n → x ≡ ub high s q w → v ≡ signExtend w x → Laying (set t (k + i) v) (q + w) (i + 1)
+    pub laying-next : {x v : ℕ} → i < n → x ≡ ub o s q w → v ≡ signExtend w x → Laying (set t (k + i) v) (q + w) (i + 1)
     laying-next {x} {v} h e f =
         let d : (i + 1) * w ≡ i * w + w = add-mul i 1 w ∙ ap (λ (y : ℕ). i * w + y) (one-mul w) in
-        let z : v ≡ getD (steps w s n p₀) i 0 = f ∙ ap (signExtend w) (e ∙ ap (λ (y : ℕ). ub high s y w) (g .place)) ∙ sym (step-at w s n p₀ i h) in
+        let z : v ≡ getD (steps o w s n p₀) i 0 = f ∙ ap (signExtend w) (e ∙ ap (λ (y : ℕ). ub o s y w) (g .place)) ∙ sym (step-at o w s n p₀ i h) in
         record {
-          stored = storing-next t₀ (steps w s n p₀) k (g .stored) (omega (arith, h, steps-length w s n p₀)) z;
+          stored = storing-next t₀ (steps o w s n p₀) k (g .stored) (omega (arith, h, steps-length o w s n p₀)) z;
           place = omega (arith, g .place, d);
         }
 
     -- all are stored, or there is no more room
-    pub laying-done : {m e : ℕ} → m ≡ min n (length t - k) → m ≤ i → e ≡ p₀ + n * w → e ≤ 8 * length s → state t (k + n) (At e) ≡ shownOver t₀ k (run high s (times n (fieldOf Coordinate w)) p₀)
+    pub laying-done : {m e : ℕ} → m ≡ min n (length t - k) → m ≤ i → e ≡ p₀ + n * w → e ≤ 8 * length s → state t (k + n) (At e) ≡ shownOver t₀ k (run o s (times n (fieldOf Coordinate w)) p₀)
     unfolding shownOver
     laying-done {m} {e} h l f inside =
-        let full : t ≡ sets t₀ k (steps w s n p₀) = storing-done t₀ (steps w s n p₀) k (g .stored) (h ∙ ap (λ (y : ℕ). min y (length t - k)) (sym (steps-length w s n p₀))) l in
-        rw (steps-run w s n p₀ (omega (arith, f, inside))) (state-eq full (ap (λ (c : ℕ). k + c) (sym (steps-length w s n p₀))) (ap At f))
+        let full : t ≡ sets t₀ k (steps o w s n p₀) = storing-done t₀ (steps o w s n p₀) k (g .stored) (h ∙ ap (λ (y : ℕ). min y (length t - k)) (sym (steps-length o w s n p₀))) l in
+        rw (steps-run o w s n p₀ (omega (arith, f, inside))) (state-eq full (ap (λ (c : ℕ). k + c) (sym (steps-length o w s n p₀))) (ap At f))
 
 -- the one signed kind
-pub signed-run : (kind : Field) (w n : ℕ) (s t : List ℕ) (k p : ℕ) {x : State} → signed kind ≡ true → x ≡ shownOver t k (run high s (times n (fieldOf Coordinate w)) p) → x ≡ shownOver t k (run high s (times n (fieldOf kind w)) p)
-signed-run Verb w n s t k p h e = cc
-signed-run Interpolation w n s t k p h e = cc
-signed-run Bit w n s t k p h e = cc
-signed-run ByteValue w n s t k p h e = cc
-signed-run Coordinate w n s t k p h e = e
+pub signed-run : (o : Order) (kind : Field) (w n : ℕ) (s t : List ℕ) (k p : ℕ) {x : State} → signed kind ≡ true → x ≡ shownOver t k (run o s (times n (fieldOf Coordinate w)) p) → x ≡ shownOver t k (run o s (times n (fieldOf kind w)) p)
+signed-run o Verb w n s t k p h e = cc
+signed-run o Interpolation w n s t k p h e = cc
+signed-run o Bit w n s t k p h e = cc
+signed-run o ByteValue w n s t k p h e = cc
+signed-run o Coordinate w n s t k p h e = e

@@ -5,7 +5,7 @@ use mathlib.Core.Path.{_≡_, refl, ap, sym, _∙_}
 use lib.ListN.{length}
 use lib.Seq.{length-sets}
 use native.Mathlib.Omega.{arith}
-use Rattle.format.specs.Bits.{high}
+use Rattle.format.specs.Bits.{Order}
 use Rattle.format.specs.Reading.{Ending, At, shows, stop}
 use Rattle.format.specs.Formats.{Item, Format, nothing, item, _▹_, _▸_, times}
 use Rattle.format.specs.Items.{run, readItem, u32, byte}
@@ -27,42 +27,42 @@ use Rattle.table.specs.declared.Run.the-variants.{Done, Stop}
 use Rattle.table.proofs.EngineLaws.{state, after-none, one-stored, then-done, then-stop, fits-after}
 
 -- a call that read f, and g after it
-module _ (b t : List ℕ) (k : ℕ) (f : Format) (p : ℕ) {u : List ℕ} {R : Run} (ran : runLeaves u R ≡ shownOver t k (run high b f p)) where
-  pub run-done : {q : BitPlace} {j : ℕ} {x : State} (g : List ℕ → Format) → R ≡ Done q j → x ≡ shownOver u j (run high b (g (run high b f p .shown)) (q .0))
-      → x ≡ shownOver t k (run high b (f ▹ g) p)
-  run-done g e d = then-done high b t k f g p (ap (runLeaves u) (sym e) ∙ ran) d
+module _ (o : Order) (b t : List ℕ) (k : ℕ) (f : Format) (p : ℕ) {u : List ℕ} {R : Run} (ran : runLeaves u R ≡ shownOver t k (run o b f p)) where
+  pub run-done : {q : BitPlace} {j : ℕ} {x : State} (g : List ℕ → Format) → R ≡ Done q j → x ≡ shownOver u j (run o b (g (run o b f p .shown)) (q .0))
+      → x ≡ shownOver t k (run o b (f ▹ g) p)
+  run-done g e d = then-done o b t k f g p (ap (runLeaves u) (sym e) ∙ ran) d
 
-  pub run-stop : {e j : ℕ} (g : List ℕ → Format) → R ≡ Stop e j → runLeaves u R ≡ shownOver t k (run high b (f ▹ g) p)
-  run-stop g e = ap (runLeaves u) e ∙ then-stop high b t k f g p (ap (runLeaves u) (sym e) ∙ ran)
+  pub run-stop : {e j : ℕ} (g : List ℕ → Format) → R ≡ Stop e j → runLeaves u R ≡ shownOver t k (run o b (f ▹ g) p)
+  run-stop g e = ap (runLeaves u) e ∙ then-stop o b t k f g p (ap (runLeaves u) (sym e) ∙ ran)
 
-  pub run-fits : {q : BitPlace} {j : ℕ} → R ≡ Done q j → Fair high 0 f → Fits b p k → Fits b (q .0) j
-  run-fits e h l = fits-after b t f h l (ap (runLeaves u) (sym e) ∙ ran)
+  pub run-fits : {q : BitPlace} {j : ℕ} → R ≡ Done q j → Fair o 0 f → Fits b p k → Fits b (q .0) j
+  run-fits e h l = fits-after o b t f h l (ap (runLeaves u) (sym e) ∙ ran)
 
 -- ---- a loop that reads a format part by part: the whole from the start is what is left from here
-pub record Going (s t₀ : List ℕ) (k : ℕ) (whole : Format) (p₀ : ℕ) (t : List ℕ) (p j : ℕ) (rest : Format) : Type 0 where
+pub record Going (o : Order) (s t₀ : List ℕ) (k : ℕ) (whole : Format) (p₀ : ℕ) (t : List ℕ) (p j : ℕ) (rest : Format) : Type 0 where
   pub size : length t ≡ length t₀
-  pub same : shownOver t₀ k (run high s whole p₀) ≡ shownOver t j (run high s rest p)
+  pub same : shownOver t₀ k (run o s whole p₀) ≡ shownOver t j (run o s rest p)
   pub fits : Fits s p j
 
-module _ {s t₀ : List ℕ} {k p₀ : ℕ} {t : List ℕ} {p j : ℕ} {whole rest : Format} (g : Going s t₀ k whole p₀ t p j rest) where
+module _ (o : Order) {s t₀ : List ℕ} {k p₀ : ℕ} {t : List ℕ} {p j : ℕ} {whole rest : Format} (g : Going o s t₀ k whole p₀ t p j rest) where
   -- the part f comes next, and was read
   module _ {f more : Format} (split : rest ≡ f ▸ more) where
-    pub going-size : {u : List ℕ} {i : ℕ} {z : Ending} → state u i z ≡ shownOver t j (run high s f p) → length u ≡ length t₀
+    pub going-size : {u : List ℕ} {i : ℕ} {z : Ending} → state u i z ≡ shownOver t j (run o s f p) → length u ≡ length t₀
     unfolding shownOver
-    going-size ran = ap (λ (z : State). length (z .table)) ran ∙ length-sets t j (run high s f p .shown) ∙ g .size
+    going-size ran = ap (λ (z : State). length (z .table)) ran ∙ length-sets t j (run o s f p .shown) ∙ g .size
 
-    whole-is : shownOver t₀ k (run high s whole p₀) ≡ shownOver t j (run high s (f ▸ more) p)
-    whole-is = g .same ∙ ap (λ (z : Format). shownOver t j (run high s z p)) split
+    whole-is : shownOver t₀ k (run o s whole p₀) ≡ shownOver t j (run o s (f ▸ more) p)
+    whole-is = g .same ∙ ap (λ (z : Format). shownOver t j (run o s z p)) split
 
-    pub going-next : {u : List ℕ} {R : Run} {q : BitPlace} {i : ℕ} → Fair high 0 f → R ≡ Done q i → runLeaves u R ≡ shownOver t j (run high s f p) → Going s t₀ k whole p₀ u (q .0) i more
-    going-next h e ran = record { size = going-size ran; same = whole-is ∙ sym (run-done s t j f p ran (λ xs. more) e refl); fits = run-fits s t j f p ran e h (g .fits) }
+    pub going-next : {u : List ℕ} {R : Run} {q : BitPlace} {i : ℕ} → Fair o 0 f → R ≡ Done q i → runLeaves u R ≡ shownOver t j (run o s f p) → Going o s t₀ k whole p₀ u (q .0) i more
+    going-next h e ran = record { size = going-size ran; same = whole-is ∙ sym (run-done o s t j f p ran (λ xs. more) e refl); fits = run-fits o s t j f p ran e h (g .fits) }
 
-    pub going-stop : {u : List ℕ} {R : Run} {e i : ℕ} → R ≡ Stop e i → runLeaves u R ≡ shownOver t j (run high s f p) → runLeaves u R ≡ shownOver t₀ k (run high s whole p₀)
-    going-stop e ran = run-stop s t j f p ran (λ xs. more) e ∙ sym whole-is
+    pub going-stop : {u : List ℕ} {R : Run} {e i : ℕ} → R ≡ Stop e i → runLeaves u R ≡ shownOver t j (run o s f p) → runLeaves u R ≡ shownOver t₀ k (run o s whole p₀)
+    going-stop e ran = run-stop o s t j f p ran (λ xs. more) e ∙ sym whole-is
 
-  pub going-done : rest ≡ nothing → state t j (At p) ≡ shownOver t₀ k (run high s whole p₀)
+  pub going-done : rest ≡ nothing → state t j (At p) ≡ shownOver t₀ k (run o s whole p₀)
   unfolding run
-  going-done e = sym (g .same ∙ ap (λ (z : Format). shownOver t j (run high s z p)) e ∙ after-none t j p)
+  going-done e = sym (g .same ∙ ap (λ (z : Format). shownOver t j (run o s z p)) e ∙ after-none t j p)
 
 -- n times a format: one and the rest, or nothing
 pub times-more : (n : ℕ) (f : Format) → 0 < n → times n f ≡ f ▸ times (n - 1) f
@@ -76,31 +76,31 @@ times-zero n f e = rw e
 
 -- ---- an item that was read, and its number stored
 
-pub fair-kind : (kind : Kind) → Fair high 0 (formatOf kind)
-fair-kind U32 = fair-byte high Item.U32 tt
-fair-kind I32 = fair-byte high Item.I32 tt
-fair-kind Time = fair-byte high Item.U64 tt
-fair-kind Float = fair-byte high (Item.LE 4) (omega arith)
-fair-kind Byte = fair-byte high (Item.UB 8) (omega arith)
-fair-kind (Enum top) = fair-only high 0 _ 16 byte (fair-byte high (Item.UB 8) (omega arith))
-fair-kind BlendMode = fair-only high 0 _ 16 byte (fair-byte high (Item.UB 8) (omega arith))
-fair-kind (Count lo) = fair-only high 0 _ 17 u32 (fair-byte high Item.U32 tt)
+pub fair-kind : (o : Order) (kind : Kind) → Fair o 0 (formatOf kind)
+fair-kind o U32 = fair-byte o Item.U32 tt
+fair-kind o I32 = fair-byte o Item.I32 tt
+fair-kind o Time = fair-byte o Item.U64 tt
+fair-kind o Float = fair-byte o (Item.LE 4) (omega arith)
+fair-kind o Byte = fair-byte o (Item.UB 8) (omega arith)
+fair-kind o (Enum top) = fair-only o 0 _ 16 byte (fair-byte o (Item.UB 8) (omega arith))
+fair-kind o BlendMode = fair-only o 0 _ 16 byte (fair-byte o (Item.UB 8) (omega arith))
+fair-kind o (Count lo) = fair-only o 0 _ 17 u32 (fair-byte o Item.U32 tt)
 
-pub one-fits : (kind : Kind) (b : List ℕ) (p : ℕ) {v q k : ℕ} → run high b (formatOf kind) p ≡ shows (v ∷ []) q → Fits b p k → Fits b q (k + 1)
-one-fits kind b p {k = k} e h = fits-after b [] (formatOf kind) (fair-kind kind) h (one-stored [] k e refl)
+pub one-fits : (o : Order) (kind : Kind) (b : List ℕ) (p : ℕ) {v q k : ℕ} → run o b (formatOf kind) p ≡ shows (v ∷ []) q → Fits b p k → Fits b q (k + 1)
+one-fits o kind b p {k = k} e h = fits-after o b [] (formatOf kind) (fair-kind o kind) h (one-stored [] k e refl)
 
 -- ---- the skip to a whole byte, from the answer of `align`
-module _ (b : List ℕ) (p : ℕ) where
-  pub align-none : {i : BytePlace} {q : BitPlace} → alignedAt b p ≡ Clean i q → run high b (item Item.align) p ≡ shows [] (q .0)
+module _ (o : Order) (b : List ℕ) (p : ℕ) where
+  pub align-none : {i : BytePlace} {q : BitPlace} → alignedAt o b p ≡ Clean i q → run o b (item Item.align) p ≡ shows [] (q .0)
   unfolding run readItem
-  align-none e = align-clean b p e .0
+  align-none e = align-clean o b p e .0
 
-  pub align-never : alignedAt b p ≡ Unclean → run high b (item Item.align) p ≡ stop 15
+  pub align-never : alignedAt o b p ≡ Unclean → run o b (item Item.align) p ≡ stop 15
   unfolding run readItem
-  align-never e = align-unclean b p e
+  align-never e = align-unclean o b p e
 
-  pub align-fits : {i : BytePlace} {q : BitPlace} {k : ℕ} → alignedAt b p ≡ Clean i q → Fits b p k → Fits b (q .0) k
-  align-fits e h = let f = align-clean b p e in ((omega (arith, f .1, f .2, f .3, h .0 .0), h .0 .1), omega (arith, f .2, h .1))
+  pub align-fits : {i : BytePlace} {q : BitPlace} {k : ℕ} → alignedAt o b p ≡ Clean i q → Fits b p k → Fits b (q .0) k
+  align-fits e h = let f = align-clean o b p e in ((omega (arith, f .1, f .2, f .3, h .0 .0), h .0 .1), omega (arith, f .2, h .1))
 
 -- ---- no second answer fits an engine's promise: what a run left, seen as a state, tells the table and the answer
 pub one-run : (t u : List ℕ) (a b : Run) → runLeaves t a ≡ runLeaves u b → (t ≡ u) × (a ≡ b)

@@ -2,7 +2,6 @@
 ghost use mathlib.Core.Path.{_≡_};
 ghost use Prim.Native.Nat.{_*_, _≤_, _<_, _^_};
 ghost use lib.ListN.{getD};
-ghost use Rattle.format.specs.Bits.{high};
 ghost use Rattle.format.specs.Formats.{item, Item as ItemOf, times, the, _▹_};
 ghost use Rattle.format.specs.Tests.{pick};
 ghost use Rattle.format.specs.Items.{coordinatesOf, run, signExtend};
@@ -10,11 +9,13 @@ ghost use Rattle.table.specs.State.{shownOver};
 ghost use Rattle.table.specs.Run.{runLeaves};
 ghost use Rattle.table.specs.Fields.{Fits, allows, signed, fieldOf, announces, announced, weights};
 ghost use Rattle.table.specs.declared.fields.Field.the-variants.{Coordinate};
+ghost use Rattle.bits.specs.Places.{orderOf};
 use crate::Run;
 use crate::put;
 use crate::room_for;
 use bits::BitPlace;
 use bits::Got;
+use bits::Order;
 
 pub enum Field {
     Verb,
@@ -94,6 +95,7 @@ fn shown(kind: Field, width: u64, raw: u64) -> u64
 
 // n fields of w bits: the first that runs past the body is 13, the first that is not allowed 16.
 pub fn read_fields(
+    order: Order,
     kind: Field,
     width: u64,
     count: usize,
@@ -103,8 +105,8 @@ pub fn read_fields(
     from: usize,
 ) -> Announced
     requires { ⌜ Fits (now body) (at .0) from × (1 ≤ width) × (width ≤ 32) × (count < 2 ^ 32) ⌝ }
-    ensures states { λ r. ⌜ runLeaves (now (table .exit)) (r .run) ≡ shownOver (now (table .entry)) from (run high (now (body .entry)) (times count (fieldOf kind width)) (at .0)) ⌝ }
-    ensures counts { λ r. ⌜ r .count ≡ announced kind (run high (now (body .entry)) (times count (fieldOf kind width)) (at .0) .shown) ⌝ }
+    ensures states { λ r. ⌜ runLeaves (now (table .exit)) (r .run) ≡ shownOver (now (table .entry)) from (run (orderOf order) (now (body .entry)) (times count (fieldOf kind width)) (at .0)) ⌝ }
+    ensures counts { λ r. ⌜ r .count ≡ announced kind (run (orderOf order) (now (body .entry)) (times count (fieldOf kind width)) (at .0) .shown) ⌝ }
     ensures few { λ r. ⌜ r .count ≤ 6 * count ⌝ }
 {
     let weights = weights_of(kind);
@@ -118,7 +120,7 @@ pub fn read_fields(
             let run = Run::Stop(13, index);
             return Announced { run, count: sum };
         }
-        let raw = bits::fields::field(body, place, width);
+        let raw = bits::fields::field(order, body, place, width);
         let value = shown(kind, width, raw);
         if allowed(kind, value) {
             put(table, index, value);
@@ -137,6 +139,7 @@ pub fn read_fields(
 
 // n SB fields of w bits. They show whatever their bits are, so only those are read that there is room for.
 fn read_signed(
+    order: Order,
     width: u64,
     count: usize,
     body: &[u8],
@@ -145,12 +148,21 @@ fn read_signed(
     from: usize,
 ) -> Run
     requires { ⌜ Fits (now body) (at .0) from × (1 ≤ width) × (width ≤ 32) × (count < 2 ^ 32) ⌝ }
-    ensures { λ r. ⌜ runLeaves (now (table .exit)) r ≡ shownOver (now (table .entry)) from (run high (now (body .entry)) (times count (fieldOf Coordinate width)) (at .0)) ⌝ }
+    ensures { λ r. ⌜ runLeaves (now (table .exit)) r ≡ shownOver (now (table .entry)) from (run (orderOf order) (now (body .entry)) (times count (fieldOf Coordinate width)) (at .0)) ⌝ }
 {
     let step = width as usize;
     let end = at.0 + count * step;
     if body.len() * 8 < end {
-        let fields = read_fields(Field::Coordinate, width, count, body, at, table, from);
+        let fields = read_fields(
+            order,
+            Field::Coordinate,
+            width,
+            count,
+            body,
+            at,
+            table,
+            from,
+        );
         return fields.run;
     }
     let room = room_for(table.len(), from, count);
@@ -158,7 +170,7 @@ fn read_signed(
     let mut i = 0;
     while i < room {
         let index = from + i;
-        let raw = bits::fields::field(body, BitPlace(place), width);
+        let raw = bits::fields::field(order, body, BitPlace(place), width);
         table[index] = bits::fields::extend(raw, width);
         place += step;
         i += 1;
@@ -168,6 +180,7 @@ fn read_signed(
 
 // n fields of w bits, by their kind.
 fn read_run(
+    order: Order,
     kind: Field,
     width: u64,
     count: usize,
@@ -177,17 +190,18 @@ fn read_run(
     from: usize,
 ) -> Run
     requires { ⌜ Fits (now body) (at .0) from × (1 ≤ width) × (width ≤ 32) × (count < 2 ^ 32) ⌝ }
-    ensures { λ r. ⌜ runLeaves (now (table .exit)) r ≡ shownOver (now (table .entry)) from (run high (now (body .entry)) (times count (fieldOf kind width)) (at .0)) ⌝ }
+    ensures { λ r. ⌜ runLeaves (now (table .exit)) r ≡ shownOver (now (table .entry)) from (run (orderOf order) (now (body .entry)) (times count (fieldOf kind width)) (at .0)) ⌝ }
 {
     if is_signed(kind) {
-        return read_signed(width, count, body, at, table, from);
+        return read_signed(order, width, count, body, at, table, from);
     }
-    let fields = read_fields(kind, width, count, body, at, table, from);
+    let fields = read_fields(order, kind, width, count, body, at, table, from);
     fields.run
 }
 
 // A width, and n fields of it.
 pub fn read_scaled(
+    order: Order,
     kind: Field,
     count: usize,
     body: &[u8],
@@ -196,13 +210,13 @@ pub fn read_scaled(
     from: usize,
 ) -> Run
     requires { ⌜ Fits (now body) (at .0) from × (count < 2 ^ 32) ⌝ }
-    ensures { λ r. ⌜ runLeaves (now (table .exit)) r ≡ shownOver (now (table .entry)) from (run high (now (body .entry)) (item ItemOf.width ▹ λ width. times count (fieldOf kind (the width))) (at .0)) ⌝ }
+    ensures { λ r. ⌜ runLeaves (now (table .exit)) r ≡ shownOver (now (table .entry)) from (run (orderOf order) (now (body .entry)) (item ItemOf.width ▹ λ width. times count (fieldOf kind (the width))) (at .0)) ⌝ }
 {
-    let r = bits::fields::read_width(body, at);
+    let r = bits::fields::read_width(order, body, at);
     match r {
         Got::Value(width, next) => {
             put(table, from, width);
-            read_run(kind, width, count, body, next, table, from + 1)
+            read_run(order, kind, width, count, body, next, table, from + 1)
         }
         Got::Fault(why) => Run::Stop(why, from),
     }

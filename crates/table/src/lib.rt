@@ -2,18 +2,19 @@
 ghost use mathlib.Core.Path.{_≡_};
 ghost use Prim.Native.Nat.{_-_, min};
 ghost use lib.ListN.{set};
-ghost use Rattle.format.specs.Bits.{high};
 ghost use Rattle.format.specs.Items.{run};
 ghost use Rattle.items.specs.Kinds.{formatOf};
 ghost use Rattle.table.specs.State.{shownOver};
 ghost use Rattle.table.specs.Run.{runLeaves};
 ghost use Rattle.table.specs.Fields.{Fits};
+ghost use Rattle.bits.specs.Places.{orderOf};
 
 pub mod fields;
 pub mod text;
 
 use bits::BitPlace;
 use bits::Got;
+use bits::Order;
 use items::Item;
 
 // How a run ended: at a place or by a reason; and the index of the next number.
@@ -45,11 +46,18 @@ pub fn room_for(len: usize, index: usize, count: usize) -> usize
 }
 
 // One item.
-pub fn read_one(kind: Item, body: &[u8], at: BitPlace, table: &mut [u64], from: usize) -> Run
+pub fn read_one(
+    order: Order,
+    kind: Item,
+    body: &[u8],
+    at: BitPlace,
+    table: &mut [u64],
+    from: usize,
+) -> Run
     requires { ⌜ Fits (now body) (at .0) from ⌝ }
-    ensures { λ r. ⌜ runLeaves (now (table .exit)) r ≡ shownOver (now (table .entry)) from (run high (now (body .entry)) (formatOf kind) (at .0)) ⌝ }
+    ensures { λ r. ⌜ runLeaves (now (table .exit)) r ≡ shownOver (now (table .entry)) from (run (orderOf order) (now (body .entry)) (formatOf kind) (at .0)) ⌝ }
 {
-    let r = items::read_item(kind, body, at);
+    let r = items::read_item(order, kind, body, at);
     match r {
         Got::Value(value, next) => {
             put(table, from, value);

@@ -2,22 +2,23 @@
 ghost use mathlib.Core.Path.{_≡_};
 ghost use Prim.Native.Nat.{_*_};
 ghost use lib.ListN.{length};
-ghost use Rattle.format.specs.Bits.{high};
 ghost use Rattle.format.specs.Items.{run, string, readText, showText};
 ghost use Rattle.table.specs.State.{shownOver};
 ghost use Rattle.table.specs.Run.{runLeaves};
 ghost use Rattle.table.specs.Fields.{Fits};
+ghost use Rattle.bits.specs.Places.{orderOf, InEither};
 use crate::Run;
 use crate::put;
 use crate::room_for;
 use bits::Aligned;
 use bits::BitPlace;
 use bits::BytePlace;
+use bits::Order;
 
-// The bytes up to a zero byte, each read once: they are stored behind their count, which is known last.
+// The bytes up to a zero byte, each read once: they are stored behind their count, which is known last. Whole bytes are the same in either order.
 fn text(body: &[u8], byte: BytePlace, bit: BitPlace, table: &mut [u64], from: usize) -> Run
     requires { ⌜ Fits (now body) (bit .0) from × (bit .0 ≡ 8 * byte .0) ⌝ }
-    ensures { λ r. ⌜ runLeaves (now (table .exit)) r ≡ shownOver (now (table .entry)) from (showText (readText high (now (body .entry)) (bit .0) (length (now (body .entry))))) ⌝ }
+    ensures { λ r. ⌜ InEither (λ o. runLeaves (now (table .exit)) r ≡ shownOver (now (table .entry)) from (showText (readText o (now (body .entry)) (bit .0) (length (now (body .entry)))))) ⌝ }
 {
     let start = byte.0;
     let len = body.len();
@@ -41,11 +42,11 @@ fn text(body: &[u8], byte: BytePlace, bit: BitPlace, table: &mut [u64], from: us
 }
 
 // A String: its length and then its bytes.
-pub fn read_string(body: &[u8], at: BitPlace, table: &mut [u64], from: usize) -> Run
+pub fn read_string(order: Order, body: &[u8], at: BitPlace, table: &mut [u64], from: usize) -> Run
     requires { ⌜ Fits (now body) (at .0) from ⌝ }
-    ensures { λ r. ⌜ runLeaves (now (table .exit)) r ≡ shownOver (now (table .entry)) from (run high (now (body .entry)) string (at .0)) ⌝ }
+    ensures { λ r. ⌜ runLeaves (now (table .exit)) r ≡ shownOver (now (table .entry)) from (run (orderOf order) (now (body .entry)) string (at .0)) ⌝ }
 {
-    let aligned = bits::align(body, at);
+    let aligned = bits::align(order, body, at);
     let Aligned::Clean(byte, bit) = aligned else {
         return Run::Stop(15, from);
     };

@@ -8,7 +8,7 @@ use lib.ListN.{length, set, length-set}
 use lib.Seq.{sets, length-sets}
 use lib.Dec.{eqb}
 use borrow.Author.Tests.{eqb-true}
-use Rattle.format.specs.Bits.{high}
+use Rattle.format.specs.Bits.{Order}
 use Rattle.format.specs.Tests.{pick}
 use Rattle.format.specs.Reading.{Ending, At, Fault, Reading, shows}
 use Rattle.format.specs.Items.{run}
@@ -45,17 +45,17 @@ pub none-left : (t : List ℕ) (k : ℕ) {q : ℕ} {r : Reading} → r ≡ shows
 none-left t k {q} e = rw e (sym (after-none t k q))
 
 -- ---- the whole byte after a container's own items, where its list starts
-pub list-starts : (body t : List ℕ) (k p : ℕ) {i : BytePlace} {q : BitPlace} → alignedAt body p ≡ Clean i q → state t k (At (8 * i .0)) ≡ shownOver t k (run high body aligned p)
-list-starts body t k p e = none-left t k (align-none body p e ∙ ap (shows []) (align-clean body p e .1))
+pub list-starts : (o : Order) (body t : List ℕ) (k p : ℕ) {i : BytePlace} {q : BitPlace} → alignedAt o body p ≡ Clean i q → state t k (At (8 * i .0)) ≡ shownOver t k (run o body aligned p)
+list-starts o body t k p e = none-left t k (align-none o body p e ∙ ap (shows []) (align-clean o body p e .1))
 
 -- ---- the class that a `match` tells
-pub values-of : (body t : List ℕ) (k code : ℕ) {class : Class} {x : State} (told : Class) → class ≡ told → x ≡ shownOver t k (valuesOf told code body) → x ≡ shownOver t k (valuesOf class code body)
-values-of body t k code told e f = f ∙ ap (λ (z : Class). shownOver t k (valuesOf z code body)) (sym e)
+pub values-of : (o : Order) (body t : List ℕ) (k code : ℕ) {class : Class} {x : State} (told : Class) → class ≡ told → x ≡ shownOver t k (valuesOf o told code body) → x ≡ shownOver t k (valuesOf o class code body)
+values-of o body t k code told e f = f ∙ ap (λ (z : Class). shownOver t k (valuesOf o z code body)) (sym e)
 
 -- ---- values end in the body
-body-le : (y : Body) (b : List ℕ) (p : ℕ) → readBody high y b .ended ≡ At p → p ≤ 8 * length b
+body-le : (o : Order) (y : Body) (b : List ℕ) (p : ℕ) → readBody o y b .ended ≡ At p → p ≤ 8 * length b
 unfolding readBody
-body-le y b p = go (toEnd high b y .shown) (toEnd high b y .ended)
+body-le o y b p = go (toEnd o b y .shown) (toEnd o b y .ended)
   where
     test : (q : ℕ) (c : Bool) → eqb q (8 * length b) ≡ c → pick c (At q) (Fault 18) ≡ At p → p ≤ 8 * length b
     test q true e h = let z : q ≡ p = cc in omega (arith, eqb-true q (8 * length b) e)
@@ -65,12 +65,12 @@ body-le y b p = go (toEnd high b y .shown) (toEnd high b y .ended)
     go xs (At q) h = test q (eqb q (8 * length b)) refl h
     go xs (Fault e) h = clash cc
 
-pub values-le : (class : Class) (code : ℕ) (body : List ℕ) (p : ℕ) → valuesOf class code body .ended ≡ At p → p ≤ 8 * length body
-values-le Opaque code body p e = let z : 0 ≡ p = cc in omega arith
-values-le End code body p e = let z : 0 ≡ p = cc in omega arith
-values-le Container code body p e = run-le high body (front (fixedOf code)) 0 p (omega arith) e .1
-values-le Fixed code body p e = body-le (leafBody code) body p e
-values-le Attributes code body p e = body-le (leafBody code) body p e
+pub values-le : (o : Order) (class : Class) (code : ℕ) (body : List ℕ) (p : ℕ) → valuesOf o class code body .ended ≡ At p → p ≤ 8 * length body
+values-le o Opaque code body p e = let z : 0 ≡ p = cc in omega arith
+values-le o End code body p e = let z : 0 ≡ p = cc in omega arith
+values-le o Container code body p e = run-le o body (front (fixedOf code)) 0 p (omega arith) e .1
+values-le o Fixed code body p e = body-le o (leafBody code) body p e
+values-le o Attributes code body p e = body-le o (leafBody code) body p e
 
 -- ---- an index never falls
 pub index-le : (t : List ℕ) (k : ℕ) (r : Reading) {u : List ℕ} (R : Shown) → shownLeaves u R ≡ shownOver t k r → k ≤ shownIndex R

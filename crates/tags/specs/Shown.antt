@@ -2,7 +2,7 @@
 use Prim.Native.Nat.{ℕ}
 use mathlib.Core.List.{List, [], _∷_}
 use lib.ListN.{length}
-use Rattle.format.specs.Bits.{high}
+use Rattle.format.specs.Bits.{Order}
 use Rattle.format.specs.Reading.{Reading, shows}
 use Rattle.format.specs.Items.{run}
 use Rattle.format.specs.Bodies.{readBody}
@@ -21,12 +21,12 @@ stateOf Fixed = 1
 stateOf Attributes = 1
 
 -- the values, and how their reading ended: an opaque tag's are its body's bytes, End has none, a container's stand before its list
-abbrev pub valuesOf : Class → ℕ → List ℕ → Reading
-valuesOf Opaque code body = shows body 0
-valuesOf End code body = shows [] 0
-valuesOf Container code body = run high body (front (fixedOf code)) 0
-valuesOf Fixed code body = readBody high (leafBody code) body
-valuesOf Attributes code body = readBody high (leafBody code) body
+abbrev pub valuesOf : Order → Class → ℕ → List ℕ → Reading
+valuesOf o Opaque code body = shows body 0
+valuesOf o End code body = shows [] 0
+valuesOf o Container code body = run o body (front (fixedOf code)) 0
+valuesOf o Fixed code body = readBody o (leafBody code) body
+valuesOf o Attributes code body = readBody o (leafBody code) body
 
 -- code, state and count before the values
 abbrev pub headed : ℕ → ℕ → Reading → Reading

@@ -4,7 +4,6 @@ ghost use mathlib.Core.List.{[], _∷_};
 ghost use Prim.Native.Nat.{_<_, _^_};
 ghost use lib.ListN.{length, set};
 ghost use lib.Seq.{sets};
-ghost use Rattle.format.specs.Bits.{high};
 ghost use Rattle.format.specs.Reading.{shows};
 ghost use Rattle.format.specs.Items.{run};
 ghost use Rattle.format.specs.FileAndTags.{front};
@@ -12,9 +11,11 @@ ghost use Rattle.table.specs.State.{shownOver};
 ghost use Rattle.fixed.specs.Fixed.{fixedOf};
 ghost use Rattle.bodies.specs.Shown.{shownIndex, shownLeaves};
 ghost use Rattle.tags.specs.Shown.{stateOf, valuesOf, headed};
+ghost use Rattle.bits.specs.Places.{orderOf};
 use bits::Aligned;
 use bits::BitPlace;
 use bits::BytePlace;
+use bits::Order;
 use bodies::Shown;
 use classes::Class;
 use table::Run;
@@ -36,13 +37,13 @@ fn copy_bytes(body: &[u8], table: &mut [u64], from: usize) -> Shown
 }
 
 // What stands in a container before its list, up to the whole byte where that starts.
-fn read_front(code: u32, body: &[u8], table: &mut [u64], from: usize) -> Shown
+fn read_front(order: Order, code: u32, body: &[u8], table: &mut [u64], from: usize) -> Shown
     requires { ⌜ (length (now body) < 2 ^ 60) × (from < 2 ^ 61) ⌝ }
-    ensures { λ r. ⌜ shownLeaves (now (table .exit)) r ≡ shownOver (now (table .entry)) from (run high (now (body .entry)) (front (fixedOf code)) 0) ⌝ }
+    ensures { λ r. ⌜ shownLeaves (now (table .exit)) r ≡ shownOver (now (table .entry)) from (run (orderOf order) (now (body .entry)) (front (fixedOf code)) 0) ⌝ }
 {
-    match fixed::read_fixed(code, body, BitPlace(0), table, from) {
+    match fixed::read_fixed(order, code, body, BitPlace(0), table, from) {
         Run::Stop(why, behind) => Shown::Stop(why, behind),
-        Run::Done(next, behind) => match bits::align(body, next) {
+        Run::Done(next, behind) => match bits::align(order, body, next) {
             Aligned::Unclean => Shown::Stop(15, behind),
             Aligned::Clean(list, _) => Shown::Done(list, behind),
         },
@@ -50,16 +51,23 @@ fn read_front(code: u32, body: &[u8], table: &mut [u64], from: usize) -> Shown
 }
 
 // The values of a tag, by its class.
-fn read_tag_values(class: Class, code: u32, body: &[u8], table: &mut [u64], from: usize) -> Shown
+fn read_tag_values(
+    order: Order,
+    class: Class,
+    code: u32,
+    body: &[u8],
+    table: &mut [u64],
+    from: usize,
+) -> Shown
     requires { ⌜ (length (now body) < 2 ^ 60) × (from < 2 ^ 61) ⌝ }
-    ensures { λ r. ⌜ shownLeaves (now (table .exit)) r ≡ shownOver (now (table .entry)) from (valuesOf class code (now (body .entry))) ⌝ }
+    ensures { λ r. ⌜ shownLeaves (now (table .exit)) r ≡ shownOver (now (table .entry)) from (valuesOf (orderOf order) class code (now (body .entry))) ⌝ }
 {
     match class {
         Class::Opaque => copy_bytes(body, table, from),
         Class::End => Shown::Done(BytePlace(0), from),
-        Class::Container => read_front(code, body, table, from),
-        Class::Fixed => bodies::read_body(code, body, table, from),
-        Class::Attributes => bodies::read_body(code, body, table, from),
+        Class::Container => read_front(order, code, body, table, from),
+        Class::Fixed => bodies::read_body(order, code, body, table, from),
+        Class::Attributes => bodies::read_body(order, code, body, table, from),
     }
 }
 
@@ -87,11 +95,18 @@ pub fn state(class: Class) -> u64
 }
 
 // A tag's numbers: its values are stored first, behind its code, its state and their count. The walk that counts has no room for any of them.
-pub fn show_tag(class: Class, code: u32, body: &[u8], table: &mut [u64], from: usize) -> Shown
+pub fn show_tag(
+    order: Order,
+    class: Class,
+    code: u32,
+    body: &[u8],
+    table: &mut [u64],
+    from: usize,
+) -> Shown
     requires { ⌜ (length (now body) < 2 ^ 60) × (from < 2 ^ 60) ⌝ }
-    ensures { λ r. ⌜ shownLeaves (now (table .exit)) r ≡ shownOver (now (table .entry)) from (headed code (stateOf class) (valuesOf class code (now (body .entry)))) ⌝ }
+    ensures { λ r. ⌜ shownLeaves (now (table .exit)) r ≡ shownOver (now (table .entry)) from (headed code (stateOf class) (valuesOf (orderOf order) class code (now (body .entry)))) ⌝ }
 {
-    let shown = read_tag_values(class, code, body, table, from + 3);
+    let shown = read_tag_values(order, class, code, body, table, from + 3);
     if table.len() <= from {
         return shown;
     }

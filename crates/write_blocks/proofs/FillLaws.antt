@@ -8,7 +8,7 @@ use native.Mathlib.Omega.{arith}
 use lib.ListN.{length, getD, drop, drop-of-length-le}
 use lib.Seq.{drop-cons, slice-empty}
 use borrow.Author.Tests.{eq-eqb}
-use Rattle.format.specs.Bits.{high}
+use Rattle.format.specs.Bits.{Order}
 use Rattle.format.specs.Formats.{Item, item, _▸_}
 use Rattle.format.specs.Bodies.{Attribute, content, rows}
 use Rattle.format.specs.Possible.{Possible, this, cannot}
@@ -49,14 +49,14 @@ both-gone : (b : Possible (List Bool)) → bothOf b cannot ≡ cannot
 both-gone (this bs) = refl
 both-gone cannot = refl
 
-module _ (t : List ℕ) where
+module _ (o : Order) (t : List ℕ) where
   -- the flag numbers of the attributes rs, the first of which stands at index k
   abbrev φs : List Attribute → ℕ → List ℕ
-  φs rs k = flagsIn high rs (drop k t)
+  φs rs k = flagsIn o rs (drop k t)
 
   -- of a block the attributes rs are to come, with the flag number of the first at index k
   abbrev toCome : Flags → State → ℕ → List Attribute → Possible Both
-  toCome f st k rs = bothOf (before (bitsOf f) (flagBits rs (φs rs k))) (ran t st k (rows rs (φs rs k)))
+  toCome f st k rs = bothOf (before (bitsOf o f) (flagBits o rs (φs rs k))) (ran o t st k (rows rs (φs rs k)))
 
   module _ (a : Attribute) (rs : List Attribute) (f : Flags) (st : State) (k : ℕ) where
     -- no number is left
@@ -67,94 +67,94 @@ module _ (t : List ℕ) where
     module _ (lk : k < length t) where
       -- the flag numbers after it
       unfoldable later : List ℕ
-      later = flagsIn high rs (leftOf (unrun high (content a (getD t k 0)) (drop (suc k) t) 0))
+      later = flagsIn o rs (leftOf (unrun o (content a (getD t k 0)) (drop (suc k) t) 0))
 
       flags-cons : φs (a ∷ rs) k ≡ getD t k 0 ∷ later
       unfolding flagsIn later
       flags-cons = rw (drop-cons t k 0 lk)
 
-      echoed : st .place ≤ limit → ran t st k (item (Item.echo (getD t k 0))) ≡ this (here st (k + 1))
+      echoed : st .place ≤ limit → ran o t st k (item (Item.echo (getD t k 0))) ≡ this (here st (k + 1))
       unfolding ran unrun writeItem writtenOver
-      echoed l = rw (drop-cons t k 0 lk, eq-eqb (getD t k 0) (getD t k 0) refl, lay-none) (ends-in st (k + 1) l)
+      echoed l = rw (drop-cons t k 0 lk, eq-eqb (getD t k 0) (getD t k 0) refl, lay-none o) (ends-in st (k + 1) l)
 
       -- its flag number, its content, and the contents of the others
-      rows-next : st .place ≤ limit → ran t st k (rows (a ∷ rs) (getD t k 0 ∷ later)) ≡ resume t (k + 1) (λ xs. rows rs later) (ran t st (k + 1) (content a (getD t k 0)))
+      rows-next : st .place ≤ limit → ran o t st k (rows (a ∷ rs) (getD t k 0 ∷ later)) ≡ resume o t (k + 1) (λ xs. rows rs later) (ran o t st (k + 1) (content a (getD t k 0)))
       unfolding rows
       rows-next l =
-          ran-then t st k (item (Item.echo (getD t k 0))) (λ xs. content a (getD t k 0) ▸ rows rs later)
-          ∙ ap (resume t k (λ xs. content a (getD t k 0) ▸ rows rs later)) (echoed l)
-          ∙ ran-then t st (k + 1) (content a (getD t k 0)) (λ xs. rows rs later)
+          ran-then o t st k (item (Item.echo (getD t k 0))) (λ xs. content a (getD t k 0) ▸ rows rs later)
+          ∙ ap (resume o t k (λ xs. content a (getD t k 0) ▸ rows rs later)) (echoed l)
+          ∙ ran-then o t st (k + 1) (content a (getD t k 0)) (λ xs. rows rs later)
 
       -- G is what its flags gave, x what its content did
-      module _ (G : Flagged) (flags : Adds f (flagSpelling (a .kind) (getD t k 0)) G) (l : st .place ≤ limit) where
-        turn : {x : Possible Seen} → ran t st (k + 1) (content a (getD t k 0)) ≡ x → toCome f st k (a ∷ rs) ≡ bothOf (joined (noted G) (flagBits rs later)) (resume t (k + 1) (λ xs. rows rs later) x)
+      module _ (G : Flagged) (flags : Adds o f (flagSpelling o (a .kind) (getD t k 0)) G) (l : st .place ≤ limit) where
+        turn : {x : Possible Seen} → ran o t st (k + 1) (content a (getD t k 0)) ≡ x → toCome f st k (a ∷ rs) ≡ bothOf (joined (noted o G) (flagBits o rs later)) (resume o t (k + 1) (λ xs. rows rs later) x)
         unfolding flagBits
         turn e =
-            ap (λ (ψs : List ℕ). bothOf (before (bitsOf f) (flagBits (a ∷ rs) ψs)) (ran t st k (rows (a ∷ rs) ψs))) flags-cons
+            ap (λ (ψs : List ℕ). bothOf (before (bitsOf o f) (flagBits o (a ∷ rs) ψs)) (ran o t st k (rows (a ∷ rs) ψs))) flags-cons
             ∙ ap₂ bothOf
-            (before-joined (bitsOf f) (flagSpelling (a .kind) (getD t k 0)) (flagBits rs later) ∙ ap (λ (b : Possible (List Bool)). joined b (flagBits rs later)) (sym (flags .0)))
-            (rows-next l ∙ ap (resume t (k + 1) (λ xs. rows rs later)) e)
+            (before-joined (bitsOf o f) (flagSpelling o (a .kind) (getD t k 0)) (flagBits o rs later) ∙ ap (λ (b : Possible (List Bool)). joined b (flagBits o rs later)) (sym (flags .0)))
+            (rows-next l ∙ ap (resume o t (k + 1) (λ xs. rows rs later)) e)
 
         turn-flag : G ≡ No → toCome f st k (a ∷ rs) ≡ cannot
         turn-flag e = turn refl ∙ rw e
 
-        turn-gone : ran t st (k + 1) (content a (getD t k 0)) ≡ cannot → toCome f st k (a ∷ rs) ≡ cannot
-        turn-gone e = turn e ∙ both-gone (joined (noted G) (flagBits rs later))
+        turn-gone : ran o t st (k + 1) (content a (getD t k 0)) ≡ cannot → toCome f st k (a ∷ rs) ≡ cannot
+        turn-gone e = turn e ∙ both-gone (joined (noted o G) (flagBits o rs later))
 
-        turn-on : (g : Flags) (st′ : State) (j : ℕ) → G ≡ With g → ran t st (k + 1) (content a (getD t k 0)) ≡ this (here st′ j) → toCome f st k (a ∷ rs) ≡ toCome g st′ j rs
+        turn-on : (g : Flags) (st′ : State) (j : ℕ) → G ≡ With g → ran o t st (k + 1) (content a (getD t k 0)) ≡ this (here st′ j) → toCome f st k (a ∷ rs) ≡ toCome g st′ j rs
         unfolding later
         turn-on g st′ j d e =
-            let i : leftOf (unrun high (content a (getD t k 0)) (drop (suc k) t) 0) ≡ drop j t =
-            ap (λ (n : ℕ). leftOf (unrun high (content a (getD t k 0)) (drop n t) 0)) (sym (add-one k)) ∙ left-is t (content a (getD t k 0)) (k + 1) st st′ j e in
+            let i : leftOf (unrun o (content a (getD t k 0)) (drop (suc k) t) 0) ≡ drop j t =
+            ap (λ (n : ℕ). leftOf (unrun o (content a (getD t k 0)) (drop n t) 0)) (sym (add-one k)) ∙ left-is o t (content a (getD t k 0)) (k + 1) st st′ j e in
             turn e ∙ rw (d, i)
 
 -- ---- the loop: i attributes are done, rs are to come
-pub record Filling (ks : List Attribute) (t o : List ℕ) (s : Sink) (u : List ℕ) (f : Flags) (cur : Sink) (i k : ℕ) (rs : List Attribute) : Type 0 where
-  pub size : length u ≡ length o
+pub record Filling (o : Order) (ks : List Attribute) (t out : List ℕ) (s : Sink) (u : List ℕ) (f : Flags) (cur : Sink) (i k : ℕ) (rs : List Attribute) : Type 0 where
+  pub size : length u ≡ length out
   pub fine : Fine cur
   pub held : Held f
   pub few : f .width ≤ 2 * i
-  pub rest : fills ks t (at o s) ≡ toCome t f (at u cur) k rs
+  pub rest : fills o ks t (at out s) ≡ toCome o t f (at u cur) k rs
 
-pub fill-start : (ks : List Attribute) (t o : List ℕ) (s : Sink) (i : ℕ) → Fine s → Filling ks t o s o (record { bits = 0; width = 0 }) s i 0 ks
+pub fill-start : (o : Order) (ks : List Attribute) (t out : List ℕ) (s : Sink) (i : ℕ) → Fine s → Filling o ks t out s out (record { bits = 0; width = 0 }) s i 0 ks
 unfolding dig
-fill-start ks t o s i fine = record {
+fill-start o ks t out s i fine = record {
   size = refl;
   fine = fine;
   held = omega arith;
   few = omega arith;
-  rest = ap (λ (b : Possible (List Bool)). bothOf b (ran t (at o s) 0 (rows ks (flagsIn high ks t)))) (sym (before-none (flagBits ks (flagsIn high ks t))));
+  rest = ap (λ (b : Possible (List Bool)). bothOf b (ran o t (at out s) 0 (rows ks (flagsIn o ks t)))) (sym (before-none (flagBits o ks (flagsIn o ks t))));
 }
 
-module _ {ks : List Attribute} {t o : List ℕ} {s : Sink} {u : List ℕ} {f : Flags} {cur : Sink} {i k : ℕ} {now : List Attribute} (g : Filling ks t o s u f cur i k now) where
-  pub fill-done : now ≡ [] → this (both (bitsOf f) (at u cur) k) ≡ fills ks t (at o s)
+module _ {o : Order} {ks : List Attribute} {t out : List ℕ} {s : Sink} {u : List ℕ} {f : Flags} {cur : Sink} {i k : ℕ} {now : List Attribute} (g : Filling o ks t out s u f cur i k now) where
+  pub fill-done : now ≡ [] → this (both (bitsOf o f) (at u cur) k) ≡ fills o ks t (at out s)
   unfolding flagsIn flagBits rows
   fill-done e =
-      sym (g .rest ∙ ap (toCome t f (at u cur) k) e
-      ∙ ap₂ bothOf (ap this (append-nil (bitsOf f))) (ran-nothing t (at u cur) k (g .fine .1)))
+      sym (g .rest ∙ ap (toCome o t f (at u cur) k) e
+      ∙ ap₂ bothOf (ap this (append-nil (bitsOf o f))) (ran-nothing o t (at u cur) k (g .fine .1)))
 
   module _ (a : Attribute) (rs : List Attribute) (is : now ≡ a ∷ rs) where
-    from-now : fills ks t (at o s) ≡ toCome t f (at u cur) k (a ∷ rs)
-    from-now = g .rest ∙ ap (toCome t f (at u cur) k) is
+    from-now : fills o ks t (at out s) ≡ toCome o t f (at u cur) k (a ∷ rs)
+    from-now = g .rest ∙ ap (toCome o t f (at u cur) k) is
 
-    pub fill-short : length t ≤ k → cannot ≡ fills ks t (at o s)
-    fill-short h = sym (from-now ∙ none-left t a rs f (at u cur) k h)
+    pub fill-short : length t ≤ k → cannot ≡ fills o ks t (at out s)
+    fill-short h = sym (from-now ∙ none-left o t a rs f (at u cur) k h)
 
-    module _ (lk : k < length t) (G : Flagged) (flags : Adds f (flagSpelling (a .kind) (getD t k 0)) G) where
-      pub fill-flag : G ≡ No → cannot ≡ fills ks t (at o s)
-      fill-flag e = sym (from-now ∙ turn-flag t a rs f (at u cur) k lk G flags (g .fine .1) e)
+    module _ (lk : k < length t) (G : Flagged) (flags : Adds o f (flagSpelling o (a .kind) (getD t k 0)) G) where
+      pub fill-flag : G ≡ No → cannot ≡ fills o ks t (at out s)
+      fill-flag e = sym (from-now ∙ turn-flag o t a rs f (at u cur) k lk G flags (g .fine .1) e)
 
-      module _ (u′ : List ℕ) (R : Put) (e : seen u′ R ≡ ran t (at u cur) (k + 1) (content a (getD t k 0))) where
-        pub fill-gone : R ≡ Impossible → cannot ≡ fills ks t (at o s)
-        fill-gone d = sym (from-now ∙ turn-gone t a rs f (at u cur) k lk G flags (g .fine .1) (sym e ∙ ap (seen u′) d))
+      module _ (u′ : List ℕ) (R : Put) (e : seen u′ R ≡ ran o t (at u cur) (k + 1) (content a (getD t k 0))) where
+        pub fill-gone : R ≡ Impossible → cannot ≡ fills o ks t (at out s)
+        fill-gone d = sym (from-now ∙ turn-gone o t a rs f (at u cur) k lk G flags (g .fine .1) (sym e ∙ ap (seen u′) d))
 
-        pub fill-next : (f′ : Flags) (r : Sink) (j i′ : ℕ) → G ≡ With f′ → R ≡ Done r j → length u′ ≡ length u → i′ ≡ i + 1 → Filling ks t o s u′ f′ r i′ j rs
+        pub fill-next : (f′ : Flags) (r : Sink) (j i′ : ℕ) → G ≡ With f′ → R ≡ Done r j → length u′ ≡ length u → i′ ≡ i + 1 → Filling o ks t out s u′ f′ r i′ j rs
         fill-next f′ r j i′ z d size ei =
             let grown : Grown (f .width) (With f′) = subst (Grown (f .width)) z (flags .1) in
             record {
               size = size ∙ g .size;
-              fine = ran-fine t u cur (k + 1) (content a (getD t k 0)) u′ R (g .fine) e r j d;
+              fine = ran-fine o t u cur (k + 1) (content a (getD t k 0)) u′ R (g .fine) e r j d;
               held = grown .0;
               few = omega (arith, grown .1, g .few);
-              rest = from-now ∙ turn-on t a rs f (at u cur) k lk G flags (g .fine .1) f′ (at u′ r) j z (sym e ∙ ap (seen u′) d);
+              rest = from-now ∙ turn-on o t a rs f (at u cur) k lk G flags (g .fine .1) f′ (at u′ r) j z (sym e ∙ ap (seen u′) d);
             }

@@ -8,7 +8,7 @@ use native.Mathlib.Omega.{arith}
 use lib.ListN.{length, length-append}
 use lib.Dec.{eqb}
 use Rattle.format.specs.Tests.{pick}
-use Rattle.format.specs.Bits.{high}
+use Rattle.format.specs.Bits.{Order}
 use Rattle.format.specs.Formats.{Item, Format, nothing, item, only, _▹_, _▸_}
 use Rattle.format.specs.Items.{skipped, byteItem}
 use Rattle.format.specs.Bodies.{Kind, Value, Fixed, BitFlag, Simple, Discrete, DataType, U32s, Times, Floats, Ratios, Bools, Bytes, BlendModes, TrackMatteTypes, MaskModes, Paths, Attribute, value, keyframed, contentOf, content, rows}
@@ -42,79 +42,79 @@ adjoin-none cannot = refl
 adjoin-none (this (wrote xs bs ys)) = refl
 
 -- ---- from a whole byte on
-abbrev Whole : (List ℕ → ℕ → Possible Written) → Type 0
-Whole w = (ns : List ℕ) (p : ℕ) → w ns p ≡ adjoin [] (dig high (skipped p) 0) (w ns (p + skipped p))
+abbrev Whole : Order → (List ℕ → ℕ → Possible Written) → Type 0
+Whole o w = (ns : List ℕ) (p : ℕ) → w ns p ≡ adjoin [] (dig o (skipped p) 0) (w ns (p + skipped p))
 
-whole-align : Whole (unrun high (item Item.align))
+whole-align : (o : Order) → Whole o (unrun o (item Item.align))
 unfolding unrun writeItem dig
-whole-align ns p =
+whole-align o ns p =
     let z : skipped (p + skipped p) ≡ 0 = omega arith in
-    let e : dig high (skipped p) 0 ++ dig high (skipped (p + skipped p)) 0 ≡ dig high (skipped p) 0 = rw z (append-nil (dig high (skipped p) 0)) in
+    let e : dig o (skipped p) 0 ++ dig o (skipped (p + skipped p)) 0 ≡ dig o (skipped p) 0 = rw z (append-nil (dig o (skipped p) 0)) in
     ap (λ (bs : List Bool). this (wrote [] bs ns)) (sym e)
 
-whole-on : (w : List ℕ → ℕ → Possible Written) (k : List ℕ → List ℕ → ℕ → Possible Written) → Whole w → Whole (λ ns p. onward (w ns p) p k)
-whole-on w k h ns p =
-    ap (λ (x : Possible Written). onward x p k) (h ns p) ∙ onward-adjoin (dig high (skipped p) 0) (w ns (p + skipped p)) p k
-    ∙ ap (λ (n : ℕ). adjoin [] (dig high (skipped p) 0) (onward (w ns (p + skipped p)) (p + n) k)) (length-dig high (skipped p) 0)
+whole-on : (o : Order) (w : List ℕ → ℕ → Possible Written) (k : List ℕ → List ℕ → ℕ → Possible Written) → Whole o w → Whole o (λ ns p. onward (w ns p) p k)
+whole-on o w k h ns p =
+    ap (λ (x : Possible Written). onward x p k) (h ns p) ∙ onward-adjoin (dig o (skipped p) 0) (w ns (p + skipped p)) p k
+    ∙ ap (λ (n : ℕ). adjoin [] (dig o (skipped p) 0) (onward (w ns (p + skipped p)) (p + n) k)) (length-dig o (skipped p) 0)
 
-whole-then : (f : Format) (g : List ℕ → Format) → Whole (unrun high f) → Whole (unrun high (f ▹ g))
+whole-then : (o : Order) (f : Format) (g : List ℕ → Format) → Whole o (unrun o f) → Whole o (unrun o (f ▹ g))
 unfolding unrun
-whole-then f g h = whole-on (unrun high f) (λ xs ys q. unrun high (g xs) ys q) h
+whole-then o f g h = whole-on o (unrun o f) (λ xs ys q. unrun o (g xs) ys q) h
 
-whole-only : (t : List ℕ → Bool) (e : ℕ) (f : Format) → Whole (unrun high f) → Whole (unrun high (only t e f))
+whole-only : (o : Order) (t : List ℕ → Bool) (e : ℕ) (f : Format) → Whole o (unrun o f) → Whole o (unrun o (only t e f))
 unfolding unrun
-whole-only t e f h ns p = ap (passing t) (h ns p) ∙ passing-adjoin t (dig high (skipped p) 0) (unrun high f ns (p + skipped p))
+whole-only o t e f h ns p = ap (passing t) (h ns p) ∙ passing-adjoin t (dig o (skipped p) 0) (unrun o f ns (p + skipped p))
 
-whole-item : (i : Item) → Whole (unrun high (byteItem i))
-whole-item i = whole-then (item Item.align) (λ xs. item i) whole-align
+whole-item : (o : Order) (i : Item) → Whole o (unrun o (byteItem i))
+whole-item o i = whole-then o (item Item.align) (λ xs. item i) (whole-align o)
 
-whole-value : (d : DataType) → Whole (unrun high (value d))
-whole-value U32s = whole-item Item.U32
-whole-value Times = whole-item Item.U64
-whole-value Floats = whole-item (Item.LE 4)
-whole-value Ratios = whole-then _ _ (whole-item Item.I32)
-whole-value Bools = whole-only _ _ _ (whole-item (Item.UB 8))
-whole-value Bytes = whole-item (Item.UB 8)
-whole-value BlendModes = whole-only _ _ _ (whole-item (Item.UB 8))
-whole-value TrackMatteTypes = whole-only _ _ _ (whole-item (Item.UB 8))
-whole-value MaskModes = whole-only _ _ _ (whole-item (Item.UB 8))
-whole-value Paths = whole-then _ _ (whole-only _ _ _ (whole-item Item.U32))
+whole-value : (o : Order) (d : DataType) → Whole o (unrun o (value d))
+whole-value o U32s = whole-item o Item.U32
+whole-value o Times = whole-item o Item.U64
+whole-value o Floats = whole-item o (Item.LE 4)
+whole-value o Ratios = whole-then o _ _ (whole-item o Item.I32)
+whole-value o Bools = whole-only o _ _ _ (whole-item o (Item.UB 8))
+whole-value o Bytes = whole-item o (Item.UB 8)
+whole-value o BlendModes = whole-only o _ _ _ (whole-item o (Item.UB 8))
+whole-value o TrackMatteTypes = whole-only o _ _ _ (whole-item o (Item.UB 8))
+whole-value o MaskModes = whole-only o _ _ _ (whole-item o (Item.UB 8))
+whole-value o Paths = whole-then o _ _ (whole-only o _ _ _ (whole-item o Item.U32))
 
-whole-frames : (k : Kind) (d : DataType) → Whole (unrun high (keyframed k d))
-whole-frames k d = whole-then _ _ (whole-only _ _ _ (whole-item Item.U32))
+whole-frames : (o : Order) (k : Kind) (d : DataType) → Whole o (unrun o (keyframed k d))
+whole-frames o k d = whole-then o _ _ (whole-only o _ _ _ (whole-item o Item.U32))
 
 -- ---- what follows such contents starts there too
-abbrev Passes : Format → Type 0
-Passes f = (k : List ℕ → ℕ → Possible Written) → Whole k → Whole (λ ns p. onward (unrun high f ns p) p (λ xs ys q. k ys q))
+abbrev Passes : Order → Format → Type 0
+Passes o f = (k : List ℕ → ℕ → Possible Written) → Whole o k → Whole o (λ ns p. onward (unrun o f ns p) p (λ xs ys q. k ys q))
 
-passes-nothing : Passes nothing
+passes-nothing : (o : Order) → Passes o nothing
 unfolding unrun
-passes-nothing k h ns p =
+passes-nothing o k h ns p =
     adjoin-none (k ns (p + 0)) ∙ ap (k ns) (add-zero p) ∙ h ns p
-    ∙ ap (adjoin [] (dig high (skipped p) 0)) (sym (adjoin-none (k ns (p + skipped p + 0)) ∙ ap (k ns) (add-zero (p + skipped p))))
+    ∙ ap (adjoin [] (dig o (skipped p) 0)) (sym (adjoin-none (k ns (p + skipped p + 0)) ∙ ap (k ns) (add-zero (p + skipped p))))
 
-passes-whole : (f : Format) → Whole (unrun high f) → Passes f
-passes-whole f w k h = whole-on (unrun high f) (λ xs ys q. k ys q) w
+passes-whole : (o : Order) (f : Format) → Whole o (unrun o f) → Passes o f
+passes-whole o f w k h = whole-on o (unrun o f) (λ xs ys q. k ys q) w
 
-passes-pick : (c : Bool) (f g : Format) → Passes f → Passes g → Passes (pick c f g)
-passes-pick true f g a b = a
-passes-pick false f g a b = b
+passes-pick : (o : Order) (c : Bool) (f g : Format) → Passes o f → Passes o g → Passes o (pick c f g)
+passes-pick o true f g a b = a
+passes-pick o false f g a b = b
 
-passes-content : (a : Attribute) (φ : ℕ) → Passes (content a φ)
-passes-content a φ = go (a .kind)
+passes-content : (o : Order) (a : Attribute) (φ : ℕ) → Passes o (content a φ)
+passes-content o a φ = go (a .kind)
   where
-    one : Passes (value (a .dataType))
-    one = passes-whole (value (a .dataType)) (whole-value (a .dataType))
+    one : Passes o (value (a .dataType))
+    one = passes-whole o (value (a .dataType)) (whole-value o (a .dataType))
 
-    some : (k : Kind) → Passes (pick (eqb φ 0) nothing (pick (eqb φ 1) (value (a .dataType)) (keyframed k (a .dataType))))
+    some : (k : Kind) → Passes o (pick (eqb φ 0) nothing (pick (eqb φ 1) (value (a .dataType)) (keyframed k (a .dataType))))
     some k =
-        passes-pick (eqb φ 0) nothing (pick (eqb φ 1) (value (a .dataType)) (keyframed k (a .dataType))) passes-nothing
-        (passes-pick (eqb φ 1) (value (a .dataType)) (keyframed k (a .dataType)) one (passes-whole (keyframed k (a .dataType)) (whole-frames k (a .dataType))))
+        passes-pick o (eqb φ 0) nothing (pick (eqb φ 1) (value (a .dataType)) (keyframed k (a .dataType))) (passes-nothing o)
+        (passes-pick o (eqb φ 1) (value (a .dataType)) (keyframed k (a .dataType)) one (passes-whole o (keyframed k (a .dataType)) (whole-frames o k (a .dataType))))
 
-    go : (k : Kind) → Passes (contentOf k (a .dataType) φ)
-    go Value = passes-pick (eqb φ 0) nothing (value (a .dataType)) passes-nothing one
+    go : (k : Kind) → Passes o (contentOf k (a .dataType) φ)
+    go Value = passes-pick o (eqb φ 0) nothing (value (a .dataType)) (passes-nothing o) one
     go Fixed = one
-    go BitFlag = passes-nothing
+    go BitFlag = passes-nothing o
     go Simple = some Simple
     go Discrete = some Discrete
 
@@ -134,41 +134,41 @@ onward-twice (this (wrote xs bs ys)) p k k′ = go (k ys (p + length bs))
         let e : p + length (bs ++ bs′) ≡ p + length bs + length bs′ = omega (arith, length-append bs bs′) in
         ap (λ (q : ℕ). adjoin (xs ++ xs′) (bs ++ bs′) (k′ ys′ q)) e ∙ both xs′ bs′ (k′ ys′ (p + length bs + length bs′))
 
-passes-then : (f g : Format) → Passes f → Passes g → Passes (f ▸ g)
+passes-then : (o : Order) (f g : Format) → Passes o f → Passes o g → Passes o (f ▸ g)
 unfolding unrun
-passes-then f g a b k h ns p =
-    onward-twice (unrun high f ns p) p (unrun high g) k
-    ∙ a (λ ys q. onward (unrun high g ys q) q (λ xs ys q. k ys q)) (b k h) ns p
-    ∙ ap (adjoin [] (dig high (skipped p) 0)) (sym (onward-twice (unrun high f ns (p + skipped p)) (p + skipped p) (unrun high g) k))
+passes-then o f g a b k h ns p =
+    onward-twice (unrun o f ns p) p (unrun o g) k
+    ∙ a (λ ys q. onward (unrun o g ys q) q (λ xs ys q. k ys q)) (b k h) ns p
+    ∙ ap (adjoin [] (dig o (skipped p) 0)) (sym (onward-twice (unrun o f ns (p + skipped p)) (p + skipped p) (unrun o g) k))
 
 -- a flag number has no bits there
-passes-echo : (n : ℕ) → Passes (item (Item.echo n))
+passes-echo : (o : Order) (n : ℕ) → Passes o (item (Item.echo n))
 unfolding unrun writeItem
-passes-echo n k h [] p = refl
-passes-echo n k h (v ∷ ns) p = go (eqb v n)
+passes-echo o n k h [] p = refl
+passes-echo o n k h (v ∷ ns) p = go (eqb v n)
   where
-    moved : (w : Possible Written) → adjoin (v ∷ []) [] (adjoin [] (dig high (skipped p) 0) w) ≡ adjoin [] (dig high (skipped p) 0) (adjoin (v ∷ []) [] w)
+    moved : (w : Possible Written) → adjoin (v ∷ []) [] (adjoin [] (dig o (skipped p) 0) w) ≡ adjoin [] (dig o (skipped p) 0) (adjoin (v ∷ []) [] w)
     moved cannot = refl
     moved (this (wrote xs bs ys)) = refl
 
     go : (c : Bool) → onward (put (v ∷ []) (pick c (this []) cannot) ns) p (λ xs ys q. k ys q)
-        ≡ adjoin [] (dig high (skipped p) 0) (onward (put (v ∷ []) (pick c (this []) cannot) ns) (p + skipped p) (λ xs ys q. k ys q))
+        ≡ adjoin [] (dig o (skipped p) 0) (onward (put (v ∷ []) (pick c (this []) cannot) ns) (p + skipped p) (λ xs ys q. k ys q))
     go false = refl
     go true =
         ap (λ (q : ℕ). adjoin (v ∷ []) [] (k ns q)) (add-zero p)
         ∙ ap (adjoin (v ∷ []) []) (h ns p)
         ∙ moved (k ns (p + skipped p))
-        ∙ ap (λ (q : ℕ). adjoin [] (dig high (skipped p) 0) (adjoin (v ∷ []) [] (k ns q))) (sym (add-zero (p + skipped p)))
+        ∙ ap (λ (q : ℕ). adjoin [] (dig o (skipped p) 0) (adjoin (v ∷ []) [] (k ns q))) (sym (add-zero (p + skipped p)))
 
-passes-rows : (ks : List Attribute) (φs : List ℕ) → Passes (rows ks φs)
+passes-rows : (o : Order) (ks : List Attribute) (φs : List ℕ) → Passes o (rows ks φs)
 unfolding rows
-passes-rows [] φs = passes-nothing
-passes-rows (a ∷ ks) [] = passes-nothing
-passes-rows (a ∷ ks) (φ ∷ φs) =
-    passes-then (item (Item.echo φ)) (content a φ ▸ rows ks φs) (passes-echo φ) (passes-then (content a φ) (rows ks φs) (passes-content a φ) (passes-rows ks φs))
+passes-rows o [] φs = passes-nothing o
+passes-rows o (a ∷ ks) [] = passes-nothing o
+passes-rows o (a ∷ ks) (φ ∷ φs) =
+    passes-then o (item (Item.echo φ)) (content a φ ▸ rows ks φs) (passes-echo o φ) (passes-then o (content a φ) (rows ks φs) (passes-content o a φ) (passes-rows o ks φs))
 
 -- THE law
-pub whole-rows : (ks : List Attribute) (φs ns : List ℕ) (p : ℕ)
-    → unrun high (front (rows ks φs)) ns p ≡ adjoin [] (dig high (skipped p) 0) (unrun high (front (rows ks φs)) ns (p + skipped p))
+pub whole-rows : (o : Order) (ks : List Attribute) (φs ns : List ℕ) (p : ℕ)
+    → unrun o (front (rows ks φs)) ns p ≡ adjoin [] (dig o (skipped p) 0) (unrun o (front (rows ks φs)) ns (p + skipped p))
 unfolding unrun
-whole-rows ks φs ns p = passes-rows ks φs (unrun high (item Item.align)) whole-align ns p
+whole-rows o ks φs ns p = passes-rows o ks φs (unrun o (item Item.align)) (whole-align o) ns p

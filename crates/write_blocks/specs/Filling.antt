@@ -6,7 +6,7 @@ use lib.Dec.{leb}
 use lib.ListN.{length, take, drop}
 use lib.Seq.{sets}
 use Rattle.format.specs.Tests.{pick}
-use Rattle.format.specs.Bits.{high}
+use Rattle.format.specs.Bits.{Order}
 use Rattle.format.specs.Bodies.{Attribute, rows}
 use Rattle.format.specs.Possible.{Possible, this, cannot}
 use Rattle.format.specs.WritingBodies.{flagsIn}
@@ -27,12 +27,12 @@ bothOf (this bs) cannot = cannot
 bothOf cannot x = cannot
 
 -- the attributes' flags, and their contents, of the values t from the first on
-abbrev pub fills : List Attribute → List ℕ → State → Possible Both
-fills ks t st = bothOf (flagBits ks (flagsIn high ks t)) (ran t st 0 (rows ks (flagsIn high ks t)))
+abbrev pub fills : Order → List Attribute → List ℕ → State → Possible Both
+fills o ks t st = bothOf (flagBits o ks (flagsIn o ks t)) (ran o t st 0 (rows ks (flagsIn o ks t)))
 
-abbrev pub filled : List ℕ → Filled → Possible Both
-filled u (With f s k) = this (both (bitsOf f) (at u s) k)
-filled u No = cannot
+abbrev pub filled : Order → List ℕ → Filled → Possible Both
+filled o u (With f s k) = this (both (bitsOf o f) (at u s) k)
+filled o u No = cannot
 
 -- flags and a sink that code may go on with
 abbrev pub Ready : Filled → Type 0

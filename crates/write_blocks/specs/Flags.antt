@@ -2,41 +2,42 @@
 use Prim.Native.Nat.{ℕ, _+_, _/_, _^_, _≤_, _<_}
 use mathlib.Core.List.{List, [], _∷_, _++_}
 use mathlib.Core.Bool.{Bool, true, false}
+use mathlib.Core.Path.{_≡_}
 use lib.Dec.{eqb}
 use lib.ListN.{length}
 use Rattle.format.specs.Tests.{pick}
-use Rattle.format.specs.Bits.{high}
+use Rattle.format.specs.Bits.{Order}
 use Rattle.format.specs.Items.{skipped}
 use Rattle.format.specs.Bodies.{Kind, Value, Fixed, BitFlag, Simple, Discrete, Attribute}
 use Rattle.format.specs.Possible.{Possible, this, cannot}
-use Rattle.format.specs.WritingItems.{dig, before, spellFlag}
+use Rattle.format.specs.WritingItems.{dig, glue, before, spellFlag}
 use Rattle.format.specs.WritingBodies.{pack}
 use Rattle.write_blocks.specs.declared.Flags.{Flags}
 use Rattle.write_blocks.specs.declared.Flagged.{Flagged}
 use Rattle.write_blocks.specs.declared.Flagged.the-variants.{With, No}
 
 -- the bits of an attribute's flag number
-abbrev pub flagSpelling : Kind → ℕ → Possible (List Bool)
-flagSpelling Value v = spellFlag high v 1
-flagSpelling Fixed v = pick (eqb v 1) (this []) cannot
-flagSpelling BitFlag v = spellFlag high v 1
-flagSpelling Simple v = spellFlag high v 2
-flagSpelling Discrete v = spellFlag high v 2
+abbrev pub flagSpelling : Order → Kind → ℕ → Possible (List Bool)
+flagSpelling o Value v = spellFlag o v 1
+flagSpelling o Fixed v = pick (eqb v 1) (this []) cannot
+flagSpelling o BitFlag v = spellFlag o v 1
+flagSpelling o Simple v = spellFlag o v 2
+flagSpelling o Discrete v = spellFlag o v 2
 
 abbrev pub joined : Possible (List Bool) → Possible (List Bool) → Possible (List Bool)
 joined (this bs) b = before bs b
 joined cannot b = cannot
 
 -- the bits of all flag numbers, one for each attribute
-unfoldable pub flagBits : List Attribute → List ℕ → Possible (List Bool)
-flagBits [] [] = this []
-flagBits [] (φ ∷ φs) = cannot
-flagBits (a ∷ ks) [] = cannot
-flagBits (a ∷ ks) (φ ∷ φs) = joined (flagSpelling (a .kind) φ) (flagBits ks φs)
+unfoldable pub flagBits : Order → List Attribute → List ℕ → Possible (List Bool)
+flagBits o [] [] = this []
+flagBits o [] (φ ∷ φs) = cannot
+flagBits o (a ∷ ks) [] = cannot
+flagBits o (a ∷ ks) (φ ∷ φs) = joined (flagSpelling o (a .kind) φ) (flagBits o ks φs)
 
 -- the bytes that flags take, with zero bits up to a whole one
-abbrev pub flagBytes : List Bool → List ℕ
-flagBytes bs = pack high ((length bs + 7) / 8) (bs ++ dig high (skipped (length bs)) 0)
+abbrev pub flagBytes : Order → List Bool → List ℕ
+flagBytes o bs = pack o ((length bs + 7) / 8) (bs ++ dig o (skipped (length bs)) 0)
 
 -- some attribute has a flag bit: not all are Fixed
 abbrev pub hasFlag : Kind → Bool
@@ -50,16 +51,22 @@ unfoldable pub anyFlag : List Attribute → Bool
 anyFlag [] = false
 anyFlag (a ∷ ks) = pick (hasFlag (a .kind)) true (anyFlag ks)
 
--- ---- as the code gathers them
-abbrev pub bitsOf : Flags → List Bool
-bitsOf f = dig high (f .width) (f .bits)
+-- ---- as the code gathers them: one field
+abbrev pub bitsOf : Order → Flags → List Bool
+bitsOf o f = dig o (f .width) (f .bits)
 
 abbrev pub Held : Flags → Type 0
 Held f = f .bits < 2 ^ f .width
 
-abbrev pub noted : Flagged → Possible (List Bool)
-noted (With f) = this (bitsOf f)
-noted No = cannot
+-- f with n bits more, the field x, behind its own
+pub record Longer (o : Order) (f : Flags) (n x : ℕ) (g : Flags) : Type 0 where
+  pub glued : g .bits ≡ glue o (f .width) n (f .bits) x
+  pub longer : g .width ≡ f .width + n
+  pub held : Held g
+
+abbrev pub noted : Order → Flagged → Possible (List Bool)
+noted o (With f) = this (bitsOf o f)
+noted o No = cannot
 
 -- one number has at most two bits
 abbrev pub Grown : ℕ → Flagged → Type 0

@@ -2,16 +2,16 @@
 // each attribute's flag number stands before its content: so one walk over them finds both, and no content is measured before it is written.
 ghost use mathlib.Core.Path.{_≡_};
 ghost use mathlib.Core.Bool.{true};
-ghost use Prim.Native.Nat.{_+_, _-_, _≤_, _<_};
-ghost use Rattle.format.specs.Bits.{high};
+ghost use Prim.Native.Nat.{_+_, _-_, _^_, _≤_, _<_};
 ghost use Rattle.format.specs.WritingItems.{before, spellFlag};
 ghost use Rattle.format.specs.Bodies.{content as contentOf, attributes as attributesBody};
 ghost use Rattle.format.specs.WritingBodies.{writeBody};
+ghost use Rattle.bits.specs.Places.{orderOf};
 ghost use Rattle.attributes.specs.Rows.{kindOf, attributeOf, rowsFrom, AreRows};
 ghost use Rattle.sink.specs.Lain.{lies, lainAs, longest};
 ghost use Rattle.sink.specs.Laying.{at as under};
 ghost use Rattle.spelling.specs.Writing.{seen, ran, Fine};
-ghost use Rattle.write_blocks.specs.Flags.{bitsOf, noted, Held, Grown, flagSpelling, flagBytes, anyFlag};
+ghost use Rattle.write_blocks.specs.Flags.{bitsOf, noted, Held, Grown, Longer, flagSpelling, flagBytes, anyFlag};
 ghost use Rattle.write_blocks.specs.Filling.{filled, fills, Ready, underFlags};
 use attributes::Attribute;
 use attributes::Content;
@@ -19,11 +19,12 @@ use attributes::Kind;
 use attributes::Rows;
 use bits::BitPlace;
 use bits::BytePlace;
+use bits::Order;
 use sink::Body;
 use sink::Sink;
 use spelling::Put;
 
-// Flag bits as one number, the first of them highest; and how many they are.
+// Flag bits as one field; and how many they are.
 pub struct Flags {
     pub bits: u64,
     pub width: usize,
@@ -41,66 +42,70 @@ pub enum Filled {
     No,
 }
 
+// So many bits more, as a field, behind those that were gathered.
+fn with_bits(order: Order, flags: Flags, more: u64, count: usize) -> Flags
+    requires { ⌜ Held flags × (flags .width ≤ 16) × (count ≤ 2) × (more < 2 ^ count) ⌝ }
+    ensures { λ r. ⌜ Longer (orderOf order) flags count more r ⌝ }
+{
+    let bits = flags.bits;
+    let width = flags.width;
+    Flags {
+        bits: sink::glue(order, bits, width, more, count),
+        width: width + count,
+    }
+}
+
 // One flag bit.
-fn add_flag(flags: Flags, number: u64) -> Flagged
+fn add_flag(order: Order, flags: Flags, number: u64) -> Flagged
     requires { ⌜ Held flags × (flags .width ≤ 16) ⌝ }
-    ensures { λ r. ⌜ (noted r ≡ before (bitsOf flags) (spellFlag high number 1)) × Grown (flags .width) r ⌝ }
+    ensures { λ r. ⌜ (noted (orderOf order) r ≡ before (bitsOf (orderOf order) flags) (spellFlag (orderOf order) number 1)) × Grown (flags .width) r ⌝ }
 {
     if 1 < number {
         return Flagged::No;
     }
-    let bits = flags.bits;
-    let width = flags.width;
-    Flagged::With(Flags {
-        bits: bits * 2 + number,
-        width: width + 1,
-    })
+    Flagged::With(with_bits(order, flags, number, 1))
 }
 
 // An exist bit; if set, an animatable bit.
-fn add_two_flags(flags: Flags, number: u64) -> Flagged
+fn add_two_flags(order: Order, flags: Flags, number: u64) -> Flagged
     requires { ⌜ Held flags × (flags .width ≤ 16) ⌝ }
-    ensures { λ r. ⌜ (noted r ≡ before (bitsOf flags) (spellFlag high number 2)) × Grown (flags .width) r ⌝ }
+    ensures { λ r. ⌜ (noted (orderOf order) r ≡ before (bitsOf (orderOf order) flags) (spellFlag (orderOf order) number 2)) × Grown (flags .width) r ⌝ }
 {
-    let bits = flags.bits;
-    let width = flags.width;
     match number {
-        0 => Flagged::With(Flags {
-            bits: bits * 2,
-            width: width + 1,
-        }),
-        1 => Flagged::With(Flags {
-            bits: bits * 4 + 2,
-            width: width + 2,
-        }),
-        3 => Flagged::With(Flags {
-            bits: bits * 4 + 3,
-            width: width + 2,
-        }),
+        0 => Flagged::With(with_bits(order, flags, 0, 1)),
+        1 => {
+            let still = sink::glue(order, 1, 1, 0, 1);
+            Flagged::With(with_bits(order, flags, still, 2))
+        }
+        3 => {
+            let moving = sink::glue(order, 1, 1, 1, 1);
+            Flagged::With(with_bits(order, flags, moving, 2))
+        }
         _ => Flagged::No,
     }
 }
 
 // The flags of one attribute; a Fixed one has no bit, and its flag number is 1.
-fn add_flags(kind: Kind, flags: Flags, number: u64) -> Flagged
+fn add_flags(order: Order, kind: Kind, flags: Flags, number: u64) -> Flagged
     requires { ⌜ Held flags × (flags .width ≤ 16) ⌝ }
-    ensures { λ r. ⌜ (noted r ≡ before (bitsOf flags) (flagSpelling (kindOf kind) number)) × Grown (flags .width) r ⌝ }
+    ensures { λ r. ⌜ (noted (orderOf order) r ≡ before (bitsOf (orderOf order) flags) (flagSpelling (orderOf order) (kindOf kind) number)) × Grown (flags .width) r ⌝ }
 {
     match kind {
-        Kind::Value => add_flag(flags, number),
+        Kind::Value => add_flag(order, flags, number),
         Kind::Fixed => if number == 1 {
             Flagged::With(flags)
         } else {
             Flagged::No
         },
-        Kind::BitFlag => add_flag(flags, number),
-        Kind::Simple => add_two_flags(flags, number),
-        Kind::Discrete => add_two_flags(flags, number),
+        Kind::BitFlag => add_flag(order, flags, number),
+        Kind::Simple => add_two_flags(order, flags, number),
+        Kind::Discrete => add_two_flags(order, flags, number),
     }
 }
 
 // An attribute's content, by its flag number.
 fn write_content(
+    order: Order,
     attribute: Attribute,
     flag: u64,
     out: &mut [u8],
@@ -109,14 +114,15 @@ fn write_content(
     from: usize,
 ) -> Put
     requires { ⌜ Fine sink ⌝ }
-    ensures { λ r. ⌜ seen (now (out .exit)) r ≡ ran (now (values .entry)) (under (now (out .entry)) sink) from (contentOf (attributeOf attribute) flag) ⌝ }
+    ensures { λ r. ⌜ seen (now (out .exit)) r ≡ ran (orderOf order) (now (values .entry)) (under (now (out .entry)) sink) from (contentOf (attributeOf attribute) flag) ⌝ }
 {
     let kind = attribute.kind;
     let what = attribute.data_type;
     match attributes::content_of(kind, flag) {
         Content::Nothing => Put::Done(sink, from),
-        Content::One => write_values::write_value(what, out, sink, values, from),
+        Content::One => write_values::write_value(order, what, out, sink, values, from),
         Content::Frames => write_values::keyframes::write_keyframed(
+            order,
             kind,
             what,
             out,
@@ -128,9 +134,9 @@ fn write_content(
 }
 
 // The contents of all rows; their flags are gathered on the way.
-fn write_contents(rows: Rows, values: &[u64], out: &mut [u8], sink: Sink) -> Filled
+fn write_contents(order: Order, rows: Rows, values: &[u64], out: &mut [u8], sink: Sink) -> Filled
     requires { ⌜ AreRows (rows .start) (rows .end) × Fine sink ⌝ }
-    ensures { λ r. ⌜ (filled (now (out .exit)) r ≡ fills (rowsFrom (rows .start) (rows .end)) (now (values .entry)) (under (now (out .entry)) sink)) × Ready r ⌝ }
+    ensures { λ r. ⌜ (filled (orderOf order) (now (out .exit)) r ≡ fills (orderOf order) (rowsFrom (rows .start) (rows .end)) (now (values .entry)) (under (now (out .entry)) sink)) × Ready r ⌝ }
 {
     let attributes = attributes::ATTRIBUTES;
     let end = rows.end;
@@ -145,11 +151,11 @@ fn write_contents(rows: Rows, values: &[u64], out: &mut [u8], sink: Sink) -> Fil
         let number = values[index];
         let attribute = attributes[row];
         let kind = attribute.kind;
-        let flagged = add_flags(kind, flags, number);
+        let flagged = add_flags(order, kind, flags, number);
         let Flagged::With(more) = flagged else {
             return Filled::No;
         };
-        let r = write_content(attribute, number, out, cur, values, index + 1);
+        let r = write_content(order, attribute, number, out, cur, values, index + 1);
         let Put::Done(next, behind) = r else {
             return Filled::No;
         };
@@ -166,9 +172,9 @@ fn write_contents(rows: Rows, values: &[u64], out: &mut [u8], sink: Sink) -> Fil
 }
 
 // Puts flags before contents that stand one byte after a place, up to stop; where the flags take more than that byte, the contents move up.
-fn put_flags(flags: Flags, out: &mut [u8], at: BytePlace, stop: BytePlace) -> Body
+fn put_flags(order: Order, flags: Flags, out: &mut [u8], at: BytePlace, stop: BytePlace) -> Body
     requires { ⌜ Held flags × (0 < flags .width) × (flags .width ≤ 18) × (at .0 + 1 ≤ stop .0) × (stop .0 ≤ longest) ⌝ }
-    ensures { λ r. ⌜ lainAs (now (out .exit)) r ≡ underFlags (now (out .entry)) (at .0) (flagBytes (bitsOf flags)) (stop .0 - (at .0 + 1)) ⌝ }
+    ensures { λ r. ⌜ lainAs (now (out .exit)) r ≡ underFlags (now (out .entry)) (at .0) (flagBytes (orderOf order) (bitsOf (orderOf order) flags)) (stop .0 - (at .0 + 1)) ⌝ }
 {
     let width = flags.width;
     let from = at.0 + 1;
@@ -180,15 +186,15 @@ fn put_flags(flags: Flags, out: &mut [u8], at: BytePlace, stop: BytePlace) -> Bo
     write_heads::move_up(out, BytePlace(from), stop.0 - from, more);
     let place = bits::first_bit(at);
     let sink = Sink { place, part: 0 };
-    let next = sink::put_bits(out, sink, flags.bits, width);
-    sink::align(out, next);
+    let next = sink::put_bits(order, out, sink, flags.bits, width);
+    sink::align(order, out, next);
     Body::To(BytePlace(end))
 }
 
 // An attribute block, from a byte place on; one that has flags. No file is longer than 16,777,216 bytes.
-pub fn write_block(rows: Rows, values: &[u64], out: &mut [u8], at: BytePlace) -> Body
+pub fn write_block(order: Order, rows: Rows, values: &[u64], out: &mut [u8], at: BytePlace) -> Body
     requires { ⌜ AreRows (rows .start) (rows .end) × (anyFlag (rowsFrom (rows .start) (rows .end)) ≡ true) ⌝ }
-    ensures { λ r. ⌜ lainAs (now (out .exit)) r ≡ lies (now (out .entry)) (at .0) (writeBody high (attributesBody (rowsFrom (rows .start) (rows .end))) (now (values .entry))) ⌝ }
+    ensures { λ r. ⌜ lainAs (now (out .exit)) r ≡ lies (now (out .entry)) (at .0) (writeBody (orderOf order) (attributesBody (rowsFrom (rows .start) (rows .end))) (now (values .entry))) ⌝ }
 {
     if 16777216 <= at.0 {
         return Body::No;
@@ -196,13 +202,13 @@ pub fn write_block(rows: Rows, values: &[u64], out: &mut [u8], at: BytePlace) ->
     let from = at.0 + 1;
     let place = bits::first_bit(BytePlace(from));
     let sink = Sink { place, part: 0 };
-    let r = write_contents(rows, values, out, sink);
+    let r = write_contents(order, rows, values, out, sink);
     let Filled::With(flags, next, behind) = r else {
         return Body::No;
     };
-    let concluded = spelling::conclude(Put::Done(next, behind), values.len(), out);
+    let concluded = spelling::conclude(order, Put::Done(next, behind), values.len(), out);
     match concluded {
-        Body::To(stop) => put_flags(flags, out, at, stop),
+        Body::To(stop) => put_flags(order, flags, out, at, stop),
         Body::No => Body::No,
     }
 }

@@ -5,7 +5,7 @@ use mathlib.Core.Path.{_≡_, refl, ap, _∙_}
 use mathlib.Core.Bool.{Bool, true, false}
 use lib.Dec.{eqb}
 use Rattle.format.specs.Tests.{pick, _or_}
-use Rattle.format.specs.Bits.{high}
+use Rattle.format.specs.Bits.{Order}
 use Rattle.format.specs.Bodies.{Attribute, layerAttributes, textPathOption, maskBlock, attributes}
 use Rattle.format.specs.FileAndTags.{front}
 use Rattle.format.specs.WritingFormats.{unrun}
@@ -28,11 +28,11 @@ block-flags code c e = rw e (go (eqb code 6) (eqb code 9) (eqb code 14) c)
     go false false true h = refl
     go false false false h = h
 
-module _ (vs o : List ℕ) (a code : ℕ) {x : Possible Lain} where
-  pub body-block : {attrs : List Attribute} → isBlock code ≡ true → attrs ≡ attributesOf code → x ≡ lies o a (writeBody high (attributes attrs) vs) → x ≡ lies o a (writeBody high (leafBody code) vs)
+module _ (o : Order) (vs out : List ℕ) (a code : ℕ) {x : Possible Lain} where
+  pub body-block : {attrs : List Attribute} → isBlock code ≡ true → attrs ≡ attributesOf code → x ≡ lies out a (writeBody o (attributes attrs) vs) → x ≡ lies out a (writeBody o (leafBody code) vs)
   unfolding leafBody
-  body-block c e h = rw c (h ∙ ap (λ (l : List Attribute). lies o a (writeBody high (attributes l) vs)) e)
+  body-block c e h = rw c (h ∙ ap (λ (l : List Attribute). lies out a (writeBody o (attributes l) vs)) e)
 
-  pub body-fixed : isBlock code ≡ false → x ≡ lies o a (packed high (unrun high (front (fixedOf code)) vs 0)) → x ≡ lies o a (writeBody high (leafBody code) vs)
+  pub body-fixed : isBlock code ≡ false → x ≡ lies out a (packed o (unrun o (front (fixedOf code)) vs 0)) → x ≡ lies out a (writeBody o (leafBody code) vs)
   unfolding leafBody writeBody writePart unrun
   body-fixed c h = rw c h

@@ -3,7 +3,7 @@ use Prim.Native.Nat.{ℕ, _*_}
 use mathlib.Core.List.{List}
 use mathlib.Core.Path.{_≡_, _∙_}
 use lib.ListN.{getD}
-use Rattle.format.specs.Bits.{high}
+use Rattle.format.specs.Bits.{Order}
 use Rattle.format.specs.Formats.{Format, _▸_, times}
 use Rattle.format.specs.Items.{string}
 use Rattle.format.specs.Bodies.{fontTables}
@@ -22,8 +22,8 @@ use Rattle.spelling.proofs.NumberLaws.{counted-done}
 abbrev pub fonts : ℕ → Format
 fonts n = times n (string ▸ string)
 
-pub fonts-done : (t : List ℕ) (st : State) (k : ℕ) (u : List ℕ) (R : Put) → seen u R ≡ ran t st k (formatOf (Count 0)) → (s : Sink) (j : ℕ) → R ≡ Done s j
-    → ran t st k fontTables ≡ ran t (at u s) j (times (2 * getD t k 0) string)
-fonts-done t st k u R first s j e =
-    counted-done 0 fonts t st k u R first s j e
-    ∙ ran-alike t (at u s) j (fonts (getD t k 0)) (times (2 * getD t k 0) string) (λ b p. pairs (getD t k 0) string high b p)
+pub fonts-done : (o : Order) (t : List ℕ) (st : State) (k : ℕ) (u : List ℕ) (R : Put) → seen u R ≡ ran o t st k (formatOf (Count 0)) → (s : Sink) (j : ℕ) → R ≡ Done s j
+    → ran o t st k fontTables ≡ ran o t (at u s) j (times (2 * getD t k 0) string)
+fonts-done o t st k u R first s j e =
+    counted-done o 0 fonts t st k u R first s j e
+    ∙ ran-alike o t (at u s) j (fonts (getD t k 0)) (times (2 * getD t k 0) string) (λ b p. pairs (getD t k 0) string o b p)

@@ -5,15 +5,18 @@ ghost use Rattle.format.specs.Formats.{times};
 ghost use Rattle.format.specs.Items.{string};
 ghost use Rattle.format.specs.Bodies.{fontTables};
 ghost use Rattle.fixed.specs.Fixed.{inOrder, itemsFrom, fixedOf};
+ghost use Rattle.bits.specs.Places.{orderOf};
 ghost use Rattle.sink.specs.Laying.{at as under};
 ghost use Rattle.spelling.specs.Writing.{seen, ran, Fine};
 use bits::BitPlace;
+use bits::Order;
 use items::Item;
 use sink::Sink;
 use spelling::Put;
 
 // The items from row start on, up to row end.
 fn write_items(
+    order: Order,
     start: usize,
     end: usize,
     out: &mut [u8],
@@ -22,7 +25,7 @@ fn write_items(
     from: usize,
 ) -> Put
     requires { ⌜ (start ≤ end) × (end ≤ 18) × Fine sink ⌝ }
-    ensures { λ r. ⌜ seen (now (out .exit)) r ≡ ran (now (values .entry)) (under (now (out .entry)) sink) from (inOrder (itemsFrom start end)) ⌝ }
+    ensures { λ r. ⌜ seen (now (out .exit)) r ≡ ran (orderOf order) (now (values .entry)) (under (now (out .entry)) sink) from (inOrder (itemsFrom start end)) ⌝ }
 {
     let rows = fixed::ITEMS;
     let mut cur = sink;
@@ -30,7 +33,7 @@ fn write_items(
     let mut row = start;
     while row < end {
         let kind = rows[row];
-        let r = spelling::write_one(kind, out, cur, values, index);
+        let r = spelling::write_one(order, kind, out, cur, values, index);
         let Put::Done(next, behind) = r else {
             return Put::Impossible;
         };
@@ -46,15 +49,22 @@ fn write_items(
 }
 
 // n Strings.
-fn write_strings(count: usize, out: &mut [u8], sink: Sink, values: &[u64], from: usize) -> Put
+fn write_strings(
+    order: Order,
+    count: usize,
+    out: &mut [u8],
+    sink: Sink,
+    values: &[u64],
+    from: usize,
+) -> Put
     requires { ⌜ Fine sink ⌝ }
-    ensures { λ r. ⌜ seen (now (out .exit)) r ≡ ran (now (values .entry)) (under (now (out .entry)) sink) from (times count string) ⌝ }
+    ensures { λ r. ⌜ seen (now (out .exit)) r ≡ ran (orderOf order) (now (values .entry)) (under (now (out .entry)) sink) from (times count string) ⌝ }
 {
     let mut cur = sink;
     let mut index = from;
     let mut left = count;
     while 0 < left {
-        let r = spelling::text::write_string(out, cur, values, index);
+        let r = spelling::text::write_string(order, out, cur, values, index);
         let Put::Done(next, behind) = r else {
             return r;
         };
@@ -66,25 +76,39 @@ fn write_strings(count: usize, out: &mut [u8], sink: Sink, values: &[u64], from:
 }
 
 // 1: a count, then two Strings each.
-fn write_fonts(out: &mut [u8], sink: Sink, values: &[u64], from: usize) -> Put
+fn write_fonts(order: Order, out: &mut [u8], sink: Sink, values: &[u64], from: usize) -> Put
     requires { ⌜ Fine sink ⌝ }
-    ensures { λ r. ⌜ seen (now (out .exit)) r ≡ ran (now (values .entry)) (under (now (out .entry)) sink) from fontTables ⌝ }
+    ensures { λ r. ⌜ seen (now (out .exit)) r ≡ ran (orderOf order) (now (values .entry)) (under (now (out .entry)) sink) from fontTables ⌝ }
 {
-    let r = spelling::write_one(Item::Count(0), out, sink, values, from);
+    let r = spelling::write_one(order, Item::Count(0), out, sink, values, from);
     let Put::Done(next, behind) = r else {
         return r;
     };
-    write_strings(2 * (values[from] as usize), out, next, values, behind)
+    write_strings(
+        order,
+        2 * (values[from] as usize),
+        out,
+        next,
+        values,
+        behind,
+    )
 }
 
 // The items of a tag that is no attribute block; of a container those before its list.
-pub fn write_fixed(code: u32, out: &mut [u8], sink: Sink, values: &[u64], from: usize) -> Put
+pub fn write_fixed(
+    order: Order,
+    code: u32,
+    out: &mut [u8],
+    sink: Sink,
+    values: &[u64],
+    from: usize,
+) -> Put
     requires { ⌜ Fine sink ⌝ }
-    ensures { λ r. ⌜ seen (now (out .exit)) r ≡ ran (now (values .entry)) (under (now (out .entry)) sink) from (fixedOf code) ⌝ }
+    ensures { λ r. ⌜ seen (now (out .exit)) r ≡ ran (orderOf order) (now (values .entry)) (under (now (out .entry)) sink) from (fixedOf code) ⌝ }
 {
     if code == 1 {
-        return write_fonts(out, sink, values, from);
+        return write_fonts(order, out, sink, values, from);
     }
     let rows = fixed::rows_of(code);
-    write_items(rows.start, rows.end, out, sink, values, from)
+    write_items(order, rows.start, rows.end, out, sink, values, from)
 }

@@ -9,10 +9,10 @@ use Rattle.write_lists.specs.declared.Wrote.{Wrote}
 use Rattle.write_lists.specs.declared.Wrote.the-variants.{Done, Impossible}
 
 abbrev output : Stood → List ℕ
-output (stood o a k) = o
+output (stood u a k) = u
 
 abbrev answer : Stood → Wrote
-answer (stood o a k) = Done (record { 0 = a }) k
+answer (stood u a k) = Done (record { 0 = a }) k
 
 tells : (u : List ℕ) (a : Wrote) → Tells output answer Impossible (stoodAs u a) u a
 tells u (Done a k) = (refl, refl)

@@ -19,26 +19,26 @@ use Rattle.write_lists.specs.Stood.{Stood, stood, over}
 
 -- ---- what a place and an index say
 
--- what was made, and how it stands over o
-pub record StoodBy (o : List ℕ) (a k : ℕ) (u : List ℕ) (p j : ℕ) (m : Possible Made) : Type 0 where
+-- what was made, and how it stands over out
+pub record StoodBy (out : List ℕ) (a k : ℕ) (u : List ℕ) (p j : ℕ) (m : Possible Made) : Type 0 where
   pub xs : List ℕ
   pub b : List ℕ
   pub ys : List ℕ
   pub is : m ≡ this (made xs b ys)
-  pub out : u ≡ sets o a b
+  pub laid : u ≡ sets out a b
   pub place : p ≡ a + length b
   pub index : j ≡ k + length xs
   pub small : p ≤ longest
 
-pub stood-by : (o : List ℕ) (a k : ℕ) (u : List ℕ) (p j : ℕ) (m : Possible Made) → this (stood u p j) ≡ over o a k m → StoodBy o a k u p j m
+pub stood-by : (out : List ℕ) (a k : ℕ) (u : List ℕ) (p j : ℕ) (m : Possible Made) → this (stood u p j) ≡ over out a k m → StoodBy out a k u p j m
 unfolding over
-stood-by o a k u p j cannot e = clash cc
-stood-by o a k u p j (this (made xs b ys)) e = go (leb (a + length b) longest) refl e
+stood-by out a k u p j cannot e = clash cc
+stood-by out a k u p j (this (made xs b ys)) e = go (leb (a + length b) longest) refl e
   where
-    go : (c : Bool) → leb (a + length b) longest ≡ c → this (stood u p j) ≡ pick c (this (stood (sets o a b) (a + length b) (k + length xs))) cannot → StoodBy o a k u p j (this (made xs b ys))
+    go : (c : Bool) → leb (a + length b) longest ≡ c → this (stood u p j) ≡ pick c (this (stood (sets out a b) (a + length b) (k + length xs))) cannot → StoodBy out a k u p j (this (made xs b ys))
     go true q h =
         let z : p ≡ a + length b = cc in
-        record { xs = xs; b = b; ys = ys; is = refl; out = cc; place = z; index = cc; small = omega (arith, leb-true (a + length b) longest q) }
+        record { xs = xs; b = b; ys = ys; is = refl; laid = cc; place = z; index = cc; small = omega (arith, leb-true (a + length b) longest q) }
     go false q h = clash cc
 
 -- the numbers that were used up and those that are left are the numbers that were given
@@ -51,10 +51,10 @@ parts-of ns xs b ys (this (made xs′ b′ ys′)) e h = let p : xs′ ≡ xs = 
 parts-of ns xs b ys cannot e h = clash cc
 
 -- places and indexes grow, and stay in their bounds
-pub stood-index : (t o : List ℕ) (a k : ℕ) (u : List ℕ) (p j : ℕ) (m : Possible Made) → k ≤ length t → Parts (drop k t) m → this (stood u p j) ≡ over o a k m
+pub stood-index : (t out : List ℕ) (a k : ℕ) (u : List ℕ) (p j : ℕ) (m : Possible Made) → k ≤ length t → Parts (drop k t) m → this (stood u p j) ≡ over out a k m
     → (k ≤ j) × (j ≤ length t) × (a ≤ p) × (p ≤ longest)
-stood-index t o a k u p j m h q e =
-    let s = stood-by o a k u p j m e in
+stood-index t out a k u p j m h q e =
+    let s = stood-by out a k u p j m e in
     let d : drop k t ≡ s .xs ++ s .ys = parts-of (drop k t) (s .xs) (s .b) (s .ys) m (s .is) q in
     (omega (arith, s .index), omega (arith, s .index, ap length d, length-append (s .xs) (s .ys), length-drop k t), omega (arith, s .place), s .small)
 
@@ -77,21 +77,21 @@ again W t (this (stood u p j)) = over u p j (W (drop j t))
 again W t cannot = cannot
 
 -- THE law: what was made is put, and from there what follows it
-pub over-then : (t o : List ℕ) (a k : ℕ) (m : Possible Made) (W : List ℕ → Possible Made) → Parts (drop k t) m → over o a k (andThen m W) ≡ again W t (over o a k m)
+pub over-then : (t out : List ℕ) (a k : ℕ) (m : Possible Made) (W : List ℕ → Possible Made) → Parts (drop k t) m → over out a k (andThen m W) ≡ again W t (over out a k m)
 unfolding over
-over-then t o a k cannot W h = refl
-over-then t o a k (this (made xs b ys)) W h = go (W ys) refl (leb (a + length b) longest) refl
+over-then t out a k cannot W h = refl
+over-then t out a k (this (made xs b ys)) W h = go (W ys) refl (leb (a + length b) longest) refl
   where
     left : drop (k + length xs) t ≡ ys
     left = sym (drop-drop (length xs) k t) ∙ rw h (drop-append-seam xs ys)
 
     go : (m : Possible Made) → W ys ≡ m → (c : Bool) → leb (a + length b) longest ≡ c
-        → over o a k (joined xs b (W ys)) ≡ again W t (pick c (this (stood (sets o a b) (a + length b) (k + length xs))) cannot)
+        → over out a k (joined xs b (W ys)) ≡ again W t (pick c (this (stood (sets out a b) (a + length b) (k + length xs))) cannot)
     go cannot e true q = rw (e, left, e)
     go cannot e false q = rw e
     go (this (made xs′ b′ ys′)) e true q =
         let p : a + length (b ++ b′) ≡ a + length b + length b′ = rw length-append (sym (add-assoc a (length b) (length b′))) in
         let i : k + length (xs ++ xs′) ≡ k + length xs + length xs′ = rw length-append (sym (add-assoc k (length xs) (length xs′))) in
-        rw (e, left, e, p, i, sets-append o a b b′)
+        rw (e, left, e, p, i, sets-append out a b b′)
     go (this (made xs′ b′ ys′)) e false q =
         rw (e, lt-leb (a + length (b ++ b′)) longest (omega (arith, leb-false (a + length b) longest q, length-append b b′)))

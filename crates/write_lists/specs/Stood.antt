@@ -15,11 +15,11 @@ use Rattle.write_lists.specs.declared.Wrote.the-variants.{Done, Impossib
 pub data Stood : Type 0 where
   stood : List ℕ → ℕ → ℕ → Stood
 
--- tags put over the output o from place a on, their numbers from index k on; no file ends after `longest`
+-- tags put over the output u from place a on, their numbers from index k on; no file ends after `longest`
 unfoldable pub over : List ℕ → ℕ → ℕ → Possible Made → Possible Stood
-over o a k (this (made xs b ys)) = pick (leb (a + length b) longest) (this (stood (sets o a b) (a + length b) (k + length xs))) cannot
-over o a k cannot = cannot
+over u a k (this (made xs b ys)) = pick (leb (a + length b) longest) (this (stood (sets u a b) (a + length b) (k + length xs))) cannot
+over u a k cannot = cannot
 
 abbrev pub stoodAs : List ℕ → Wrote → Possible Stood
-stoodAs o (Done a k) = this (stood o (a .0) k)
-stoodAs o Impossible = cannot
+stoodAs u (Done a k) = this (stood u (a .0) k)
+stoodAs u Impossible = cannot

@@ -6,7 +6,7 @@ use mathlib.Core.Path.{_≡_}
 use lib.Dec.{leb, eqb}
 use lib.ListN.{length, take, drop}
 use Rattle.format.specs.Tests.{pick}
-use Rattle.format.specs.Bits.{high}
+use Rattle.format.specs.Bits.{Order}
 use Rattle.format.specs.FileAndTags.{front}
 use Rattle.format.specs.WritingFormats.{unrun}
 use Rattle.format.specs.Possible.{Possible, this, cannot}
@@ -33,23 +33,23 @@ LaidAs true vs u = (allBytes vs ≡ true) × (u ≡ vs)
 LaidAs false vs u = allBytes vs ≡ false
 
 -- what a tag's values are written as; of a container they stand before its list
-abbrev pub valuesIn : Class → ℕ → List ℕ → Possible (List ℕ)
-valuesIn Opaque code vs = asBytes vs
-valuesIn End code vs = pick (eqb (length vs) 0) (this []) cannot
-valuesIn Container code vs = packed high (unrun high (front (fixedOf code)) vs 0)
-valuesIn Fixed code vs = writeBody high (leafBody code) vs
-valuesIn Attributes code vs = writeBody high (leafBody code) vs
+abbrev pub valuesIn : Order → Class → ℕ → List ℕ → Possible (List ℕ)
+valuesIn o Opaque code vs = asBytes vs
+valuesIn o End code vs = pick (eqb (length vs) 0) (this []) cannot
+valuesIn o Container code vs = packed o (unrun o (front (fixedOf code)) vs 0)
+valuesIn o Fixed code vs = writeBody o (leafBody code) vs
+valuesIn o Attributes code vs = writeBody o (leafBody code) vs
 
 -- if the state is the class's
-abbrev pub bodyIn : Class → ℕ → ℕ → List ℕ → Possible (List ℕ)
-bodyIn class code s vs = pick (eqb s (stateOf class)) (valuesIn class code vs) cannot
+abbrev pub bodyIn : Order → Class → ℕ → ℕ → List ℕ → Possible (List ℕ)
+bodyIn o class code s vs = pick (eqb s (stateOf class)) (valuesIn o class code vs) cannot
 
 -- a tag without its header, and a container without its list too
-abbrev pub begun : Class → List ℕ → Possible Made
-begun class [] = cannot
-begun class (code ∷ []) = cannot
-begun class (code ∷ s ∷ []) = cannot
-begun class (code ∷ s ∷ n ∷ ns) = pick (leb n (length ns)) (bodyOf (code ∷ s ∷ n ∷ take n ns) (bodyIn class code s (take n ns)) (drop n ns)) cannot
+abbrev pub begun : Order → Class → List ℕ → Possible Made
+begun o class [] = cannot
+begun o class (code ∷ []) = cannot
+begun o class (code ∷ s ∷ []) = cannot
+begun o class (code ∷ s ∷ n ∷ ns) = pick (leb n (length ns)) (bodyOf (code ∷ s ∷ n ∷ take n ns) (bodyIn o class code s (take n ns)) (drop n ns)) cannot
 
 -- and with its header
 abbrev pub shut : ℕ → Possible Made → Possible Made

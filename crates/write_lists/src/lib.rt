@@ -3,14 +3,15 @@
 ghost use mathlib.Core.Path.{_≡_};
 ghost use Prim.Native.Nat.{_+_, _≤_, _<_};
 ghost use lib.ListN.{length, getD, drop};
-ghost use Rattle.format.specs.Bits.{high};
 ghost use Rattle.format.specs.FileAndTags.{classOf};
 ghost use Rattle.format.specs.WritingFiles.{allBytes, unwalkList};
+ghost use Rattle.bits.specs.Places.{orderOf};
 ghost use Rattle.classes.specs.Classes.{contains, ends};
 ghost use Rattle.sink.specs.Lain.{longest, lies, lainAs};
 ghost use Rattle.write_lists.specs.Stood.{over, stoodAs};
 ghost use Rattle.write_lists.specs.Tags.{asBytes, LaidAs, valuesIn, begun, shut as shutBy, shutAs, After};
 use bits::BytePlace;
+use bits::Order;
 use classes::Class;
 use sink::Body;
 
@@ -78,9 +79,16 @@ fn copy_bytes(values: &[u64], out: &mut [u8], at: BytePlace) -> Body
 }
 
 // The values of a tag, by its class.
-fn write_tag_values(class: Class, code: u32, values: &[u64], out: &mut [u8], at: BytePlace) -> Body
+fn write_tag_values(
+    order: Order,
+    class: Class,
+    code: u32,
+    values: &[u64],
+    out: &mut [u8],
+    at: BytePlace,
+) -> Body
     requires { ⌜ at .0 ≤ longest ⌝ }
-    ensures { λ r. ⌜ lainAs (now (out .exit)) r ≡ lies (now (out .entry)) (at .0) (valuesIn class code (now (values .entry))) ⌝ }
+    ensures { λ r. ⌜ lainAs (now (out .exit)) r ≡ lies (now (out .entry)) (at .0) (valuesIn (orderOf order) class code (now (values .entry))) ⌝ }
 {
     match class {
         Class::Opaque => copy_bytes(values, out, at),
@@ -89,14 +97,15 @@ fn write_tag_values(class: Class, code: u32, values: &[u64], out: &mut [u8], at:
         } else {
             Body::No
         },
-        Class::Container => write_bodies::write_front(code, values, out, at),
-        Class::Fixed => write_bodies::write_body(code, values, out, at),
-        Class::Attributes => write_bodies::write_body(code, values, out, at),
+        Class::Container => write_bodies::write_front(order, code, values, out, at),
+        Class::Fixed => write_bodies::write_body(order, code, values, out, at),
+        Class::Attributes => write_bodies::write_body(order, code, values, out, at),
     }
 }
 
 // The tag at index k without its header, two bytes after its place; and a container without its list too.
 fn begin_tag(
+    order: Order,
     class: Class,
     code: u32,
     out: &mut [u8],
@@ -105,7 +114,7 @@ fn begin_tag(
     index: usize,
 ) -> Wrote
     requires { ⌜ (place .0 ≤ longest) × (index < length (now table)) × (code ≡ getD (now table) index 0) ⌝ }
-    ensures { λ r. ⌜ stoodAs (now (out .exit)) r ≡ over (now (out .entry)) (place .0 + 2) index (begun class (drop index (now (table .entry)))) ⌝ }
+    ensures { λ r. ⌜ stoodAs (now (out .exit)) r ≡ over (now (out .entry)) (place .0 + 2) index (begun (orderOf order) class (drop index (now (table .entry)))) ⌝ }
 {
     let at = place.0 + 2;
     if 16777216 < at {
@@ -125,7 +134,14 @@ fn begin_tag(
     }
     let first = index + 3;
     let behind = first + count as usize;
-    let body = write_tag_values(class, code, &table[first..behind], out, BytePlace(at));
+    let body = write_tag_values(
+        order,
+        class,
+        code,
+        &table[first..behind],
+        out,
+        BytePlace(at),
+    );
     let Body::To(stop) = body else {
         return Wrote::Impossible;
     };
@@ -149,6 +165,7 @@ fn shut(out: &mut [u8], place: BytePlace, code: u32, wrote: Wrote) -> Wrote
 
 // A whole tag that is no container.
 fn write_leaf(
+    order: Order,
     class: Class,
     code: u32,
     out: &mut [u8],
@@ -157,9 +174,9 @@ fn write_leaf(
     index: usize,
 ) -> Wrote
     requires { ⌜ (place .0 ≤ longest) × (index < length (now table)) × (code ≡ getD (now table) index 0) × (code < 1024) ⌝ }
-    ensures { λ r. ⌜ stoodAs (now (out .exit)) r ≡ over (now (out .entry)) (place .0) index (shutBy code (begun class (drop index (now (table .entry))))) ⌝ }
+    ensures { λ r. ⌜ stoodAs (now (out .exit)) r ≡ over (now (out .entry)) (place .0) index (shutBy code (begun (orderOf order) class (drop index (now (table .entry))))) ⌝ }
 {
-    let wrote = begin_tag(class, code, out, place, table, index);
+    let wrote = begin_tag(order, class, code, out, place, table, index);
     shut(out, place, code, wrote)
 }
 
@@ -192,6 +209,7 @@ fn ends_list(class: Class) -> bool
 // The tag list whose numbers start at an index; so many `depths` may lie below it. It calls itself for the list in a container.
 pub fn write_list(
     level: u32,
+    order: Order,
     depths: u32,
     out: &mut [u8],
     at: BytePlace,
@@ -199,7 +217,7 @@ pub fn write_list(
     from: usize,
 ) -> Wrote
     requires { ⌜ (at .0 ≤ longest) × (from ≤ length (now table)) ⌝ }
-    ensures { λ r. ⌜ stoodAs (now (out .exit)) r ≡ over (now (out .entry)) (at .0) from (unwalkList high (classOf level) depths (drop from (now (table .entry)))) ⌝ }
+    ensures { λ r. ⌜ stoodAs (now (out .exit)) r ≡ over (now (out .entry)) (at .0) from (unwalkList (orderOf order) (classOf level) depths (drop from (now (table .entry)))) ⌝ }
 {
     let classes = classes::all();
     let mut place = at;
@@ -216,11 +234,11 @@ pub fn write_list(
             if depths == 0 {
                 return Wrote::Impossible;
             }
-            let begun = begin_tag(class, code, out, place, table, index);
+            let begun = begin_tag(order, class, code, out, place, table, index);
             let Wrote::Done(start, first) = begun else {
                 return begun;
             };
-            let list = write_list(level, depths - 1, out, start, table, first);
+            let list = write_list(level, order, depths - 1, out, start, table, first);
             let wrote = shut(out, place, code, list);
             let Wrote::Done(next, behind) = wrote else {
                 return wrote;
@@ -228,7 +246,7 @@ pub fn write_list(
             place = next;
             index = behind;
         } else {
-            let wrote = write_leaf(class, code, out, place, table, index);
+            let wrote = write_leaf(order, class, code, out, place, table, index);
             let Wrote::Done(next, behind) = wrote else {
                 return wrote;
             };

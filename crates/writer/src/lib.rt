@@ -4,15 +4,16 @@ ghost use mathlib.Core.List.{[]};
 ghost use Prim.Native.Nat.{_≤_, _<_};
 ghost use lib.ListN.{length, drop};
 ghost use lib.Seq.{sets};
-ghost use Rattle.format.specs.Bits.{high};
 ghost use Rattle.format.specs.FileAndTags.{classOf};
 ghost use Rattle.format.specs.WritingFiles.{unwalkList};
 ghost use Rattle.format.specs.Reasons.{Writes};
+ghost use Rattle.bits.specs.Places.{orderOf};
 ghost use Rattle.answers.specs.Answers.{leaves};
 ghost use Rattle.write_lists.specs.Stood.{over, stoodAs};
 ghost use Rattle.writer.specs.Files.{start};
 use answers::Answer;
 use bits::BytePlace;
+use bits::Order;
 use write_lists::Wrote;
 
 // The first nine bytes of a file: "PAG", version 1, the length n of the whole file, and the compression byte.
@@ -26,21 +27,25 @@ fn put_start(out: &mut [u8], length: u64, compression: u64)
 }
 
 // How the tags of a table end: where the file would, if it has one. Nothing lent is touched: the run is on an empty output of its own.
-fn measure(level: u32, table: &[u64]) -> Wrote
+fn measure(level: u32, order: Order, table: &[u64]) -> Wrote
     requires { ⌜ 1 ≤ length (now table) ⌝ }
-    ensures { λ r. ⌜ stoodAs [] r ≡ over [] 9 1 (unwalkList high (classOf level) 8 (drop 1 (now (table .entry)))) ⌝ }
+    ensures { λ r. ⌜ stoodAs [] r ≡ over [] 9 1 (unwalkList (orderOf order) (classOf level) 8 (drop 1 (now (table .entry)))) ⌝ }
 {
     let mut none = [0u8; 1];
-    write_lists::write_list(level, 8, &mut none[..0], BytePlace(9), table, 1)
+    write_lists::write_list(level, order, 8, &mut none[..0], BytePlace(9), table, 1)
 }
 
-// Writes the file that this level reads as the table: 1, 20 and 21 are tried in this order, and a refusal changes nothing lent.
-pub fn write(level: u32, table: &[u64], out: &mut [u8]) -> Answer
-    ensures { λ r. ⌜ Writes high level (now (table .entry)) (now (out .entry)) (leaves (now (out .exit)) r) ⌝ }
+// Writes the file that this level and order read as the table: 1, 24, 20 and 21 are tried in this order, and a refusal changes nothing lent.
+pub fn write(level: u32, order: u32, table: &[u64], out: &mut [u8]) -> Answer
+    ensures { λ r. ⌜ Writes order level (now (table .entry)) (now (out .entry)) (leaves (now (out .exit)) r) ⌝ }
 {
     if 1023 < level {
         return Answer::Refused(1, 0);
     }
+    if 1 < order {
+        return Answer::Refused(24, 0);
+    }
+    let named = bits::order_named(order);
     if table.len() == 0 {
         return Answer::Refused(20, 0);
     }
@@ -48,7 +53,7 @@ pub fn write(level: u32, table: &[u64], out: &mut [u8]) -> Answer
     if 255 < compression {
         return Answer::Refused(20, 0);
     }
-    let measured = measure(level, table);
+    let measured = measure(level, named, table);
     let Wrote::Done(stop, behind) = measured else {
         return Answer::Refused(20, 0);
     };
@@ -59,7 +64,7 @@ pub fn write(level: u32, table: &[u64], out: &mut [u8]) -> Answer
     if out.len() < length {
         return Answer::Refused(21, length as u64);
     }
-    write_lists::write_list(level, 8, out, BytePlace(9), table, 1);
+    write_lists::write_list(level, named, 8, out, BytePlace(9), table, 1);
     put_start(out, length as u64, compression);
     Answer::Accepted(length as u64)
 }

@@ -1,5 +1,6 @@
 -- `attributes::read_flag` meets its contract: the flag of the kind that the `match` tells.
 use denote.Ref.{now}
+use Rattle.bits.specs.Places.{orderOf}
 use Rattle.attributes.specs.declared.Kind.the-variants.{Value, Fixed, BitFlag, Simple, Discrete}
 use Rattle.attributes.proofs.FlagLaws.{flag-of, one-bit, fixed-is}
 use borrow.Author.Needs.{needs}
@@ -34,19 +35,19 @@ read-two-flags-requires-2 : tie.Need-read-two-flags-requires-2
 read-two-flags-requires-2 c κs = search needs
 
 returns : tie.Need-returns
-returns c = let a = c .before .before .before .before .args in flag-of (now (a .body)) (a .at .0) Value (c .before .enum-told .given .1) (one-bit (now (a .body)) (a .at .0) (c .read-ub .ensures))
+returns c = let a = c .before .before .before .before .args in flag-of (orderOf (a .order)) (now (a .body)) (a .at .0) Value (c .before .enum-told .given .1) (one-bit (orderOf (a .order)) (now (a .body)) (a .at .0) (c .read-ub .ensures))
 
 returns-2 : tie.Need-returns-2
-returns-2 c = let a = c .before .before .before .args in flag-of (now (a .body)) (a .at .0) Fixed (c .enum-told2 .given .1) (fixed-is (now (a .body)) (a .at .0))
+returns-2 c = let a = c .before .before .before .args in flag-of (orderOf (a .order)) (now (a .body)) (a .at .0) Fixed (c .enum-told2 .given .1) (fixed-is (orderOf (a .order)) (now (a .body)) (a .at .0))
 
 returns-3 : tie.Need-returns-3
-returns-3 c = let a = c .before .before .before .before .args in flag-of (now (a .body)) (a .at .0) BitFlag (c .before .enum-told3 .given .1) (one-bit (now (a .body)) (a .at .0) (c .read-ub2 .ensures))
+returns-3 c = let a = c .before .before .before .before .args in flag-of (orderOf (a .order)) (now (a .body)) (a .at .0) BitFlag (c .before .enum-told3 .given .1) (one-bit (orderOf (a .order)) (now (a .body)) (a .at .0) (c .read-ub2 .ensures))
 
 returns-4 : tie.Need-returns-4
-returns-4 c = let a = c .before .before .before .before .args in flag-of (now (a .body)) (a .at .0) Simple (c .before .enum-told4 .given .1) (c .read-two-flags .ensures)
+returns-4 c = let a = c .before .before .before .before .args in flag-of (orderOf (a .order)) (now (a .body)) (a .at .0) Simple (c .before .enum-told4 .given .1) (c .read-two-flags .ensures)
 
 returns-5 : tie.Need-returns-5
-returns-5 c = let a = c .before .before .before .before .args in flag-of (now (a .body)) (a .at .0) Discrete (c .before .enum-told5 .given .1) (c .read-two-flags2 .ensures)
+returns-5 c = let a = c .before .before .before .before .args in flag-of (orderOf (a .order)) (now (a .body)) (a .at .0) Discrete (c .before .enum-told5 .given .1) (c .read-two-flags2 .ensures)
 
 pub read-flag-spec : {M : Type 1} → statement M
 read-flag-spec =

@@ -2,7 +2,7 @@
 use denote.Ref.{now}
 use mathlib.Core.Path.{sym, ap, _∙_}
 use native.Mathlib.Omega.{arith}
-use Rattle.bits.specs.Places.{numOf}
+use Rattle.bits.specs.Places.{numOf, orderOf}
 use Rattle.bits.proofs.FieldLaws.{ub-got}
 use Rattle.attributes.proofs.FlagLaws.{two-past, two-none, two-cut, two-both}
 use borrow.Author.Needs.{needs}
@@ -19,14 +19,14 @@ enum-told : tie.Need-enum-told
 enum-told c = search needs
 
 returns : tie.Need-returns
-returns c = let a = c .before .before .before .before .args in two-past (now (a .body)) (a .at .0) (c .before .before .read-ub .result) (c .before .before .read-ub .ensures) (c .enum-told .given .1)
+returns c = let a = c .before .before .before .before .args in two-past (orderOf (a .order)) (now (a .body)) (a .at .0) (c .before .before .read-ub .result) (c .before .before .read-ub .ensures) (c .enum-told .given .1)
 
 returns-2 : tie.Need-returns-2
-returns-2 c = let a = c .before .before .before .before .before .before .args in two-none (now (a .body)) (a .at .0) (c .before .before .before .before .read-ub .result) (c .before .before .before .before .read-ub .ensures) (c .before .before .e .given .1) (c .if1 .taken)
+returns-2 c = let a = c .before .before .before .before .before .before .args in two-none (orderOf (a .order)) (now (a .body)) (a .at .0) (c .before .before .before .before .read-ub .result) (c .before .before .before .before .read-ub .ensures) (c .before .before .e .given .1) (c .if1 .taken)
 
 read-ub-requires-2 : tie.Need-read-ub-requires-2
 read-ub-requires-2 c κs = let a = c .before .before .before .before .before .before .args in
-    let g = ub-got (now (a .body)) (a .at .0) 1 (ap numOf (sym (c .before .before .e .given .1)) ∙ c .before .before .before .before .read-ub .ensures) in
+    let g = ub-got (orderOf (a .order)) (now (a .body)) (a .at .0) 1 (ap numOf (sym (c .before .before .e .given .1)) ∙ c .before .before .before .before .read-ub .ensures) in
     ((g .inside, c .before .before .before .before .before .before .pre .1), omega arith, omega arith)
 
 enum-known-a : tie.Need-enum-known-a
@@ -36,20 +36,20 @@ enum-told-2 : tie.Need-enum-told-2
 enum-told-2 c = search needs
 
 returns-3 : tie.Need-returns-3
-returns-3 c = let a = c .before .before .before .before .before .before .before .before .before .args in two-cut (now (a .body)) (a .at .0) (c .before .before .before .before .before .before .before .read-ub .result) (c .before .before .before .before .before .before .before .read-ub .ensures) (c .before .before .read-ub2 .result) (c .before .before .before .before .before .e .given .1) (c .before .before .before .if1 .left) (c .before .before .read-ub2 .ensures) (c .enum-told2 .given .1)
+returns-3 c = let a = c .before .before .before .before .before .before .before .before .before .args in two-cut (orderOf (a .order)) (now (a .body)) (a .at .0) (c .before .before .before .before .before .before .before .read-ub .result) (c .before .before .before .before .before .before .before .read-ub .ensures) (c .before .before .read-ub2 .result) (c .before .before .before .before .before .e .given .1) (c .before .before .before .if1 .left) (c .before .before .read-ub2 .ensures) (c .enum-told2 .given .1)
 
-mul-t10 : tie.Need-mul-t10
-mul-t10 c = let a = c .before .before .before .before .before .before .before .before .before .before .args in
-    let g = ub-got (now (a .body)) _ 1 (ap numOf (sym (c .before .a .given .1)) ∙ c .before .before .before .read-ub2 .ensures) in
+mul-t11 : tie.Need-mul-t11
+mul-t11 c = let a = c .before .before .before .before .before .before .before .before .before .before .args in
+    let g = ub-got (orderOf (a .order)) (now (a .body)) _ 1 (ap numOf (sym (c .before .a .given .1)) ∙ c .before .before .before .read-ub2 .ensures) in
     omega (arith, g .value, g .below)
 
-add-t11 : tie.Need-add-t11
-add-t11 c = let a = c .before .before .before .before .before .before .before .before .before .before .args in
-    let g = ub-got (now (a .body)) _ 1 (ap numOf (sym (c .before .a .given .1)) ∙ c .before .before .before .read-ub2 .ensures) in
+add-t12 : tie.Need-add-t12
+add-t12 c = let a = c .before .before .before .before .before .before .before .before .before .before .args in
+    let g = ub-got (orderOf (a .order)) (now (a .body)) _ 1 (ap numOf (sym (c .before .a .given .1)) ∙ c .before .before .before .read-ub2 .ensures) in
     omega (arith, g .value, g .below)
 
 returns-4 : tie.Need-returns-4
-returns-4 c = let a = c .before .before .before .before .before .before .before .before .before .before .args in two-both (now (a .body)) (a .at .0) (c .before .before .before .before .before .before .before .before .read-ub .result) (c .before .before .before .before .before .before .before .before .read-ub .ensures) (c .before .before .before .read-ub2 .result) (c .before .before .before .before .before .before .e .given .1) (c .before .before .before .before .if1 .left) (c .before .before .before .read-ub2 .ensures) (c .before .a .given .1)
+returns-4 c = let a = c .before .before .before .before .before .before .before .before .before .before .args in two-both (orderOf (a .order)) (now (a .body)) (a .at .0) (c .before .before .before .before .before .before .before .before .read-ub .result) (c .before .before .before .before .before .before .before .before .read-ub .ensures) (c .before .before .before .read-ub2 .result) (c .before .before .before .before .before .before .e .given .1) (c .before .before .before .before .if1 .left) (c .before .before .before .read-ub2 .ensures) (c .before .a .given .1)
 
 pub read-two-flags-spec : {M : Type 1} → statement M
 read-two-flags-spec =
@@ -64,6 +64,6 @@ read-two-flags-spec =
     enum-known-a
     enum-told-2
     returns-3
-    mul-t10
-    add-t11
+    mul-t11
+    add-t12
     returns-4)

@@ -1,7 +1,7 @@
 use denote.Ref.{now}
 use mathlib.Core.Path.{sym, ap, _∙_}
 use native.Mathlib.Omega.{arith}
-use Rattle.format.specs.Bits.{high}
+use Rattle.bits.specs.Places.{orderOf}
 use Rattle.format.specs.Bodies.{readPart}
 use Rattle.bits.proofs.FieldLaws.{align-clean, align-unclean}
 use Rattle.table.specs.Run.{runLeaves}
@@ -27,7 +27,7 @@ enum-known-r-2 c = search needs
 
 align-requires : tie.Need-align-requires
 align-requires c κs = let a = c .before .before .before .before .before .before .before .before .before .args in
-    (part-le (leafBody (a .code)) (now (a .body)) _ (ended-is (now (a .table)) (a .from) (readPart high (now (a .body)) (leafBody (a .code)) 0) (ap (runLeaves _) (sym (c .before .r2 .given .1)) ∙ c .before .before .before .before .before .read-part .ensures)), c .before .before .before .before .before .before .before .before .before .pre .0)
+    (part-le (orderOf (a .order)) (leafBody (a .code)) (now (a .body)) _ (ended-is (now (a .table)) (a .from) (readPart (orderOf (a .order)) (now (a .body)) (leafBody (a .code)) 0) (ap (runLeaves _) (sym (c .before .r2 .given .1)) ∙ c .before .before .before .before .before .read-part .ensures)), c .before .before .before .before .before .before .before .before .before .pre .0)
 
 enum-known-a : tie.Need-enum-known-a
 enum-known-a c = search needs
@@ -40,31 +40,31 @@ same-length c = search needs
 
 returns : tie.Need-returns
 returns c = let a = c .before .before .before .before .before .before .before .before .before .before .before .before .args in
-    body-unclean (now (a .body)) (now (a .table)) (a .from) (leafBody (a .code)) (ap (runLeaves _) (sym (c .before .before .before .before .r2 .given .1)) ∙ c .before .before .before .before .before .before .before .before .read-part .ensures)
-    (align-unclean (now (a .body)) _ (sym (c .before .before .align .ensures) ∙ c .enum-told .given .1))
+    body-unclean (orderOf (a .order)) (now (a .body)) (now (a .table)) (a .from) (leafBody (a .code)) (ap (runLeaves _) (sym (c .before .before .before .before .r2 .given .1)) ∙ c .before .before .before .before .before .before .before .before .read-part .ensures)
+    (align-unclean (orderOf (a .order)) (now (a .body)) _ (sym (c .before .before .align .ensures) ∙ c .enum-told .given .1))
 
 same-length-2 : tie.Need-same-length-2
 same-length-2 c = search needs
 
 returns-2 : tie.Need-returns-2
 returns-2 c = let a = c .before .before .before .before .before .before .before .before .before .args in
-    body-stop (now (a .body)) (now (a .table)) (a .from) (leafBody (a .code)) (ap (runLeaves _) (sym (c .before .r .given .1)) ∙ c .before .before .before .before .before .read-part .ensures)
+    body-stop (orderOf (a .order)) (now (a .body)) (now (a .table)) (a .from) (leafBody (a .code)) (ap (runLeaves _) (sym (c .before .r .given .1)) ∙ c .before .before .before .before .before .read-part .ensures)
 
 same-length-3 : tie.Need-same-length-3
 same-length-3 c = search needs
 
 returns-3 : tie.Need-returns-3
 returns-3 c = let a = c .before .before .before .before .before .before .before .before .before .before .before .before .before .before .before .args in
-    let f = align-clean (now (a .body)) (c .before .before .before .before .before .before .before .r2 .given .0 .0 .0) (sym (c .before .before .before .before .before .align .ensures) ∙ c .before .before .before .a .given .1) in
-    body-whole (now (a .body)) (now (a .table)) (a .from) (leafBody (a .code)) (ap (runLeaves _) (sym (c .before .before .before .before .before .before .before .r2 .given .1)) ∙ c .before .before .before .before .before .before .before .before .before .before .before .read-part .ensures) (f .0) (f .1) (omega (arith, c .if1 .taken))
+    let f = align-clean (orderOf (a .order)) (now (a .body)) (c .before .before .before .before .before .before .before .r2 .given .0 .0 .0) (sym (c .before .before .before .before .before .align .ensures) ∙ c .before .before .before .a .given .1) in
+    body-whole (orderOf (a .order)) (now (a .body)) (now (a .table)) (a .from) (leafBody (a .code)) (ap (runLeaves _) (sym (c .before .before .before .before .before .before .before .r2 .given .1)) ∙ c .before .before .before .before .before .before .before .before .before .before .before .read-part .ensures) (f .0) (f .1) (omega (arith, c .if1 .taken))
 
 same-length-4 : tie.Need-same-length-4
 same-length-4 c = search needs
 
 returns-4 : tie.Need-returns-4
 returns-4 c = let a = c .before .before .before .before .before .before .before .before .before .before .before .before .before .before .before .args in
-    let f = align-clean (now (a .body)) (c .before .before .before .before .before .before .before .r2 .given .0 .0 .0) (sym (c .before .before .before .before .before .align .ensures) ∙ c .before .before .before .a .given .1) in
-    body-left (now (a .body)) (now (a .table)) (a .from) (leafBody (a .code)) (ap (runLeaves _) (sym (c .before .before .before .before .before .before .before .r2 .given .1)) ∙ c .before .before .before .before .before .before .before .before .before .before .before .read-part .ensures) (f .0) (λ e. c .if1 .left (omega (arith, f .1)))
+    let f = align-clean (orderOf (a .order)) (now (a .body)) (c .before .before .before .before .before .before .before .r2 .given .0 .0 .0) (sym (c .before .before .before .before .before .align .ensures) ∙ c .before .before .before .a .given .1) in
+    body-left (orderOf (a .order)) (now (a .body)) (now (a .table)) (a .from) (leafBody (a .code)) (ap (runLeaves _) (sym (c .before .before .before .before .before .before .before .r2 .given .1)) ∙ c .before .before .before .before .before .before .before .before .before .before .before .read-part .ensures) (f .0) (λ e. c .if1 .left (omega (arith, f .1)))
 
 pub read-body-spec : {M : Type 1} → statement M
 read-body-spec =

@@ -1,6 +1,7 @@
 use denote.Ref.{now}
 use mathlib.Core.Path.{sym, _∙_}
 use native.Mathlib.Omega.{arith}
+use Rattle.bits.specs.Places.{orderOf}
 use Rattle.attributes.proofs.FlagLaws.{rows-are}
 use Rattle.bodies.proofs.BodyLaws.{part-block, part-fixed}
 use borrow.Author.Needs.{needs}
@@ -26,7 +27,7 @@ same-length : tie.Need-same-length
 same-length c = search needs
 
 returns : tie.Need-returns
-returns c = let a = c .before .before .before .before .before .before .before .before .before .args in part-block (now (a .body)) (now (a .table)) (a .from) (a .code) (sym (c .before .before .before .before .before .before .is-block .ensures) ∙ c .before .before .before .before .before .if1 .taken) (rows-are (a .code) (c .before .before .before .before .rows-of .result) (c .before .before .before .before .rows-of .ensures) .1) (c .before .before .read-block .ensures)
+returns c = let a = c .before .before .before .before .before .before .before .before .before .args in part-block (orderOf (a .order)) (now (a .body)) (now (a .table)) (a .from) (a .code) (sym (c .before .before .before .before .before .before .is-block .ensures) ∙ c .before .before .before .before .before .if1 .taken) (rows-are (a .code) (c .before .before .before .before .rows-of .result) (c .before .before .before .before .rows-of .ensures) .1) (c .before .before .read-block .ensures)
 
 read-fixed-requires : tie.Need-read-fixed-requires
 read-fixed-requires c κs = search needs
@@ -35,7 +36,7 @@ same-length-2 : tie.Need-same-length-2
 same-length-2 c = search needs
 
 returns-2 : tie.Need-returns-2
-returns-2 c = let a = c .before .before .before .before .before .before .before .before .args in part-fixed (now (a .body)) (now (a .table)) (a .from) (a .code) (sym (c .before .before .before .before .before .is-block .ensures) ∙ c .before .before .before .before .if1 .left) (c .before .before .read-fixed .ensures)
+returns-2 c = let a = c .before .before .before .before .before .before .before .before .args in part-fixed (orderOf (a .order)) (now (a .body)) (now (a .table)) (a .from) (a .code) (sym (c .before .before .before .before .before .is-block .ensures) ∙ c .before .before .before .before .if1 .left) (c .before .before .read-fixed .ensures)
 
 pub read-part-spec : {M : Type 1} → statement M
 read-part-spec =

@@ -3,6 +3,7 @@ use native.Mathlib.Omega.{arith}
 use borrow.Author.Needs.{needs}
 use Prim.Native.Nat.{_-_, _≤_}
 use lib.ListN.{getD}
+use Rattle.bits.specs.Places.{orderOf}
 use Rattle.items.specs.declared.Item.the-variants.{U32}
 use Rattle.fixed.specs.Fixed.{inOrder, allItems, itemsFrom}
 use Rattle.table.proofs.RunLaws.{fair-kind, Going, going-size, going-next, going-stop, going-done}
@@ -14,10 +15,10 @@ use Rattle.fixed.proofs.read_items.Lts as lts
 use Rattle.table.proofs.read_one.Reads as read-one-reads
 
 abbrev Inv-loop : tie.InvT-loop
-Inv-loop start end body table₀ from rows place₀ index₀ row₀ table place index row = (row ≤ end) × Going body table₀ from (inOrder (itemsFrom start end)) (place₀ .0) table (place .0) index (inOrder (itemsFrom row end))
+Inv-loop order start end body table₀ from rows place₀ index₀ row₀ table place index row = (row ≤ end) × Going (orderOf order) body table₀ from (inOrder (itemsFrom start end)) (place₀ .0) table (place .0) index (inOrder (itemsFrom row end))
 
 abbrev μ-loop : tie.MeasureT-loop
-μ-loop start end body table₀ from rows place₀ index₀ row₀ table place index row = end - row
+μ-loop order start end body table₀ from rows place₀ index₀ row₀ table place index row = end - row
 
 loop-holds : tie.Need-loop-holds Inv-loop μ-loop
 loop-holds c = (c .before .before .pre .0, record { size = refl; same = refl; fits = c .before .before .pre .2 })
@@ -38,10 +39,10 @@ enum-told : tie.Need-enum-told Inv-loop μ-loop
 enum-told c = search needs
 
 same-length : tie.Need-same-length Inv-loop μ-loop
-same-length c = going-size (c .before .before .before .before .before .before .before .before .loop .inv .1) (items-more (c .before .before .before .before .before .before .before .before .loop .row) (c .before .before .before .before .before .before .before .before .before .before .before .args .end) refl (c .before .before .before .before .before .before .before .loop-test .taken) (c .before .before .before .before .before .before .before .before .before .before .before .pre .1)) (c .before .before .before .before .read-one .ensures)
+same-length c = going-size (orderOf (c .before .before .before .before .before .before .before .before .before .before .before .args .order)) (c .before .before .before .before .before .before .before .before .loop .inv .1) (items-more (c .before .before .before .before .before .before .before .before .loop .row) (c .before .before .before .before .before .before .before .before .before .before .before .args .end) refl (c .before .before .before .before .before .before .before .loop-test .taken) (c .before .before .before .before .before .before .before .before .before .before .before .pre .1)) (c .before .before .before .before .read-one .ensures)
 
 returns : tie.Need-returns Inv-loop μ-loop
-returns c = going-stop (c .before .before .before .before .before .before .before .before .loop .inv .1) (items-more (c .before .before .before .before .before .before .before .before .loop .row) (c .before .before .before .before .before .before .before .before .before .before .before .args .end) refl (c .before .before .before .before .before .before .before .loop-test .taken) (c .before .before .before .before .before .before .before .before .before .before .before .pre .1)) (c .enum-told .given .1) (c .before .before .before .before .read-one .ensures)
+returns c = going-stop (orderOf (c .before .before .before .before .before .before .before .before .before .before .before .args .order)) (c .before .before .before .before .before .before .before .before .loop .inv .1) (items-more (c .before .before .before .before .before .before .before .before .loop .row) (c .before .before .before .before .before .before .before .before .before .before .before .args .end) refl (c .before .before .before .before .before .before .before .loop-test .taken) (c .before .before .before .before .before .before .before .before .before .before .before .pre .1)) (c .enum-told .given .1) (c .before .before .before .before .read-one .ensures)
 
 add-row : tie.Need-add-row Inv-loop μ-loop
 add-row c = omega (arith, c .before .before .before .before .before .before .before .before .before .before .before .before .pre .1)
@@ -50,13 +51,13 @@ loop-less : tie.Need-loop-less Inv-loop μ-loop
 loop-less c = omega arith
 
 loop-again : tie.Need-loop-again Inv-loop μ-loop
-loop-again c = (omega arith, going-next (c .before .before .before .before .before .before .before .before .before .loop .inv .1) (items-more (c .before .before .before .before .before .before .before .before .before .loop .row) (c .before .before .before .before .before .before .before .before .before .before .before .before .args .end) refl (c .before .before .before .before .before .before .before .before .loop-test .taken) (c .before .before .before .before .before .before .before .before .before .before .before .before .pre .1)) (fair-kind (getD allItems (c .before .before .before .before .before .before .before .before .before .loop .row) U32)) (c .before .r .given .1) (c .before .before .before .before .before .read-one .ensures))
+loop-again c = (omega arith, going-next (orderOf (c .before .before .before .before .before .before .before .before .before .before .before .before .args .order)) (c .before .before .before .before .before .before .before .before .before .loop .inv .1) (items-more (c .before .before .before .before .before .before .before .before .before .loop .row) (c .before .before .before .before .before .before .before .before .before .before .before .before .args .end) refl (c .before .before .before .before .before .before .before .before .loop-test .taken) (c .before .before .before .before .before .before .before .before .before .before .before .before .pre .1)) (fair-kind (orderOf (c .before .before .before .before .before .before .before .before .before .before .before .before .args .order)) (getD allItems (c .before .before .before .before .before .before .before .before .before .loop .row) U32)) (c .before .r .given .1) (c .before .before .before .before .before .read-one .ensures))
 
 same-length-2 : tie.Need-same-length-2 Inv-loop μ-loop
 same-length-2 c = c .before .loop .inv .1 .size
 
 returns-2 : tie.Need-returns-2 Inv-loop μ-loop
-returns-2 c = going-done (c .before .loop .inv .1) (items-none (c .before .loop .row) (c .before .before .before .before .args .end) (omega (arith, c .before .loop .inv .0)))
+returns-2 c = going-done (orderOf (c .before .before .before .before .args .order)) (c .before .loop .inv .1) (items-none (c .before .loop .row) (c .before .before .before .before .args .end) (omega (arith, c .before .loop .inv .0)))
 
 pub read-items-spec : {M : Type 1} → statement M
 read-items-spec =

@@ -1,6 +1,6 @@
 use mathlib.Core.Path.{refl}
 use native.Mathlib.Omega.{arith}
-use Rattle.format.specs.Bits.{high}
+use Rattle.bits.specs.Places.{orderOf}
 use Rattle.format.specs.Formats.{Item, times}
 use Rattle.format.proofs.SizeLaws.{fair-byte}
 use borrow.Author.Needs.{needs}
@@ -13,10 +13,10 @@ use Rattle.fixed.proofs.read_strings.Lts as lts
 use Rattle.table.proofs.text.read_string.Reads as read-string-reads
 
 abbrev Inv-loop : tie.InvT-loop
-Inv-loop count body table₀ from place₀ index₀ left₀ table place index left = Going body table₀ from (times count string) (place₀ .0) table (place .0) index (times left string)
+Inv-loop order count body table₀ from place₀ index₀ left₀ table place index left = Going (orderOf order) body table₀ from (times count string) (place₀ .0) table (place .0) index (times left string)
 
 abbrev μ-loop : tie.MeasureT-loop
-μ-loop count body table₀ from place₀ index₀ left₀ table place index left = left
+μ-loop order count body table₀ from place₀ index₀ left₀ table place index left = left
 
 loop-holds : tie.Need-loop-holds Inv-loop μ-loop
 loop-holds c = record { size = refl; same = refl; fits = c .before .before .pre }
@@ -31,10 +31,10 @@ enum-told : tie.Need-enum-told Inv-loop μ-loop
 enum-told c = search needs
 
 same-length : tie.Need-same-length Inv-loop μ-loop
-same-length c = going-size (c .before .before .before .before .before .before .before .loop .inv) (times-more (c .before .before .before .before .before .before .before .loop .left) string (c .before .before .before .before .before .before .loop-test .taken)) (c .before .before .before .before .read-string .ensures)
+same-length c = going-size (orderOf (c .before .before .before .before .before .before .before .before .before .before .args .order)) (c .before .before .before .before .before .before .before .loop .inv) (times-more (c .before .before .before .before .before .before .before .loop .left) string (c .before .before .before .before .before .before .loop-test .taken)) (c .before .before .before .before .read-string .ensures)
 
 returns : tie.Need-returns Inv-loop μ-loop
-returns c = going-stop (c .before .before .before .before .before .before .before .loop .inv) (times-more (c .before .before .before .before .before .before .before .loop .left) string (c .before .before .before .before .before .before .loop-test .taken)) (c .enum-told .given .1) (c .before .before .before .before .read-string .ensures)
+returns c = going-stop (orderOf (c .before .before .before .before .before .before .before .before .before .before .args .order)) (c .before .before .before .before .before .before .before .loop .inv) (times-more (c .before .before .before .before .before .before .before .loop .left) string (c .before .before .before .before .before .before .loop-test .taken)) (c .enum-told .given .1) (c .before .before .before .before .read-string .ensures)
 
 sub-left : tie.Need-sub-left Inv-loop μ-loop
 sub-left c = omega arith
@@ -43,13 +43,13 @@ loop-less : tie.Need-loop-less Inv-loop μ-loop
 loop-less c = omega arith
 
 loop-again : tie.Need-loop-again Inv-loop μ-loop
-loop-again c = going-next (c .before .before .before .before .before .before .before .before .loop .inv) (times-more (c .before .before .before .before .before .before .before .before .loop .left) string (c .before .before .before .before .before .before .before .loop-test .taken)) (fair-byte high Item.string tt) (c .before .r .given .1) (c .before .before .before .before .before .read-string .ensures)
+loop-again c = going-next (orderOf (c .before .before .before .before .before .before .before .before .before .before .before .args .order)) (c .before .before .before .before .before .before .before .before .loop .inv) (times-more (c .before .before .before .before .before .before .before .before .loop .left) string (c .before .before .before .before .before .before .before .loop-test .taken)) (fair-byte (orderOf (c .before .before .before .before .before .before .before .before .before .before .before .args .order)) Item.string tt) (c .before .r .given .1) (c .before .before .before .before .before .read-string .ensures)
 
 same-length-2 : tie.Need-same-length-2 Inv-loop μ-loop
 same-length-2 c = c .before .loop .inv .size
 
 returns-2 : tie.Need-returns-2 Inv-loop μ-loop
-returns-2 c = going-done (c .before .loop .inv) (times-zero (c .before .loop .left) string (omega arith))
+returns-2 c = going-done (orderOf (c .before .before .before .before .args .order)) (c .before .loop .inv) (times-zero (c .before .loop .left) string (omega arith))
 
 pub read-strings-spec : {M : Type 1} → statement M
 read-strings-spec =

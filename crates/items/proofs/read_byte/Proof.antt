@@ -8,7 +8,7 @@ use Rattle.items.proofs.read_byte.Statement.{statement}
 use Rattle.items.proofs.read_byte.Tie as tie
 
 returns : tie.Need-returns
-returns c = ub-past (now (c .before .before .args .body)) (c .before .before .args .bit .0) 8 (omega arith)
+returns c = λ o. ub-past o (now (c .before .before .args .body)) (c .before .before .args .bit .0) 8 (omega arith)
 
 byte-at-requires : tie.Need-byte-at-requires
 byte-at-requires c κs = search needs
@@ -17,7 +17,7 @@ add-t5 : tie.Need-add-t5
 add-t5 c = search needs
 
 returns-2 : tie.Need-returns-2
-returns-2 c = ub-in (now (c .before .before .before .before .args .body)) (c .before .before .before .before .args .bit .0) 8 (omega arith) (byte-is (now (c .before .before .before .before .args .body)) (c .before .before .before .before .args .byte .0) (c .before .before .before .before .args .bit .0) (c .before .before .before .before .pre .1) (c .before .byte-at .ensures))
+returns-2 c = λ o. ub-in o (now (c .before .before .before .before .args .body)) (c .before .before .before .before .args .bit .0) 8 (omega arith) (byte-is o (now (c .before .before .before .before .args .body)) (c .before .before .before .before .args .byte .0) (c .before .before .before .before .args .bit .0) (c .before .before .before .before .pre .1) (c .before .byte-at .ensures))
 
 pub read-byte-spec : {M : Type 1} → statement M
 read-byte-spec = tie.close (tie.spec returns byte-at-requires add-t5 returns-2)

@@ -11,7 +11,7 @@ sub-if1 : tie.Need-sub-if1
 sub-if1 c = search needs
 
 returns : tie.Need-returns
-returns c = sym (le-past (now (c .before .before .args .body)) (c .before .before .args .byte .0) (c .before .before .args .bit .0) 4 (c .before .before .pre .1) (omega arith) (omega arith))
+returns c = λ o. sym (le-past o (now (c .before .before .args .body)) (c .before .before .args .byte .0) (c .before .before .args .bit .0) 4 (c .before .before .pre .1) (omega arith) (omega arith))
 
 byte-at-requires : tie.Need-byte-at-requires
 byte-at-requires c κs = search needs
@@ -56,7 +56,7 @@ add-t10 : tie.Need-add-t10
 add-t10 c = search needs
 
 returns-2 : tie.Need-returns-2
-returns-2 c = float-is (now (c .before .before .before .before .before .before .before .args .body)) (c .before .before .before .before .before .before .before .args .byte .0) (c .before .before .before .before .before .before .before .args .bit .0) (c .before .before .before .before .before .before .before .pre .1) (omega arith) (c .before .before .before .before .byte-at .ensures) (c .before .before .before .byte-at2 .ensures) (c .before .before .byte-at3 .ensures) (c .before .byte-at4 .ensures) refl
+returns-2 c = λ o. float-is o (now (c .before .before .before .before .before .before .before .args .body)) (c .before .before .before .before .before .before .before .args .byte .0) (c .before .before .before .before .before .before .before .args .bit .0) (c .before .before .before .before .before .before .before .pre .1) (omega arith) (c .before .before .before .before .byte-at .ensures) (c .before .before .before .byte-at2 .ensures) (c .before .before .byte-at3 .ensures) (c .before .byte-at4 .ensures) refl
 
 pub read-float-spec : {M : Type 1} → statement M
 read-float-spec =

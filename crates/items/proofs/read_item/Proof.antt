@@ -3,6 +3,7 @@ use denote.Ref.{now}
 use mathlib.Core.Path.{sym, _∙_}
 use native.Mathlib.Omega.{arith}
 use borrow.Author.Needs.{needs}
+use Rattle.bits.specs.Places.{orderOf}
 use Rattle.bits.proofs.FieldLaws.{align-clean, align-unclean}
 use Rattle.items.proofs.ItemLaws.{item-unclean, item-bad, item-in, item-out}
 use Rattle.items.proofs.read_item.Statement.{statement}
@@ -19,11 +20,11 @@ enum-told c = search needs
 
 returns : tie.Need-returns
 returns c = let a = c .before .before .before .before .args in
-    sym (item-unclean (now (a .body)) (a .at .0) (a .kind) (align-unclean (now (a .body)) (a .at .0) (sym (c .before .before .align .ensures) ∙ c .enum-told .given .1)))
+    sym (item-unclean (orderOf (a .order)) (now (a .body)) (a .at .0) (a .kind) (align-unclean (orderOf (a .order)) (now (a .body)) (a .at .0) (sym (c .before .before .align .ensures) ∙ c .enum-told .given .1)))
 
 read-spelling-requires : tie.Need-read-spelling-requires
 read-spelling-requires c κs = let a = c .before .before .before .before .before .args in
-    let h = align-clean (now (a .body)) (a .at .0) (sym (c .before .before .before .align .ensures) ∙ c .before .aligned .given .1) in
+    let h = align-clean (orderOf (a .order)) (now (a .body)) (a .at .0) (sym (c .before .before .before .align .ensures) ∙ c .before .aligned .given .1) in
     ((omega arith, c .before .before .before .before .before .pre .1), h .1)
 
 enum-known-r : tie.Need-enum-known-r
@@ -34,21 +35,21 @@ enum-told-2 c = search needs
 
 returns-2 : tie.Need-returns-2
 returns-2 c = let a = c .before .before .before .before .before .before .before .before .args in
-    let h = align-clean (now (a .body)) (a .at .0) (sym (c .before .before .before .before .before .before .align .ensures) ∙ c .before .before .before .before .aligned .given .1) in
-    item-bad (now (a .body)) (a .at .0) (a .kind) (h .0) (c .before .before .read-spelling .ensures) (c .enum-told2 .given .1)
+    let h = align-clean (orderOf (a .order)) (now (a .body)) (a .at .0) (sym (c .before .before .before .before .before .before .align .ensures) ∙ c .before .before .before .before .aligned .given .1) in
+    item-bad (orderOf (a .order)) (now (a .body)) (a .at .0) (a .kind) (h .0) (c .before .before .read-spelling .ensures (orderOf (a .order))) (c .enum-told2 .given .1)
 
 out-of-range-requires : tie.Need-out-of-range-requires
 out-of-range-requires c κs = search needs
 
 returns-3 : tie.Need-returns-3
 returns-3 c = let a = c .before .before .before .before .before .before .before .before .before .before .before .args in
-    let h = align-clean (now (a .body)) (a .at .0) (sym (c .before .before .before .before .before .before .before .before .before .align .ensures) ∙ c .before .before .before .before .before .before .before .aligned .given .1) in
-    item-in (now (a .body)) (a .at .0) (a .kind) (h .0) (c .before .before .before .before .before .read-spelling .ensures) (c .before .before .before .r .given .1) (sym (c .before .out-of-range .ensures) ∙ c .if1 .taken)
+    let h = align-clean (orderOf (a .order)) (now (a .body)) (a .at .0) (sym (c .before .before .before .before .before .before .before .before .before .align .ensures) ∙ c .before .before .before .before .before .before .before .aligned .given .1) in
+    item-in (orderOf (a .order)) (now (a .body)) (a .at .0) (a .kind) (h .0) (c .before .before .before .before .before .read-spelling .ensures (orderOf (a .order))) (c .before .before .before .r .given .1) (sym (c .before .out-of-range .ensures) ∙ c .if1 .taken)
 
 returns-4 : tie.Need-returns-4
 returns-4 c = let a = c .before .before .before .before .before .before .before .before .before .before .before .args in
-    let h = align-clean (now (a .body)) (a .at .0) (sym (c .before .before .before .before .before .before .before .before .before .align .ensures) ∙ c .before .before .before .before .before .before .before .aligned .given .1) in
-    item-out (now (a .body)) (a .at .0) (a .kind) (h .0) (c .before .before .before .before .before .read-spelling .ensures) (c .before .before .before .r .given .1) (c .before .out-of-range .ensures) (c .if1 .left)
+    let h = align-clean (orderOf (a .order)) (now (a .body)) (a .at .0) (sym (c .before .before .before .before .before .before .before .before .before .align .ensures) ∙ c .before .before .before .before .before .before .before .aligned .given .1) in
+    item-out (orderOf (a .order)) (now (a .body)) (a .at .0) (a .kind) (h .0) (c .before .before .before .before .before .read-spelling .ensures (orderOf (a .order))) (c .before .before .before .r .given .1) (c .before .out-of-range .ensures) (c .if1 .left)
 
 pub read-item-spec : {M : Type 1} → statement M
 read-item-spec =

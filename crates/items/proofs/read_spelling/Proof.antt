@@ -52,28 +52,28 @@ read-byte-requires-3 : tie.Need-read-byte-requires-3
 read-byte-requires-3 c κs = search needs
 
 returns : tie.Need-returns
-returns c = rw (c .before .enum-told .given .1) (c .read-u32 .ensures)
+returns c = λ o. rw (c .before .enum-told .given .1) (c .read-u32 .ensures o)
 
 returns-2 : tie.Need-returns-2
-returns-2 c = rw (c .before .enum-told2 .given .1) (c .read-u322 .ensures)
+returns-2 c = λ o. rw (c .before .enum-told2 .given .1) (c .read-u322 .ensures o)
 
 returns-3 : tie.Need-returns-3
-returns-3 c = rw (c .before .enum-told3 .given .1) (c .read-i32 .ensures)
+returns-3 c = λ o. rw (c .before .enum-told3 .given .1) (c .read-i32 .ensures o)
 
 returns-4 : tie.Need-returns-4
-returns-4 c = rw (c .before .enum-told4 .given .1) (c .read-u64 .ensures)
+returns-4 c = λ o. rw (c .before .enum-told4 .given .1) (c .read-u64 .ensures o)
 
 returns-5 : tie.Need-returns-5
-returns-5 c = rw (c .before .enum-told5 .given .1) (c .read-float .ensures)
+returns-5 c = λ o. rw (c .before .enum-told5 .given .1) (c .read-float .ensures o)
 
 returns-6 : tie.Need-returns-6
-returns-6 c = rw (c .before .enum-told6 .given .1) (c .read-byte .ensures)
+returns-6 c = λ o. rw (c .before .enum-told6 .given .1) (c .read-byte .ensures o)
 
 returns-7 : tie.Need-returns-7
-returns-7 c = rw (c .before .enum-told7 .given .1) (c .read-byte2 .ensures)
+returns-7 c = λ o. rw (c .before .enum-told7 .given .1) (c .read-byte2 .ensures o)
 
 returns-8 : tie.Need-returns-8
-returns-8 c = rw (c .before .enum-told8 .given .1) (c .read-byte3 .ensures)
+returns-8 c = λ o. rw (c .before .enum-told8 .given .1) (c .read-byte3 .ensures o)
 
 pub read-spelling-spec : {M : Type 1} → statement M
 read-spelling-spec =

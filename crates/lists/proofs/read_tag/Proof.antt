@@ -2,6 +2,7 @@ use denote.Ref.{now}
 use mathlib.Core.Path.{refl}
 use native.Mathlib.Omega.{arith}
 use lib.ListN.{drop}
+use Rattle.bits.specs.Places.{orderOf}
 use Rattle.headers.specs.Heads.{headBy}
 use Rattle.lists.proofs.StepLaws.{tag-none, tag-stands, tag-stop, tag-shown, list-fits}
 use borrow.Author.Needs.{needs}
@@ -51,7 +52,7 @@ part-show-tag-start : tie.Need-part-show-tag-start
 part-show-tag-start c = search needs
 
 part-show-tag-end : tie.Need-part-show-tag-end
-part-show-tag-end c = let a = c .before .before .before .before .before .before .before .before .before .before .before .before .before .before .args in tag-stands (a .class) (a .depths) (a .at .0) (now (a .room)) (a .place .0) (now (a .table)) (a .from) (now (a .rows)) (a .row) (headBy (a .class) (a .depths) (drop (a .place .0) (now (a .room)))) (c .before .before .before .before .before .before .before .before .before .before .read-head .ensures) refl (c .before .before .before .before .before .before .before .before .header .given .1) (c .before .before .before .before .before .before .before .before .before .before .before .before .before .before .pre .1)
+part-show-tag-end c = let a = c .before .before .before .before .before .before .before .before .before .before .before .before .before .before .args in tag-stands (orderOf (a .order)) (a .class) (a .depths) (a .at .0) (now (a .room)) (a .place .0) (now (a .table)) (a .from) (now (a .rows)) (a .row) (headBy (a .class) (a .depths) (drop (a .place .0) (now (a .room)))) (c .before .before .before .before .before .before .before .before .before .before .read-head .ensures) refl (c .before .before .before .before .before .before .before .before .header .given .1) (c .before .before .before .before .before .before .before .before .before .before .before .before .before .before .pre .1)
 
 show-tag-requires : tie.Need-show-tag-requires
 show-tag-requires c κs = search needs
@@ -65,13 +66,13 @@ enum-known-next c = search needs
 add-list : tie.Need-add-list
 add-list c =
     let a = c .before .before .before .before .before .before .before .before .before .before .before .before .before .before .before .before .before .before .before .before .before .before .before .args in
-    omega (arith, list-fits (a .class) (a .depths) (a .at .0) (now (a .room)) (a .place .0) (now (a .table)) (a .from) (now (a .rows)) (a .row) (headBy (a .class) (a .depths) (drop (a .place .0) (now (a .room)))) (c .before .before .before .before .before .before .before .before .before .before .before .before .before .before .before .before .before .before .before .read-head .ensures) (c .before .before .before .before .before .before .show-tag .result) (c .before .before .before .before .before .before .before .before .before .before .before .before .before .before .before .before .before .header .given .1) refl refl refl (c .before .before .before .before .before .before .before .before .before .before .before .show-row .ensures) (c .before .before .before .before .before .before .show-tag .ensures) refl (c .before .before .before .before .before .before .before .before .before .before .before .before .before .before .before .before .before .before .before .before .before .before .before .pre .1) (c .before .before .next .given .1), c .before .before .before .before .before .before .before .before .before .before .before .before .before .before .before .before .before .before .before .before .before .before .before .pre .2)
+    omega (arith, list-fits (orderOf (a .order)) (a .class) (a .depths) (a .at .0) (now (a .room)) (a .place .0) (now (a .table)) (a .from) (now (a .rows)) (a .row) (headBy (a .class) (a .depths) (drop (a .place .0) (now (a .room)))) (c .before .before .before .before .before .before .before .before .before .before .before .before .before .before .before .before .before .before .before .read-head .ensures) (c .before .before .before .before .before .before .show-tag .result) (c .before .before .before .before .before .before .before .before .before .before .before .before .before .before .before .before .before .header .given .1) refl refl refl (c .before .before .before .before .before .before .before .before .before .before .before .show-row .ensures) (c .before .before .before .before .before .before .show-tag .ensures) refl (c .before .before .before .before .before .before .before .before .before .before .before .before .before .before .before .before .before .before .before .before .before .before .before .pre .1) (c .before .before .next .given .1), c .before .before .before .before .before .before .before .before .before .before .before .before .before .before .before .before .before .before .before .before .before .before .before .pre .2)
 
 next-step-requires : tie.Need-next-step-requires
 next-step-requires c κs = search needs
 
 returns : tie.Need-returns
-returns c = let a = c .before .before .before .before .before .before .before .args in tag-none (a .class) (a .depths) (a .at .0) (now (a .room)) (a .place .0) (now (a .table)) (a .from) (now (a .rows)) (a .row) (headBy (a .class) (a .depths) (drop (a .place .0) (now (a .room)))) (c .before .before .before .read-head .ensures) (c .before .why .given .1)
+returns c = let a = c .before .before .before .before .before .before .before .args in tag-none (orderOf (a .order)) (a .class) (a .depths) (a .at .0) (now (a .room)) (a .place .0) (now (a .table)) (a .from) (now (a .rows)) (a .row) (headBy (a .class) (a .depths) (drop (a .place .0) (now (a .room)))) (c .before .before .before .read-head .ensures) (c .before .why .given .1)
 
 same-length : tie.Need-same-length
 same-length c = search needs
@@ -80,7 +81,7 @@ same-length-2 : tie.Need-same-length-2
 same-length-2 c = search needs
 
 returns-2 : tie.Need-returns-2
-returns-2 c = let a = c .before .before .before .before .before .before .before .before .before .before .before .before .before .before .before .before .before .before .before .before .before .before .args in tag-stop (a .class) (a .depths) (a .at .0) (now (a .room)) (a .place .0) (now (a .table)) (a .from) (now (a .rows)) (a .row) (headBy (a .class) (a .depths) (drop (a .place .0) (now (a .room)))) (c .before .before .before .before .before .before .before .before .before .before .before .before .before .before .before .before .before .before .read-head .ensures) (c .before .before .before .before .before .show-tag .result) (c .before .before .before .before .before .before .before .before .before .before .before .before .before .before .before .before .header .given .1) refl refl refl (c .before .before .before .before .before .before .before .before .before .before .show-row .ensures) (c .before .before .before .before .before .show-tag .ensures) (c .before .why2 .given .1)
+returns-2 c = let a = c .before .before .before .before .before .before .before .before .before .before .before .before .before .before .before .before .before .before .before .before .before .before .args in tag-stop (orderOf (a .order)) (a .class) (a .depths) (a .at .0) (now (a .room)) (a .place .0) (now (a .table)) (a .from) (now (a .rows)) (a .row) (headBy (a .class) (a .depths) (drop (a .place .0) (now (a .room)))) (c .before .before .before .before .before .before .before .before .before .before .before .before .before .before .before .before .before .before .read-head .ensures) (c .before .before .before .before .before .show-tag .result) (c .before .before .before .before .before .before .before .before .before .before .before .before .before .before .before .before .header .given .1) refl refl refl (c .before .before .before .before .before .before .before .before .before .before .show-row .ensures) (c .before .before .before .before .before .show-tag .ensures) (c .before .why2 .given .1)
 
 same-length-3 : tie.Need-same-length-3
 same-length-3 c = search needs
@@ -89,7 +90,7 @@ same-length-4 : tie.Need-same-length-4
 same-length-4 c = search needs
 
 returns-3 : tie.Need-returns-3
-returns-3 c = let a = c .before .before .before .before .before .before .before .before .before .before .before .before .before .before .before .before .before .before .before .before .before .before .before .before .args in tag-shown (a .class) (a .depths) (a .at .0) (now (a .room)) (a .place .0) (now (a .table)) (a .from) (now (a .rows)) (a .row) (headBy (a .class) (a .depths) (drop (a .place .0) (now (a .room)))) (c .before .before .before .before .before .before .before .before .before .before .before .before .before .before .before .before .before .before .before .before .read-head .ensures) (c .before .before .before .before .before .before .before .show-tag .result) (c .before .before .before .before .before .before .before .before .before .before .before .before .before .before .before .before .before .before .header .given .1) refl refl refl (c .before .before .before .before .before .before .before .before .before .before .before .before .show-row .ensures) (c .before .before .before .before .before .before .before .show-tag .ensures) (c .before .before .before .next .given .1) (c .next-step .ensures)
+returns-3 c = let a = c .before .before .before .before .before .before .before .before .before .before .before .before .before .before .before .before .before .before .before .before .before .before .before .before .args in tag-shown (orderOf (a .order)) (a .class) (a .depths) (a .at .0) (now (a .room)) (a .place .0) (now (a .table)) (a .from) (now (a .rows)) (a .row) (headBy (a .class) (a .depths) (drop (a .place .0) (now (a .room)))) (c .before .before .before .before .before .before .before .before .before .before .before .before .before .before .before .before .before .before .before .before .read-head .ensures) (c .before .before .before .before .before .before .before .show-tag .result) (c .before .before .before .before .before .before .before .before .before .before .before .before .before .before .before .before .before .before .header .given .1) refl refl refl (c .before .before .before .before .before .before .before .before .before .before .before .before .show-row .ensures) (c .before .before .before .before .before .before .before .show-tag .ensures) (c .before .before .before .next .given .1) (c .next-step .ensures)
 
 pub read-tag-spec : {M : Type 1} → statement M
 read-tag-spec =

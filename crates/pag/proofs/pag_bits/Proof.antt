@@ -13,7 +13,7 @@ plain-step-requires : tie.Need-plain-step-requires
 plain-step-requires c κs = search needs
 
 returns : tie.Need-returns
-returns c = let a = c .before .before .before .args in plainly (now (a .file)) (record { 0 = a .place }) (a .width) (isSigned (a .signed)) (c .before .field-at .result) (c .before .field-at .ensures) (c .plain-step .ensures)
+returns c = let a = c .before .before .before .args in plainly (a .order) (now (a .file)) (record { 0 = a .place }) (a .width) (isSigned (a .signed)) (c .before .field-at .result) (c .before .field-at .ensures) (c .plain-step .ensures)
 
 pub pag-bits-spec : {M : Type 1} → statement M
 pag-bits-spec = tie.close (tie.spec field-at-requires plain-step-requires returns)

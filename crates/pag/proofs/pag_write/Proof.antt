@@ -18,7 +18,7 @@ same-length : tie.Need-same-length
 same-length c = search needs
 
 returns : tie.Need-returns
-returns c = let a = c .before .before .before .before .before .before .before .args in writes-plainly (a .level) (now (a .table)) (now (a .out)) (c .before .before .before .write .result) (c .before .before .before .write .ensures) (c .plain .ensures)
+returns c = let a = c .before .before .before .before .before .before .before .args in writes-plainly (a .order) (a .level) (now (a .table)) (now (a .out)) (c .before .before .before .write .result) (c .before .before .before .write .ensures) (c .plain .ensures)
 
 pub pag-write-spec : {M : Type 1} → statement M
 pag-write-spec = tie.close (tie.spec write-requires plain-requires same-length returns)

@@ -1,7 +1,6 @@
 use mathlib.Core.Path.{ap}
 use native.Mathlib.Omega.{arith}
 use denote.Ref.{now}
-use Rattle.format.specs.Bits.{high}
 use Rattle.format.specs.Reasons.{Left, readFile, readTags}
 use Rattle.printing.proofs.Counts.{count-fits}
 use borrow.Author.Needs.{needs}
@@ -45,7 +44,7 @@ part-print-listing-start : tie.Need-part-print-listing-start
 part-print-listing-start c = search needs
 
 part-print-listing-end : tie.Need-part-print-listing-end
-part-print-listing-end c = omega (arith, count-fits (now (c .before .before .before .before .before .before .before .before .before .before .before .before .before .before .before .before .before .before .args .table)) (readFile high (c .before .before .before .before .before .before .before .before .before .before .before .before .before .before .before .before .before .before .args .level) (now (c .before .before .before .before .before .before .before .before .before .before .before .before .before .before .before .before .before .before .args .file))) (c .before .before .before .before .before .before .before .before .before .read .ensures) (c .before .before .before .before .before .count .given .1), c .before .before .before .before .before .before .before .before .before .read .kept .1 .1 .0)
+part-print-listing-end c = omega (arith, count-fits (now (c .before .before .before .before .before .before .before .before .before .before .before .before .before .before .before .before .before .before .args .table)) (readFile 0 (c .before .before .before .before .before .before .before .before .before .before .before .before .before .before .before .before .before .before .args .level) (now (c .before .before .before .before .before .before .before .before .before .before .before .before .before .before .before .before .before .before .args .file))) (c .before .before .before .before .before .before .before .before .before .read .ensures) (c .before .before .before .before .before .count .given .1), c .before .before .before .before .before .before .before .before .before .read .kept .1 .1 .1 .0)
 
 sub-print-listing-2 : tie.Need-sub-print-listing-2
 sub-print-listing-2 c = search needs
@@ -54,7 +53,7 @@ part-print-listing-start-2 : tie.Need-part-print-listing-start-2
 part-print-listing-start-2 c = search needs
 
 part-print-listing-end-2 : tie.Need-part-print-listing-end-2
-part-print-listing-end-2 c = omega (arith, count-fits (now (c .before .before .before .before .before .before .before .before .before .before .before .before .before .before .before .before .before .before .before .before .args .rows)) (readTags high (c .before .before .before .before .before .before .before .before .before .before .before .before .before .before .before .before .before .before .before .before .args .level) (now (c .before .before .before .before .before .before .before .before .before .before .before .before .before .before .before .before .before .before .before .before .args .file))) (c .before .before .before .before .before .before .before .before .before .before .before .before .before .before .before .tags .ensures) (c .before .before .before .before .tagged2 .given .1), c .before .before .before .before .before .before .before .before .before .before .before .before .before .before .before .tags .kept .1 .1 .0)
+part-print-listing-end-2 c = omega (arith, count-fits (now (c .before .before .before .before .before .before .before .before .before .before .before .before .before .before .before .before .before .before .before .before .args .rows)) (readTags 0 (c .before .before .before .before .before .before .before .before .before .before .before .before .before .before .before .before .before .before .before .before .args .level) (now (c .before .before .before .before .before .before .before .before .before .before .before .before .before .before .before .before .before .before .before .before .args .file))) (c .before .before .before .before .before .before .before .before .before .before .before .before .before .before .before .tags .ensures) (c .before .before .before .before .tagged2 .given .1), c .before .before .before .before .before .before .before .before .before .before .before .before .before .before .before .tags .kept .1 .1 .1 .0)
 
 print-listing-requires : tie.Need-print-listing-requires
 print-listing-requires c κs = search needs

@@ -10,10 +10,10 @@ use Rattle.round_trips.proofs.least.Reads as least-reads
 use Rattle.round_trips.proofs.number_at.Reads as number-at-reads
 
 abbrev Inv-loop : tie.InvT-loop
-Inv-loop body table₀ n i₀ table i = (length table ≡ length table₀) × (i ≤ n)
+Inv-loop body table₀ count i₀ table i = (length table ≡ length table₀) × (i ≤ count)
 
 abbrev μ-loop : tie.MeasureT-loop
-μ-loop body table₀ n i₀ table i = n - i
+μ-loop body table₀ count i₀ table i = count - i
 
 least-requires : tie.Need-least-requires Inv-loop μ-loop
 least-requires c κs = search needs

@@ -18,8 +18,8 @@ enum-known-r c = search needs
 put-requires : tie.Need-put-requires
 put-requires c κs = search needs
 
-add-t14 : tie.Need-add-t14
-add-t14 c = search needs
+add-t15 : tie.Need-add-t15
+add-t15 c = search needs
 
 enum-known-r-2 : tie.Need-enum-known-r-2
 enum-known-r-2 c = search needs
@@ -40,7 +40,7 @@ read-one-spec =
     read-item-requires
     enum-known-r
     put-requires
-    add-t14
+    add-t15
     enum-known-r-2
     same-length
     returns

@@ -1,6 +1,7 @@
 use denote.Ref.{now}
 use mathlib.Core.Path.{ap, sym, _∙_}
 use native.Mathlib.Omega.{arith}
+use Rattle.bits.specs.Places.{orderOf}
 use Rattle.format.specs.Bodies.{aligned}
 use Rattle.table.specs.Run.{runLeaves}
 use Rattle.table.proofs.EngineLaws.{one-stopped}
@@ -28,7 +29,7 @@ enum-known-next c = search needs
 align-requires : tie.Need-align-requires
 align-requires c κs =
     let a = c .before .before .before .before .before .before .before .before .before .args in
-    run-fits (now (a .body)) (now (a .table)) (a .from) (fixedOf (a .code)) 0 (c .before .before .before .before .before .read-fixed .ensures) (c .before .next .given .1) (fair-fixed (a .code)) ((omega arith, c .before .before .before .before .before .before .before .before .before .pre .0), omega (arith, c .before .before .before .before .before .before .before .before .before .pre .1)) .0
+    run-fits (orderOf (a .order)) (now (a .body)) (now (a .table)) (a .from) (fixedOf (a .code)) 0 (c .before .before .before .before .before .read-fixed .ensures) (c .before .next .given .1) (fair-fixed (orderOf (a .order)) (a .code)) ((omega arith, c .before .before .before .before .before .before .before .before .before .pre .0), omega (arith, c .before .before .before .before .before .before .before .before .before .pre .1)) .0
 
 enum-told : tie.Need-enum-told
 enum-told c = search needs
@@ -42,7 +43,7 @@ same-length c = search needs
 returns : tie.Need-returns
 returns c =
     let a = c .before .before .before .before .before .before .before .before .before .args in
-    ap (runLeaves _) (sym (c .before .why .given .1)) ∙ run-stop (now (a .body)) (now (a .table)) (a .from) (fixedOf (a .code)) 0 (c .before .before .before .before .before .read-fixed .ensures) (λ xs. aligned) (c .before .why .given .1)
+    ap (runLeaves _) (sym (c .before .why .given .1)) ∙ run-stop (orderOf (a .order)) (now (a .body)) (now (a .table)) (a .from) (fixedOf (a .code)) 0 (c .before .before .before .before .before .read-fixed .ensures) (λ xs. aligned) (c .before .why .given .1)
 
 same-length-2 : tie.Need-same-length-2
 same-length-2 c = search needs
@@ -50,8 +51,8 @@ same-length-2 c = search needs
 returns-2 : tie.Need-returns-2
 returns-2 c =
     let a = c .before .before .before .before .before .before .before .before .before .before .before .before .args in
-    run-done (now (a .body)) (now (a .table)) (a .from) (fixedOf (a .code)) 0 (c .before .before .before .before .before .before .before .before .read-fixed .ensures) (λ xs. aligned) (c .before .before .before .before .next .given .1)
-    (one-stopped _ _ (align-never (now (a .body)) _ (sym (c .before .before .align .ensures) ∙ c .enum-told .given .1)))
+    run-done (orderOf (a .order)) (now (a .body)) (now (a .table)) (a .from) (fixedOf (a .code)) 0 (c .before .before .before .before .before .before .before .before .read-fixed .ensures) (λ xs. aligned) (c .before .before .before .before .next .given .1)
+    (one-stopped _ _ (align-never (orderOf (a .order)) (now (a .body)) _ (sym (c .before .before .align .ensures) ∙ c .enum-told .given .1)))
 
 same-length-3 : tie.Need-same-length-3
 same-length-3 c = search needs
@@ -59,8 +60,8 @@ same-length-3 c = search needs
 returns-3 : tie.Need-returns-3
 returns-3 c =
     let a = c .before .before .before .before .before .before .before .before .before .before .before .before .before .args in
-    run-done (now (a .body)) (now (a .table)) (a .from) (fixedOf (a .code)) 0 (c .before .before .before .before .before .before .before .before .before .read-fixed .ensures) (λ xs. aligned) (c .before .before .before .before .before .next .given .1)
-    (list-starts (now (a .body)) _ _ _ (sym (c .before .before .before .align .ensures) ∙ c .before .list .given .1))
+    run-done (orderOf (a .order)) (now (a .body)) (now (a .table)) (a .from) (fixedOf (a .code)) 0 (c .before .before .before .before .before .before .before .before .before .read-fixed .ensures) (λ xs. aligned) (c .before .before .before .before .before .next .given .1)
+    (list-starts (orderOf (a .order)) (now (a .body)) _ _ _ (sym (c .before .before .before .align .ensures) ∙ c .before .list .given .1))
 
 pub read-front-spec : {M : Type 1} → statement M
 read-front-spec =

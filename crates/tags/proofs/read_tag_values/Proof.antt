@@ -1,5 +1,6 @@
 use denote.Ref.{now}
 use mathlib.Core.Path.{refl}
+use Rattle.bits.specs.Places.{orderOf}
 use Rattle.classes.specs.declared.Class.the-variants.{Opaque, End, Container, Fixed, Attributes}
 use Rattle.tags.proofs.TagLaws.{none-left, values-of}
 use borrow.Author.Needs.{needs}
@@ -42,28 +43,28 @@ same-length : tie.Need-same-length
 same-length c = search needs
 
 returns : tie.Need-returns
-returns c = let a = c .before .before .before .before .before .before .before .before .args in values-of (now (a .body)) (now (a .table)) (a .from) (a .code) Opaque (c .before .before .before .before .enum-told .given .1) (c .before .before .copy-bytes .ensures)
+returns c = let a = c .before .before .before .before .before .before .before .before .args in values-of (orderOf (a .order)) (now (a .body)) (now (a .table)) (a .from) (a .code) Opaque (c .before .before .before .before .enum-told .given .1) (c .before .before .copy-bytes .ensures)
 
 returns-2 : tie.Need-returns-2
-returns-2 c = let a = c .before .before .before .before .args in values-of (now (a .body)) (now (a .table)) (a .from) (a .code) End (c .enum-told2 .given .1) (none-left (now (a .table)) (a .from) refl)
+returns-2 c = let a = c .before .before .before .before .args in values-of (orderOf (a .order)) (now (a .body)) (now (a .table)) (a .from) (a .code) End (c .enum-told2 .given .1) (none-left (now (a .table)) (a .from) refl)
 
 same-length-2 : tie.Need-same-length-2
 same-length-2 c = search needs
 
 returns-3 : tie.Need-returns-3
-returns-3 c = let a = c .before .before .before .before .before .before .before .before .args in values-of (now (a .body)) (now (a .table)) (a .from) (a .code) Container (c .before .before .before .before .enum-told3 .given .1) (c .before .before .read-front .ensures)
+returns-3 c = let a = c .before .before .before .before .before .before .before .before .args in values-of (orderOf (a .order)) (now (a .body)) (now (a .table)) (a .from) (a .code) Container (c .before .before .before .before .enum-told3 .given .1) (c .before .before .read-front .ensures)
 
 same-length-3 : tie.Need-same-length-3
 same-length-3 c = search needs
 
 returns-4 : tie.Need-returns-4
-returns-4 c = let a = c .before .before .before .before .before .before .before .before .args in values-of (now (a .body)) (now (a .table)) (a .from) (a .code) Fixed (c .before .before .before .before .enum-told4 .given .1) (c .before .before .read-body .ensures)
+returns-4 c = let a = c .before .before .before .before .before .before .before .before .args in values-of (orderOf (a .order)) (now (a .body)) (now (a .table)) (a .from) (a .code) Fixed (c .before .before .before .before .enum-told4 .given .1) (c .before .before .read-body .ensures)
 
 same-length-4 : tie.Need-same-length-4
 same-length-4 c = search needs
 
 returns-5 : tie.Need-returns-5
-returns-5 c = let a = c .before .before .before .before .before .before .before .before .args in values-of (now (a .body)) (now (a .table)) (a .from) (a .code) Attributes (c .before .before .before .before .enum-told5 .given .1) (c .before .before .read-body2 .ensures)
+returns-5 c = let a = c .before .before .before .before .before .before .before .before .args in values-of (orderOf (a .order)) (now (a .body)) (now (a .table)) (a .from) (a .code) Attributes (c .before .before .before .before .enum-told5 .given .1) (c .before .before .read-body2 .ensures)
 
 pub read-tag-values-spec : {M : Type 1} → statement M
 read-tag-values-spec =

@@ -1,4 +1,5 @@
 use Prim.Native.Nat.{ℕ, _+_, _-_}
+use Rattle.bits.specs.Places.{orderOf}
 use Rattle.table.specs.State.{shownOver}
 use denote.Ref.{now}
 use mathlib.Core.Path.{ap, _∙_}
@@ -26,7 +27,7 @@ same-length c = search needs
 
 returns : tie.Need-returns
 returns c = let a = c .before .before .before .before .before .before .before .args in
-    headed-out (now (a .table)) (a .from) (a .code) (stateOf (a .class)) (valuesOf (a .class) (a .code) (now (a .body))) (c .before .before .before .read-tag-values .result) (c .before .before .before .read-tag-values .ensures) (c .if1 .taken)
+    headed-out (now (a .table)) (a .from) (a .code) (stateOf (a .class)) (valuesOf (orderOf (a .order)) (a .class) (a .code) (now (a .body))) (c .before .before .before .read-tag-values .result) (c .before .before .before .read-tag-values .ensures) (c .if1 .taken)
 
 put-requires : tie.Need-put-requires
 put-requires c κs = search needs
@@ -50,7 +51,7 @@ add-put-3 : tie.Need-add-put-3
 add-put-3 c = search needs
 
 sub-put : tie.Need-sub-put
-sub-put c = let a = c .before .before .before .before .before .before .before .before .before .before .before .before .before .before .before .before .before .before .args in omega (arith, c .index-behind .ensures, index-le (now (a .table)) (a .from + 3) (valuesOf (a .class) (a .code) (now (a .body))) (c .before .before .before .before .before .before .before .before .before .before .before .before .before .before .read-tag-values .result) (c .before .before .before .before .before .before .before .before .before .before .before .before .before .before .read-tag-values .ensures))
+sub-put c = let a = c .before .before .before .before .before .before .before .before .before .before .before .before .before .before .before .before .before .before .args in omega (arith, c .index-behind .ensures, index-le (now (a .table)) (a .from + 3) (valuesOf (orderOf (a .order)) (a .class) (a .code) (now (a .body))) (c .before .before .before .before .before .before .before .before .before .before .before .before .before .before .read-tag-values .result) (c .before .before .before .before .before .before .before .before .before .before .before .before .before .before .read-tag-values .ensures))
 
 put-requires-3 : tie.Need-put-requires-3
 put-requires-3 c κs = search needs
@@ -59,7 +60,7 @@ same-length-2 : tie.Need-same-length-2
 same-length-2 c = search needs
 
 returns-2 : tie.Need-returns-2
-returns-2 c = let a = c .before .before .before .before .before .before .before .before .before .before .before .before .before .before .before .before .before .before .before .before .before .args in let v = valuesOf (a .class) (a .code) (now (a .body)) in
+returns-2 c = let a = c .before .before .before .before .before .before .before .before .before .before .before .before .before .before .before .before .before .before .before .before .before .args in let v = valuesOf (orderOf (a .order)) (a .class) (a .code) (now (a .body)) in
     headed-stored (now (a .table)) (a .from) (a .code) (c .before .before .before .before .before .before .before .before .state .result) v (c .before .before .before .before .before .before .before .before .before .before .before .before .before .before .before .before .before .read-tag-values .result) (c .before .before .before .before .before .before .before .before .before .before .before .before .before .before .before .before .before .read-tag-values .ensures) (c .before .before .before .before .before .before .before .before .before .before .before .before .put .ensures) (c .before .before .before .before .before .before .before .put2 .ensures) (ap (λ (z : ℕ). z - (a .from + 3)) (c .before .before .before .index-behind .ensures)) (c .before .before .put3 .ensures)
     ∙ ap (λ (s : ℕ). shownOver (now (a .table)) (a .from) (headed (a .code) s v)) (c .before .before .before .before .before .before .before .before .state .ensures)
 

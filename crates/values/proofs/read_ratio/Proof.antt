@@ -1,5 +1,5 @@
 use denote.Ref.{now}
-use Rattle.format.specs.Bits.{high}
+use Rattle.bits.specs.Places.{orderOf}
 use Rattle.format.specs.Formats.{Item}
 use Rattle.format.specs.Items.{i32, u32}
 use Rattle.format.proofs.SizeLaws.{fair-byte}
@@ -24,16 +24,16 @@ same-length : tie.Need-same-length
 same-length c = search needs
 
 returns : tie.Need-returns
-returns c = let a = c .before .before .before .before .before .before .before .before .args in run-stop (now (a .body)) (now (a .table)) (a .from) i32 (a .at .0) (c .before .before .before .before .read-one .ensures) (λ xs. u32) (c .enum-told .given .1)
+returns c = let a = c .before .before .before .before .before .before .before .before .args in run-stop (orderOf (a .order)) (now (a .body)) (now (a .table)) (a .from) i32 (a .at .0) (c .before .before .before .before .read-one .ensures) (λ xs. u32) (c .enum-told .given .1)
 
 read-one-requires-2 : tie.Need-read-one-requires-2
-read-one-requires-2 c κs = let a = c .before .before .before .before .before .before .before .before .before .before .args in run-fits (now (a .body)) (now (a .table)) (a .from) i32 (a .at .0) (c .before .before .before .before .before .before .read-one .ensures) (c .before .before .r .given .1) (fair-byte high Item.I32 tt) (c .before .before .before .before .before .before .before .before .before .before .pre)
+read-one-requires-2 c κs = let a = c .before .before .before .before .before .before .before .before .before .before .args in run-fits (orderOf (a .order)) (now (a .body)) (now (a .table)) (a .from) i32 (a .at .0) (c .before .before .before .before .before .before .read-one .ensures) (c .before .before .r .given .1) (fair-byte (orderOf (a .order)) Item.I32 tt) (c .before .before .before .before .before .before .before .before .before .before .pre)
 
 same-length-2 : tie.Need-same-length-2
 same-length-2 c = search needs
 
 returns-2 : tie.Need-returns-2
-returns-2 c = let a = c .before .before .before .before .before .before .before .before .before .before .before .before .before .args in run-done (now (a .body)) (now (a .table)) (a .from) i32 (a .at .0) (c .before .before .before .before .before .before .before .before .before .read-one .ensures) (λ xs. u32) (c .before .before .before .before .before .r .given .1) (c .before .before .read-one2 .ensures)
+returns-2 c = let a = c .before .before .before .before .before .before .before .before .before .before .before .before .before .args in run-done (orderOf (a .order)) (now (a .body)) (now (a .table)) (a .from) i32 (a .at .0) (c .before .before .before .before .before .before .before .before .before .read-one .ensures) (λ xs. u32) (c .before .before .before .before .before .r .given .1) (c .before .before .read-one2 .ensures)
 
 pub read-ratio-spec : {M : Type 1} → statement M
 read-ratio-spec =

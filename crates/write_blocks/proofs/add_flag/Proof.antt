@@ -1,25 +1,19 @@
 -- `write_blocks::add_flag` meets its contract.
 use native.Mathlib.Omega.{arith}
-use mathlib.Core.Path.{refl}
-use Rattle.write_blocks.proofs.FlagLaws.{held-lt, flag-in, flag-no, add-in, add-no}
+use Rattle.bits.specs.Places.{orderOf}
+use Rattle.write_blocks.proofs.FlagLaws.{flag-in, flag-no, add-in, add-no}
 use borrow.Author.Needs.{needs}
 use Rattle.write_blocks.proofs.add_flag.Statement.{statement}
 use Rattle.write_blocks.proofs.add_flag.Tie as tie
 
 returns : tie.Need-returns
-returns c = add-no (c .before .args .flags) (flag-no (c .before .args .number) (omega (arith, c .if1 .taken)))
+returns c = let a = c .before .args in add-no (orderOf (a .order)) (a .flags) (flag-no (orderOf (a .order)) (a .number) (omega (arith, c .if1 .taken)))
 
-mul-t6 : tie.Need-mul-t6
-mul-t6 c = omega (arith, held-lt (c .before .args .flags) (c .before .pre .0) (c .before .pre .1), c .if1 .left)
-
-add-t7 : tie.Need-add-t7
-add-t7 c = omega (arith, held-lt (c .before .args .flags) (c .before .pre .0) (c .before .pre .1), c .if1 .left)
-
-add-t8 : tie.Need-add-t8
-add-t8 c = search needs
+with-bits-requires : tie.Need-with-bits-requires
+with-bits-requires c κs = search needs
 
 returns-2 : tie.Need-returns-2
-returns-2 c = add-in (c .before .args .flags) 1 (c .before .args .number) 2 (c .before .pre .0) (omega arith) (omega (arith, c .if1 .left)) refl refl refl (flag-in (c .before .args .number) (omega (arith, c .if1 .left)))
+returns-2 c = let a = c .before .before .args in add-in (orderOf (a .order)) (a .flags) 1 (a .number) (c .before .before .pre .0) (omega arith) (omega (arith, c .before .if1 .left)) (c .with-bits .ensures) (flag-in (orderOf (a .order)) (a .number) (omega (arith, c .before .if1 .left)))
 
 pub add-flag-spec : {M : Type 1} → statement M
-add-flag-spec = tie.close (tie.spec returns mul-t6 add-t7 add-t8 returns-2)
+add-flag-spec = tie.close (tie.spec returns with-bits-requires returns-2)

@@ -1,5 +1,6 @@
 -- `write_blocks::add_flags` meets its contract.
 use mathlib.Core.Path.{refl}
+use Rattle.bits.specs.Places.{orderOf}
 use Rattle.attributes.specs.declared.Kind.the-variants.{Value, Fixed, BitFlag, Simple, Discrete}
 use Rattle.write_blocks.specs.declared.Flagged.the-variants.{With, No}
 use Rattle.write_blocks.proofs.FlagLaws.{told, fixed-in, fixed-no, add-none, add-no}
@@ -35,22 +36,22 @@ add-two-flags-requires-2 : tie.Need-add-two-flags-requires-2
 add-two-flags-requires-2 c κs = search needs
 
 returns : tie.Need-returns
-returns c = told (c .before .before .before .args .flags) (c .before .before .before .args .number) (c .add-flag .result) Value (c .before .enum-told .given .1) (c .add-flag .ensures)
+returns c = told (orderOf (c .before .before .before .args .order)) (c .before .before .before .args .flags) (c .before .before .before .args .number) (c .add-flag .result) Value (c .before .enum-told .given .1) (c .add-flag .ensures)
 
 returns-2 : tie.Need-returns-2
-returns-2 c = told (c .before .before .before .args .flags) (c .before .before .before .args .number) (With (c .before .before .before .args .flags)) Fixed (c .before .enum-told2 .given .1) (add-none (c .before .before .before .args .flags) (c .before .before .before .pre .0) refl (fixed-in (c .before .before .before .args .number) (c .if1 .taken)))
+returns-2 c = told (orderOf (c .before .before .before .args .order)) (c .before .before .before .args .flags) (c .before .before .before .args .number) (With (c .before .before .before .args .flags)) Fixed (c .before .enum-told2 .given .1) (add-none (orderOf (c .before .before .before .args .order)) (c .before .before .before .args .flags) (c .before .before .before .pre .0) refl (fixed-in (orderOf (c .before .before .before .args .order)) (c .before .before .before .args .number) (c .if1 .taken)))
 
 returns-3 : tie.Need-returns-3
-returns-3 c = told (c .before .before .before .args .flags) (c .before .before .before .args .number) No Fixed (c .before .enum-told2 .given .1) (add-no (c .before .before .before .args .flags) (fixed-no (c .before .before .before .args .number) (c .if1 .left)))
+returns-3 c = told (orderOf (c .before .before .before .args .order)) (c .before .before .before .args .flags) (c .before .before .before .args .number) No Fixed (c .before .enum-told2 .given .1) (add-no (orderOf (c .before .before .before .args .order)) (c .before .before .before .args .flags) (fixed-no (orderOf (c .before .before .before .args .order)) (c .before .before .before .args .number) (c .if1 .left)))
 
 returns-4 : tie.Need-returns-4
-returns-4 c = told (c .before .before .before .args .flags) (c .before .before .before .args .number) (c .add-flag2 .result) BitFlag (c .before .enum-told3 .given .1) (c .add-flag2 .ensures)
+returns-4 c = told (orderOf (c .before .before .before .args .order)) (c .before .before .before .args .flags) (c .before .before .before .args .number) (c .add-flag2 .result) BitFlag (c .before .enum-told3 .given .1) (c .add-flag2 .ensures)
 
 returns-5 : tie.Need-returns-5
-returns-5 c = told (c .before .before .before .args .flags) (c .before .before .before .args .number) (c .add-two-flags .result) Simple (c .before .enum-told4 .given .1) (c .add-two-flags .ensures)
+returns-5 c = told (orderOf (c .before .before .before .args .order)) (c .before .before .before .args .flags) (c .before .before .before .args .number) (c .add-two-flags .result) Simple (c .before .enum-told4 .given .1) (c .add-two-flags .ensures)
 
 returns-6 : tie.Need-returns-6
-returns-6 c = told (c .before .before .before .args .flags) (c .before .before .before .args .number) (c .add-two-flags2 .result) Discrete (c .before .enum-told5 .given .1) (c .add-two-flags2 .ensures)
+returns-6 c = told (orderOf (c .before .before .before .args .order)) (c .before .before .before .args .flags) (c .before .before .before .args .number) (c .add-two-flags2 .result) Discrete (c .before .enum-told5 .given .1) (c .add-two-flags2 .ensures)
 
 pub add-flags-spec : {M : Type 1} → statement M
 add-flags-spec =

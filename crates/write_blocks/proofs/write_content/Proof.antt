@@ -1,5 +1,6 @@
 -- `write_blocks::write_content` meets its contract: what the flag number tells of a content is what its format is.
 use denote.Ref.{now}
+use Rattle.bits.specs.Places.{orderOf}
 use Rattle.format.specs.Bodies.{value, keyframed, contentOf}
 use Rattle.attributes.specs.Rows.{kindOf, typeOf}
 use Rattle.attributes.specs.declared.Content.the-variants.{Nothing, One, Frames}
@@ -34,19 +35,19 @@ write-keyframed-requires : tie.Need-write-keyframed-requires
 write-keyframed-requires c κs = search needs
 
 returns : tie.Need-returns
-returns c = let a = c .before .before .before .before .before .args in content-none (now (a .values)) (at (now (a .out)) (a .sink)) (a .from) (contentOf (kindOf (a .attribute .kind)) (typeOf (a .attribute .data_type)) (a .flag)) (content-told (kindOf (a .attribute .kind)) (typeOf (a .attribute .data_type)) (a .flag) Nothing (c .before .before .content-of .ensures) (c .enum-told .given .1)) (c .before .before .before .before .before .pre .1)
+returns c = let a = c .before .before .before .before .before .args in content-none (orderOf (a .order)) (now (a .values)) (at (now (a .out)) (a .sink)) (a .from) (contentOf (kindOf (a .attribute .kind)) (typeOf (a .attribute .data_type)) (a .flag)) (content-told (kindOf (a .attribute .kind)) (typeOf (a .attribute .data_type)) (a .flag) Nothing (c .before .before .content-of .ensures) (c .enum-told .given .1)) (c .before .before .before .before .before .pre .1)
 
 same-length : tie.Need-same-length
 same-length c = search needs
 
 returns-2 : tie.Need-returns-2
-returns-2 c = let a = c .before .before .before .before .before .before .before .before .before .args in content-is (now (a .values)) (at (now (a .out)) (a .sink)) (a .from) (value (typeOf (a .attribute .data_type))) (contentOf (kindOf (a .attribute .kind)) (typeOf (a .attribute .data_type)) (a .flag)) (content-told (kindOf (a .attribute .kind)) (typeOf (a .attribute .data_type)) (a .flag) One (c .before .before .before .before .before .before .content-of .ensures) (c .before .before .before .before .enum-told2 .given .1)) (c .before .before .write-value .ensures)
+returns-2 c = let a = c .before .before .before .before .before .before .before .before .before .args in content-is (orderOf (a .order)) (now (a .values)) (at (now (a .out)) (a .sink)) (a .from) (value (typeOf (a .attribute .data_type))) (contentOf (kindOf (a .attribute .kind)) (typeOf (a .attribute .data_type)) (a .flag)) (content-told (kindOf (a .attribute .kind)) (typeOf (a .attribute .data_type)) (a .flag) One (c .before .before .before .before .before .before .content-of .ensures) (c .before .before .before .before .enum-told2 .given .1)) (c .before .before .write-value .ensures)
 
 same-length-2 : tie.Need-same-length-2
 same-length-2 c = search needs
 
 returns-3 : tie.Need-returns-3
-returns-3 c = let a = c .before .before .before .before .before .before .before .before .before .args in content-is (now (a .values)) (at (now (a .out)) (a .sink)) (a .from) (keyframed (kindOf (a .attribute .kind)) (typeOf (a .attribute .data_type))) (contentOf (kindOf (a .attribute .kind)) (typeOf (a .attribute .data_type)) (a .flag)) (content-told (kindOf (a .attribute .kind)) (typeOf (a .attribute .data_type)) (a .flag) Frames (c .before .before .before .before .before .before .content-of .ensures) (c .before .before .before .before .enum-told3 .given .1)) (c .before .before .write-keyframed .ensures)
+returns-3 c = let a = c .before .before .before .before .before .before .before .before .before .args in content-is (orderOf (a .order)) (now (a .values)) (at (now (a .out)) (a .sink)) (a .from) (keyframed (kindOf (a .attribute .kind)) (typeOf (a .attribute .data_type))) (contentOf (kindOf (a .attribute .kind)) (typeOf (a .attribute .data_type)) (a .flag)) (content-told (kindOf (a .attribute .kind)) (typeOf (a .attribute .data_type)) (a .flag) Frames (c .before .before .before .before .before .before .content-of .ensures) (c .before .before .before .before .enum-told3 .given .1)) (c .before .before .write-keyframed .ensures)
 
 pub write-content-spec : {M : Type 1} → statement M
 write-content-spec =

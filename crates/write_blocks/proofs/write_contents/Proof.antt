@@ -4,6 +4,7 @@ use denote.Ref.{now}
 use mathlib.Core.Path.{_∙_}
 use native.Mathlib.Omega.{arith}
 use borrow.Author.Needs.{needs}
+use Rattle.bits.specs.Places.{orderOf}
 use Rattle.attributes.specs.Rows.{attributeOf, rowsFrom}
 use Rattle.attributes.proofs.FlagLaws.{rowAt, rows-next}
 use Rattle.write_blocks.proofs.FillLaws.{Filling, no-rows, fill-start, fill-short, fill-flag, fill-gone, fill-next, fill-done}
@@ -11,13 +12,13 @@ use Rattle.write_blocks.proofs.write_contents.Statement.{statement}
 use Rattle.write_blocks.proofs.write_contents.Tie as tie
 
 abbrev Inv-loop : tie.InvT-loop
-Inv-loop values out₀ attributes end flags₀ cur₀ index₀ row₀ out flags cur index row = (row₀ ≤ row) × (row ≤ end) × Filling (rowsFrom row₀ end) values out₀ cur₀ out flags cur (row - row₀) index (rowsFrom row end)
+Inv-loop order values out₀ attributes end flags₀ cur₀ index₀ row₀ out flags cur index row = (row₀ ≤ row) × (row ≤ end) × Filling (orderOf order) (rowsFrom row₀ end) values out₀ cur₀ out flags cur (row - row₀) index (rowsFrom row end)
 
 abbrev μ-loop : tie.MeasureT-loop
-μ-loop values out₀ attributes end flags₀ cur₀ index₀ row₀ out flags cur index row = end - row
+μ-loop order values out₀ attributes end flags₀ cur₀ index₀ row₀ out flags cur index row = end - row
 
 loop-holds : tie.Need-loop-holds Inv-loop μ-loop
-loop-holds c = let a = c .before .before .args in (omega arith, c .before .before .pre .0 .up, fill-start (rowsFrom (a .rows .start) (a .rows .end)) (now (a .values)) (now (a .out)) (a .sink) (a .rows .start - a .rows .start) (c .before .before .pre .1))
+loop-holds c = let a = c .before .before .args in (omega arith, c .before .before .pre .0 .up, fill-start (orderOf (a .order)) (rowsFrom (a .rows .start) (a .rows .end)) (now (a .values)) (now (a .out)) (a .sink) (a .rows .start - a .rows .start) (c .before .before .pre .1))
 
 same-length : tie.Need-same-length Inv-loop μ-loop
 same-length c = c .before .before .loop .inv .2 .size
@@ -65,10 +66,10 @@ enum-told-2 : tie.Need-enum-told-2 Inv-loop μ-loop
 enum-told-2 c = search needs
 
 same-length-3 : tie.Need-same-length-3 Inv-loop μ-loop
-same-length-3 c = c .before .before .before .before .write-content .kept .1 .1 .0 ∙ c .before .before .before .before .before .before .before .before .before .before .before .before .before .before .loop .inv .2 .size
+same-length-3 c = c .before .before .before .before .write-content .kept .1 .1 .1 .0 ∙ c .before .before .before .before .before .before .before .before .before .before .before .before .before .before .loop .inv .2 .size
 
 returns-3 : tie.Need-returns-3 Inv-loop μ-loop
-returns-3 c = (fill-gone (c .before .before .before .before .before .before .before .before .before .before .before .before .before .before .loop .inv .2) (attributeOf (rowAt (c .before .before .before .before .before .before .before .before .before .before .before .before .before .before .loop .row))) (rowsFrom (c .before .before .before .before .before .before .before .before .before .before .before .before .before .before .loop .row + 1) (c .before .before .before .before .before .before .before .before .before .before .before .before .before .before .before .before .before .args .rows .end)) (rows-next (c .before .before .before .before .before .before .before .before .before .before .before .before .before .loop-test .taken) (c .before .before .before .before .before .before .before .before .before .before .before .before .before .before .before .before .before .pre .0 .inside)) (omega (arith, c .before .before .before .before .before .before .before .before .before .before .before .before .if1 .left)) (c .before .before .before .before .before .before .before .before .before .add-flags .result) (c .before .before .before .before .before .before .before .before .before .add-flags .ensures) (c .before .before .before .before .write-content .last .1 .1 .0) (c .before .before .before .before .write-content .result) (c .before .before .before .before .write-content .ensures) (c .enum-told2 .given .1), tt)
+returns-3 c = (fill-gone (c .before .before .before .before .before .before .before .before .before .before .before .before .before .before .loop .inv .2) (attributeOf (rowAt (c .before .before .before .before .before .before .before .before .before .before .before .before .before .before .loop .row))) (rowsFrom (c .before .before .before .before .before .before .before .before .before .before .before .before .before .before .loop .row + 1) (c .before .before .before .before .before .before .before .before .before .before .before .before .before .before .before .before .before .args .rows .end)) (rows-next (c .before .before .before .before .before .before .before .before .before .before .before .before .before .loop-test .taken) (c .before .before .before .before .before .before .before .before .before .before .before .before .before .before .before .before .before .pre .0 .inside)) (omega (arith, c .before .before .before .before .before .before .before .before .before .before .before .before .if1 .left)) (c .before .before .before .before .before .before .before .before .before .add-flags .result) (c .before .before .before .before .before .before .before .before .before .add-flags .ensures) (c .before .before .before .before .write-content .last .1 .1 .1 .0) (c .before .before .before .before .write-content .result) (c .before .before .before .before .write-content .ensures) (c .enum-told2 .given .1), tt)
 
 add-row : tie.Need-add-row Inv-loop μ-loop
 add-row c = omega (arith, c .before .before .before .before .before .before .before .before .before .before .before .before .before .before .before .before .before .before .pre .0 .inside, c .before .before .before .before .before .before .before .before .before .before .before .before .before .before .loop-test .taken)
@@ -77,7 +78,7 @@ loop-less : tie.Need-loop-less Inv-loop μ-loop
 loop-less c = omega (arith, c .before .before .before .before .before .before .before .before .before .before .before .before .before .before .loop-test .taken)
 
 loop-again : tie.Need-loop-again Inv-loop μ-loop
-loop-again c = (omega (arith, c .before .before .before .before .before .before .before .before .before .before .before .before .before .before .before .loop .inv .0), omega (arith, c .before .before .before .before .before .before .before .before .before .before .before .before .before .before .loop-test .taken), fill-next (c .before .before .before .before .before .before .before .before .before .before .before .before .before .before .before .loop .inv .2) (attributeOf (rowAt (c .before .before .before .before .before .before .before .before .before .before .before .before .before .before .before .loop .row))) (rowsFrom (c .before .before .before .before .before .before .before .before .before .before .before .before .before .before .before .loop .row + 1) (c .before .before .before .before .before .before .before .before .before .before .before .before .before .before .before .before .before .before .args .rows .end)) (rows-next (c .before .before .before .before .before .before .before .before .before .before .before .before .before .before .loop-test .taken) (c .before .before .before .before .before .before .before .before .before .before .before .before .before .before .before .before .before .before .pre .0 .inside)) (omega (arith, c .before .before .before .before .before .before .before .before .before .before .before .before .before .if1 .left)) (c .before .before .before .before .before .before .before .before .before .before .add-flags .result) (c .before .before .before .before .before .before .before .before .before .before .add-flags .ensures) (c .before .before .before .before .before .write-content .last .1 .1 .0) (c .before .before .before .before .before .write-content .result) (c .before .before .before .before .before .write-content .ensures) (c .before .before .before .before .before .before .before .before .flagged .given .0 .0) (c .before .r .given .0 .0) (c .before .r .given .0 .1 .0) (c .before .before .before .before .before .before .before .before .before .before .before .before .before .before .before .loop .row + 1 - c .before .before .before .before .before .before .before .before .before .before .before .before .before .before .before .before .before .before .args .rows .start) (c .before .before .before .before .before .before .before .before .flagged .given .1) (c .before .r .given .1) (c .before .before .before .before .before .write-content .kept .1 .1 .0) (omega (arith, c .before .before .before .before .before .before .before .before .before .before .before .before .before .before .before .loop .inv .0)))
+loop-again c = (omega (arith, c .before .before .before .before .before .before .before .before .before .before .before .before .before .before .before .loop .inv .0), omega (arith, c .before .before .before .before .before .before .before .before .before .before .before .before .before .before .loop-test .taken), fill-next (c .before .before .before .before .before .before .before .before .before .before .before .before .before .before .before .loop .inv .2) (attributeOf (rowAt (c .before .before .before .before .before .before .before .before .before .before .before .before .before .before .before .loop .row))) (rowsFrom (c .before .before .before .before .before .before .before .before .before .before .before .before .before .before .before .loop .row + 1) (c .before .before .before .before .before .before .before .before .before .before .before .before .before .before .before .before .before .before .args .rows .end)) (rows-next (c .before .before .before .before .before .before .before .before .before .before .before .before .before .before .loop-test .taken) (c .before .before .before .before .before .before .before .before .before .before .before .before .before .before .before .before .before .before .pre .0 .inside)) (omega (arith, c .before .before .before .before .before .before .before .before .before .before .before .before .before .if1 .left)) (c .before .before .before .before .before .before .before .before .before .before .add-flags .result) (c .before .before .before .before .before .before .before .before .before .before .add-flags .ensures) (c .before .before .before .before .before .write-content .last .1 .1 .1 .0) (c .before .before .before .before .before .write-content .result) (c .before .before .before .before .before .write-content .ensures) (c .before .before .before .before .before .before .before .before .flagged .given .0 .0) (c .before .r .given .0 .0) (c .before .r .given .0 .1 .0) (c .before .before .before .before .before .before .before .before .before .before .before .before .before .before .before .loop .row + 1 - c .before .before .before .before .before .before .before .before .before .before .before .before .before .before .before .before .before .before .args .rows .start) (c .before .before .before .before .before .before .before .before .flagged .given .1) (c .before .r .given .1) (c .before .before .before .before .before .write-content .kept .1 .1 .1 .0) (omega (arith, c .before .before .before .before .before .before .before .before .before .before .before .before .before .before .before .loop .inv .0)))
 
 same-length-4 : tie.Need-same-length-4 Inv-loop μ-loop
 same-length-4 c = c .before .loop .inv .2 .size

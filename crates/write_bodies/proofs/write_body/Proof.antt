@@ -1,6 +1,7 @@
 -- `write_bodies::write_body` meets its contract.
 use denote.Ref.{now}
 use mathlib.Core.Path.{sym, ap, _∙_}
+use Rattle.bits.specs.Places.{orderOf}
 use Rattle.attributes.proofs.FlagLaws.{rows-are}
 use Rattle.sink.specs.Lain.{lainAs}
 use Rattle.write_bodies.proofs.BodyLaws.{block-flags, body-block, body-fixed}
@@ -27,7 +28,7 @@ same-length : tie.Need-same-length
 same-length c = search needs
 
 returns : tie.Need-returns
-returns c = let a = c .before .before .before .before .before .before .before .before .before .args in body-block (now (a .values)) (now (a .out)) (a .at .0) (a .code) (sym (c .before .before .before .before .before .before .is-block .ensures) ∙ c .before .before .before .before .before .if1 .taken) (rows-are (a .code) (c .before .before .before .before .rows-of .result) (c .before .before .before .before .rows-of .ensures) .1) (c .before .before .write-block .ensures)
+returns c = let a = c .before .before .before .before .before .before .before .before .before .args in body-block (orderOf (a .order)) (now (a .values)) (now (a .out)) (a .at .0) (a .code) (sym (c .before .before .before .before .before .before .is-block .ensures) ∙ c .before .before .before .before .before .if1 .taken) (rows-are (a .code) (c .before .before .before .before .rows-of .result) (c .before .before .before .before .rows-of .ensures) .1) (c .before .before .write-block .ensures)
 
 write-front-requires : tie.Need-write-front-requires
 write-front-requires c κs = search needs
@@ -42,13 +43,13 @@ same-length-2 : tie.Need-same-length-2
 same-length-2 c = search needs
 
 returns-2 : tie.Need-returns-2
-returns-2 c = let a = c .before .before .before .before .before .before .before .before .before .before .before .args in ap (lainAs (c .before .before .before .before .before .write-front .last .1 .1 .0)) (sym (c .before .r .given .1)) ∙ body-fixed (now (a .values)) (now (a .out)) (a .at .0) (a .code) (sym (c .before .before .before .before .before .before .before .before .is-block .ensures) ∙ c .before .before .before .before .before .before .before .if1 .left) (c .before .before .before .before .before .write-front .ensures)
+returns-2 c = let a = c .before .before .before .before .before .before .before .before .before .before .before .args in ap (lainAs (c .before .before .before .before .before .write-front .last .1 .1 .1 .0)) (sym (c .before .r .given .1)) ∙ body-fixed (orderOf (a .order)) (now (a .values)) (now (a .out)) (a .at .0) (a .code) (sym (c .before .before .before .before .before .before .before .before .is-block .ensures) ∙ c .before .before .before .before .before .before .before .if1 .left) (c .before .before .before .before .before .write-front .ensures)
 
 same-length-3 : tie.Need-same-length-3
 same-length-3 c = search needs
 
 returns-3 : tie.Need-returns-3
-returns-3 c = let a = c .before .before .before .before .before .before .before .before .before .before .args in ap (lainAs (c .before .before .before .before .write-front .last .1 .1 .0)) (sym (c .enum-told .given .1)) ∙ body-fixed (now (a .values)) (now (a .out)) (a .at .0) (a .code) (sym (c .before .before .before .before .before .before .before .is-block .ensures) ∙ c .before .before .before .before .before .before .if1 .left) (c .before .before .before .before .write-front .ensures)
+returns-3 c = let a = c .before .before .before .before .before .before .before .before .before .before .args in ap (lainAs (c .before .before .before .before .write-front .last .1 .1 .1 .0)) (sym (c .enum-told .given .1)) ∙ body-fixed (orderOf (a .order)) (now (a .values)) (now (a .out)) (a .at .0) (a .code) (sym (c .before .before .before .before .before .before .before .is-block .ensures) ∙ c .before .before .before .before .before .before .if1 .left) (c .before .before .before .before .write-front .ensures)
 
 pub write-body-spec : {M : Type 1} → statement M
 write-body-spec =

@@ -1,5 +1,6 @@
 -- `write_bodies::write_front` meets its contract.
 use denote.Ref.{now}
+use Rattle.bits.specs.Places.{orderOf}
 use Rattle.fixed.specs.Fixed.{fixedOf}
 use Rattle.spelling.proofs.EndLaws.{lies-over, start-fine, front-fine, front-done}
 use borrow.Author.Needs.{needs}
@@ -16,13 +17,13 @@ write-fixed-requires : tie.Need-write-fixed-requires
 write-fixed-requires c κs = start-fine (c .before .before .before .before .before .before .args .at .0) _ (c .before .first-bit .ensures) (c .before .before .if1 .left)
 
 conclude-requires : tie.Need-conclude-requires
-conclude-requires c κs = let a = c .before .before .before .before .before .before .before .before .before .before .args in front-fine (now (a .values)) (now (a .out)) (record { place = c .before .before .before .before .before .first-bit .result; part = 0 }) (fixedOf (a .code)) (c .before .before .before .write-fixed .last .1 .0) (c .before .before .before .write-fixed .result) (start-fine (a .at .0) _ (c .before .before .before .before .before .first-bit .ensures) (c .before .before .before .before .before .before .if1 .left)) (c .before .before .before .write-fixed .ensures)
+conclude-requires c κs = let a = c .before .before .before .before .before .before .before .before .before .before .args in front-fine (orderOf (a .order)) (now (a .values)) (now (a .out)) (record { place = c .before .before .before .before .before .first-bit .result; part = 0 }) (fixedOf (a .code)) (c .before .before .before .write-fixed .last .1 .1 .0) (c .before .before .before .write-fixed .result) (start-fine (a .at .0) _ (c .before .before .before .before .before .first-bit .ensures) (c .before .before .before .before .before .before .if1 .left)) (c .before .before .before .write-fixed .ensures)
 
 same-length : tie.Need-same-length
 same-length c = search needs
 
 returns-2 : tie.Need-returns-2
-returns-2 c = let a = c .before .before .before .before .before .before .before .before .before .before .before .before .before .args in front-done (fixedOf (a .code)) (now (a .values)) (now (a .out)) (a .at .0) (c .before .before .before .before .before .before .before .before .first-bit .ensures) (c .before .before .conclude .ensures) (c .before .before .before .before .before .before .write-fixed .ensures)
+returns-2 c = let a = c .before .before .before .before .before .before .before .before .before .before .before .before .before .args in front-done (orderOf (a .order)) (fixedOf (a .code)) (now (a .values)) (now (a .out)) (a .at .0) (c .before .before .before .before .before .before .before .before .first-bit .ensures) (c .before .before .conclude .ensures) (c .before .before .before .before .before .before .write-fixed .ensures)
 
 pub write-front-spec : {M : Type 1} → statement M
 write-front-spec =

@@ -5,6 +5,7 @@ use native.Mathlib.Omega.{arith}
 use borrow.Author.Needs.{needs}
 use denote.Ref.{now}
 use lib.ListN.{getD}
+use Rattle.bits.specs.Places.{orderOf}
 use Rattle.items.specs.Kinds.{formatOf}
 use Rattle.items.specs.declared.Item.the-variants.{U32}
 use Rattle.fixed.specs.Fixed.{inOrder, allItems, itemsFrom}
@@ -15,13 +16,13 @@ use Rattle.write_fixed.proofs.write_items.Statement.{statement}
 use Rattle.write_fixed.proofs.write_items.Tie as tie
 
 abbrev Inv-loop : tie.InvT-loop
-Inv-loop start end out₀ values from rows cur₀ index₀ row₀ out cur index row = (row ≤ end) × Going values out₀ cur₀ from (inOrder (itemsFrom start end)) out cur index (inOrder (itemsFrom row end))
+Inv-loop order start end out₀ values from rows cur₀ index₀ row₀ out cur index row = (row ≤ end) × Going (orderOf order) values out₀ cur₀ from (inOrder (itemsFrom start end)) out cur index (inOrder (itemsFrom row end))
 
 abbrev μ-loop : tie.MeasureT-loop
-μ-loop start end out₀ values from rows cur₀ index₀ row₀ out cur index row = end - row
+μ-loop order start end out₀ values from rows cur₀ index₀ row₀ out cur index row = end - row
 
 loop-holds : tie.Need-loop-holds Inv-loop μ-loop
-loop-holds c = (c .before .before .pre .0, going-none (now (c .before .before .args .values)) (now (c .before .before .args .out)) (c .before .before .args .sink) (c .before .before .args .from) (inOrder (itemsFrom (c .before .before .args .start) (c .before .before .args .end))) (c .before .before .pre .2))
+loop-holds c = (c .before .before .pre .0, going-none (orderOf (c .before .before .args .order)) (now (c .before .before .args .values)) (now (c .before .before .args .out)) (c .before .before .args .sink) (c .before .before .args .from) (inOrder (itemsFrom (c .before .before .args .start) (c .before .before .args .end))) (c .before .before .pre .2))
 
 mul-kind : tie.Need-mul-kind Inv-loop μ-loop
 mul-kind c = search needs
@@ -39,10 +40,10 @@ enum-told : tie.Need-enum-told Inv-loop μ-loop
 enum-told c = search needs
 
 same-length : tie.Need-same-length Inv-loop μ-loop
-same-length c = c .before .before .before .before .write-one .kept .1 .0 ∙ c .before .before .before .before .before .before .before .before .loop .inv .1 .size
+same-length c = c .before .before .before .before .write-one .kept .1 .1 .0 ∙ c .before .before .before .before .before .before .before .before .loop .inv .1 .size
 
 returns : tie.Need-returns Inv-loop μ-loop
-returns c = ap (seen (c .before .before .before .before .write-one .last .1 .0)) (sym (c .enum-told .given .1)) ∙ going-stop (c .before .before .before .before .before .before .before .before .loop .inv .1) (formatOf (getD allItems (c .before .before .before .before .before .before .before .before .loop .row) U32)) (inOrder (itemsFrom (c .before .before .before .before .before .before .before .before .loop .row + 1) (c .before .before .before .before .before .before .before .before .before .before .before .args .end))) (items-more (c .before .before .before .before .before .before .before .before .loop .row) (c .before .before .before .before .before .before .before .before .before .before .before .args .end) refl (c .before .before .before .before .before .before .before .loop-test .taken) (c .before .before .before .before .before .before .before .before .before .before .before .pre .1)) (c .before .before .before .before .write-one .last .1 .0) (c .before .before .before .before .write-one .result) (c .before .before .before .before .write-one .ensures) (c .enum-told .given .1)
+returns c = ap (seen (c .before .before .before .before .write-one .last .1 .1 .0)) (sym (c .enum-told .given .1)) ∙ going-stop (c .before .before .before .before .before .before .before .before .loop .inv .1) (formatOf (getD allItems (c .before .before .before .before .before .before .before .before .loop .row) U32)) (inOrder (itemsFrom (c .before .before .before .before .before .before .before .before .loop .row + 1) (c .before .before .before .before .before .before .before .before .before .before .before .args .end))) (items-more (c .before .before .before .before .before .before .before .before .loop .row) (c .before .before .before .before .before .before .before .before .before .before .before .args .end) refl (c .before .before .before .before .before .before .before .loop-test .taken) (c .before .before .before .before .before .before .before .before .before .before .before .pre .1)) (c .before .before .before .before .write-one .last .1 .1 .0) (c .before .before .before .before .write-one .result) (c .before .before .before .before .write-one .ensures) (c .enum-told .given .1)
 
 add-row : tie.Need-add-row Inv-loop μ-loop
 add-row c = omega (arith, c .before .before .before .before .before .before .before .before .before .before .before .before .pre .1)
@@ -51,7 +52,7 @@ loop-less : tie.Need-loop-less Inv-loop μ-loop
 loop-less c = omega arith
 
 loop-again : tie.Need-loop-again Inv-loop μ-loop
-loop-again c = (omega arith, going-next (c .before .before .before .before .before .before .before .before .before .loop .inv .1) (formatOf (getD allItems (c .before .before .before .before .before .before .before .before .before .loop .row) U32)) (inOrder (itemsFrom (c .before .before .before .before .before .before .before .before .before .loop .row + 1) (c .before .before .before .before .before .before .before .before .before .before .before .before .args .end))) (items-more (c .before .before .before .before .before .before .before .before .before .loop .row) (c .before .before .before .before .before .before .before .before .before .before .before .before .args .end) refl (c .before .before .before .before .before .before .before .before .loop-test .taken) (c .before .before .before .before .before .before .before .before .before .before .before .before .pre .1)) (c .before .before .before .before .before .write-one .last .1 .0) (c .before .before .before .before .before .write-one .result) (c .before .before .before .before .before .write-one .ensures) (c .before .before .before .before .before .write-one .kept .1 .0) (c .before .r .given .0 .0) (c .before .r .given .0 .1 .0) (c .before .r .given .1))
+loop-again c = (omega arith, going-next (c .before .before .before .before .before .before .before .before .before .loop .inv .1) (formatOf (getD allItems (c .before .before .before .before .before .before .before .before .before .loop .row) U32)) (inOrder (itemsFrom (c .before .before .before .before .before .before .before .before .before .loop .row + 1) (c .before .before .before .before .before .before .before .before .before .before .before .before .args .end))) (items-more (c .before .before .before .before .before .before .before .before .before .loop .row) (c .before .before .before .before .before .before .before .before .before .before .before .before .args .end) refl (c .before .before .before .before .before .before .before .before .loop-test .taken) (c .before .before .before .before .before .before .before .before .before .before .before .before .pre .1)) (c .before .before .before .before .before .write-one .last .1 .1 .0) (c .before .before .before .before .before .write-one .result) (c .before .before .before .before .before .write-one .ensures) (c .before .before .before .before .before .write-one .kept .1 .1 .0) (c .before .r .given .0 .0) (c .before .r .given .0 .1 .0) (c .before .r .given .1))
 
 same-length-2 : tie.Need-same-length-2 Inv-loop μ-loop
 same-length-2 c = c .before .loop .inv .1 .size

@@ -4,6 +4,7 @@ use mathlib.Core.Path.{_∙_}
 use native.Mathlib.Omega.{arith}
 use borrow.Author.Needs.{needs}
 use denote.Ref.{now}
+use Rattle.bits.specs.Places.{orderOf}
 use Rattle.format.specs.Formats.{times}
 use Rattle.format.specs.Items.{string}
 use Rattle.spelling.proofs.RunLaws.{Going, going-none, going-stop, going-next, going-over, times-more, times-over}
@@ -11,13 +12,13 @@ use Rattle.write_fixed.proofs.write_strings.Statement.{statement}
 use Rattle.write_fixed.proofs.write_strings.Tie as tie
 
 abbrev Inv-loop : tie.InvT-loop
-Inv-loop count out₀ values from cur₀ index₀ left₀ out cur index left = Going values out₀ cur₀ from (times count string) out cur index (times left string)
+Inv-loop order count out₀ values from cur₀ index₀ left₀ out cur index left = Going (orderOf order) values out₀ cur₀ from (times count string) out cur index (times left string)
 
 abbrev μ-loop : tie.MeasureT-loop
-μ-loop count out₀ values from cur₀ index₀ left₀ out cur index left = left
+μ-loop order count out₀ values from cur₀ index₀ left₀ out cur index left = left
 
 loop-holds : tie.Need-loop-holds Inv-loop μ-loop
-loop-holds c = going-none (now (c .before .before .args .values)) (now (c .before .before .args .out)) (c .before .before .args .sink) (c .before .before .args .from) (times (c .before .before .args .count) string) (c .before .before .pre)
+loop-holds c = going-none (orderOf (c .before .before .args .order)) (now (c .before .before .args .values)) (now (c .before .before .args .out)) (c .before .before .args .sink) (c .before .before .args .from) (times (c .before .before .args .count) string) (c .before .before .pre)
 
 write-string-requires : tie.Need-write-string-requires Inv-loop μ-loop
 write-string-requires c κs = c .before .before .loop .inv .fine
@@ -29,10 +30,10 @@ enum-told : tie.Need-enum-told Inv-loop μ-loop
 enum-told c = search needs
 
 same-length : tie.Need-same-length Inv-loop μ-loop
-same-length c = c .before .before .before .before .write-string .kept .0 ∙ c .before .before .before .before .before .before .before .loop .inv .size
+same-length c = c .before .before .before .before .write-string .kept .1 .0 ∙ c .before .before .before .before .before .before .before .loop .inv .size
 
 returns : tie.Need-returns Inv-loop μ-loop
-returns c = going-stop (c .before .before .before .before .before .before .before .loop .inv) string (times (c .before .before .before .before .before .before .before .loop .left - 1) string) (times-more string (c .before .before .before .before .before .before .before .loop .left) (c .before .before .before .before .before .before .loop-test .taken)) (c .before .before .before .before .write-string .last .0) (c .before .before .before .before .write-string .result) (c .before .before .before .before .write-string .ensures) (c .enum-told .given .1)
+returns c = going-stop (c .before .before .before .before .before .before .before .loop .inv) string (times (c .before .before .before .before .before .before .before .loop .left - 1) string) (times-more string (c .before .before .before .before .before .before .before .loop .left) (c .before .before .before .before .before .before .loop-test .taken)) (c .before .before .before .before .write-string .last .1 .0) (c .before .before .before .before .write-string .result) (c .before .before .before .before .write-string .ensures) (c .enum-told .given .1)
 
 sub-left : tie.Need-sub-left Inv-loop μ-loop
 sub-left c = omega (arith, c .before .before .before .before .before .before .before .loop-test .taken)
@@ -41,7 +42,7 @@ loop-less : tie.Need-loop-less Inv-loop μ-loop
 loop-less c = omega (arith, c .before .before .before .before .before .before .before .loop-test .taken)
 
 loop-again : tie.Need-loop-again Inv-loop μ-loop
-loop-again c = going-next (c .before .before .before .before .before .before .before .before .loop .inv) string (times (c .before .before .before .before .before .before .before .before .loop .left - 1) string) (times-more string (c .before .before .before .before .before .before .before .before .loop .left) (c .before .before .before .before .before .before .before .loop-test .taken)) (c .before .before .before .before .before .write-string .last .0) (c .before .before .before .before .before .write-string .result) (c .before .before .before .before .before .write-string .ensures) (c .before .before .before .before .before .write-string .kept .0) (c .before .r .given .0 .0) (c .before .r .given .0 .1 .0) (c .before .r .given .1)
+loop-again c = going-next (c .before .before .before .before .before .before .before .before .loop .inv) string (times (c .before .before .before .before .before .before .before .before .loop .left - 1) string) (times-more string (c .before .before .before .before .before .before .before .before .loop .left) (c .before .before .before .before .before .before .before .loop-test .taken)) (c .before .before .before .before .before .write-string .last .1 .0) (c .before .before .before .before .before .write-string .result) (c .before .before .before .before .before .write-string .ensures) (c .before .before .before .before .before .write-string .kept .1 .0) (c .before .r .given .0 .0) (c .before .r .given .0 .1 .0) (c .before .r .given .1)
 
 same-length-2 : tie.Need-same-length-2 Inv-loop μ-loop
 same-length-2 c = c .before .loop .inv .size

@@ -5,6 +5,7 @@ use mathlib.Core.Path.{_≡_, refl, sym, ap, _∙_}
 use native.Mathlib.Omega.{arith}
 use borrow.Author.Needs.{needs}
 use lib.ListN.{length, getD, drop}
+use Rattle.bits.specs.Places.{orderOf}
 use Rattle.classes.specs.Classes.{contains}
 use Rattle.classes.proofs.ClassLaws.{class-at}
 use Rattle.format.specs.Possible.{this}
@@ -31,7 +32,7 @@ use Rattle.write_lists.proofs.+write_list.{statement}
 use Rattle.write_lists.proofs.+write_list.Tie.{close}
 
 abbrev μ-write-list : Measures 2 write-list-kinds.ps ℕ
-μ-write-list κs a = a .1 .0
+μ-write-list κs a = a .1 .1 .0
 
 abbrev write-list-at : ℕ → In 2 write-list-kinds.ps
 write-list-at t =
@@ -46,10 +47,10 @@ abbrev calls : ℕ → write-list-lts.Claims
 calls t = (all-reads.Asked, all-reads.Learnt, at-level-reads.Asked, at-level-reads.Learnt, holds-list-reads.Asked, holds-list-reads.Learnt, begin-tag-reads.Asked, begin-tag-reads.Learnt, write-list-below t, write-list.Post, shut-reads.Asked, shut-reads.Learnt, write-leaf-reads.Asked, write-leaf-reads.Learnt, ends-list-reads.Asked, ends-list-reads.Learnt)
 
 abbrev write-list-Inv-loop : write-list-lts.InvT-loop
-write-list-Inv-loop level depths out₀ table from classes place₀ index₀ out place index = (length out ≡ length out₀) × (place .0 ≤ longest) × (index ≤ length table) × (rest level table depths out₀ (place₀ .0) index₀ ≡ rest level table depths out (place .0) index)
+write-list-Inv-loop level order depths out₀ table from classes place₀ index₀ out place index = (length out ≡ length out₀) × (place .0 ≤ longest) × (index ≤ length table) × (rest (orderOf order) level table depths out₀ (place₀ .0) index₀ ≡ rest (orderOf order) level table depths out (place .0) index)
 
 abbrev write-list-μ-loop : write-list-lts.MeasureT-loop
-write-list-μ-loop level depths out₀ table from classes place₀ index₀ out place index = longest - place .0
+write-list-μ-loop level order depths out₀ table from classes place₀ index₀ out place index = longest - place .0
 
 -- ---- what is known at the places of a turn
 
@@ -70,22 +71,22 @@ some-at t c = λ e. omega (arith, c .if3 .left)
 
 -- its own values stand
 begun-at : (t : ℕ) (c : write-list-lts.After-begun (calls t) (write-list-at t) write-list.Post write-list-Inv-loop write-list-μ-loop)
-    → this (stood (c .before .before .before .before .begin-tag .last .1 .1 .0) (c .begun .given .0 .0 .0) (c .begun .given .0 .1 .0)) ≡ over (c .before .before .before .before .before .before .before .before .before .before .before .before .before .before .loop .out) ((c .before .before .before .before .before .before .before .before .before .before .before .before .before .before .loop .place .0) + 2) (c .before .before .before .before .before .before .before .before .before .before .before .before .before .before .loop .index) (begun (c .before .before .before .before .before .before .before .before .before .at-level .result) (drop (c .before .before .before .before .before .before .before .before .before .before .before .before .before .before .loop .index) (now (c .before .before .before .before .before .before .before .before .before .before .before .before .before .before .before .before .before .before .args .table))))
-begun-at t c = ap (stoodAs (c .before .before .before .before .begin-tag .last .1 .1 .0)) (sym (c .begun .given .1)) ∙ c .before .before .before .before .begin-tag .ensures
+    → this (stood (c .before .before .before .before .begin-tag .last .1 .1 .1 .0) (c .begun .given .0 .0 .0) (c .begun .given .0 .1 .0)) ≡ over (c .before .before .before .before .before .before .before .before .before .before .before .before .before .before .loop .out) ((c .before .before .before .before .before .before .before .before .before .before .before .before .before .before .loop .place .0) + 2) (c .before .before .before .before .before .before .before .before .before .before .before .before .before .before .loop .index) (begun (orderOf (c .before .before .before .before .before .before .before .before .before .before .before .before .before .before .before .before .before .before .args .order)) (c .before .before .before .before .before .before .before .before .before .at-level .result) (drop (c .before .before .before .before .before .before .before .before .before .before .before .before .before .before .loop .index) (now (c .before .before .before .before .before .before .before .before .before .before .before .before .before .before .before .before .before .before .args .table))))
+begun-at t c = ap (stoodAs (c .before .before .before .before .begin-tag .last .1 .1 .1 .0)) (sym (c .begun .given .1)) ∙ c .before .before .before .before .begin-tag .ensures
 
 -- and its list
 listed-at : (t : ℕ) (c : write-list-lts.After-write-list (calls t) (write-list-at t) write-list.Post write-list-Inv-loop write-list-μ-loop)
-    → stoodAs (c .write-list .last .1 .1 .0) (c .write-list .result) ≡ over (c .before .before .before .before .before .before .before .before .before .before .before .before .before .before .before .before .before .loop .out) ((c .before .before .before .before .before .before .before .before .before .before .before .before .before .before .before .before .before .loop .place .0) + 2) (c .before .before .before .before .before .before .before .before .before .before .before .before .before .before .before .before .before .loop .index) (inner (c .before .before .before .before .before .before .before .before .before .before .before .before .before .before .before .before .before .before .before .before .before .args .level) (c .before .before .before .before .before .before .before .before .before .before .before .before .at-level .result) (c .before .before .before .before .before .before .before .before .before .before .before .before .before .before .before .before .before .before .before .before .before .args .depths) (drop (c .before .before .before .before .before .before .before .before .before .before .before .before .before .before .before .before .before .loop .index) (now (c .before .before .before .before .before .before .before .before .before .before .before .before .before .before .before .before .before .before .before .before .before .args .table))))
-listed-at t c = held-list (tag-at t (c .before .before .before .before .before .before .before .before .before .before .before .before)) (c .before .before .before .before .before .before .before .before .before .before .before .before .before .before .before .before .before .loop .out) (c .before .before .before .before .before .before .before .before .before .before .before .before .before .before .before .before .before .before .before .before .before .args .depths) (c .before .before .before .before .before .before .before .before .before .before .before .before .before .before .before .before .before .loop .place .0) (holds-at t (c .before .before .before .before .before .before .before .before .before .before)) (some-at t (c .before .before .before .before .before .before .before .before .before)) (begun-at t (c .before .before .before)) (c .write-list .ensures)
+    → stoodAs (c .write-list .last .1 .1 .1 .0) (c .write-list .result) ≡ over (c .before .before .before .before .before .before .before .before .before .before .before .before .before .before .before .before .before .loop .out) ((c .before .before .before .before .before .before .before .before .before .before .before .before .before .before .before .before .before .loop .place .0) + 2) (c .before .before .before .before .before .before .before .before .before .before .before .before .before .before .before .before .before .loop .index) (inner (orderOf (c .before .before .before .before .before .before .before .before .before .before .before .before .before .before .before .before .before .before .before .before .before .args .order)) (c .before .before .before .before .before .before .before .before .before .before .before .before .before .before .before .before .before .before .before .before .before .args .level) (c .before .before .before .before .before .before .before .before .before .before .before .before .at-level .result) (c .before .before .before .before .before .before .before .before .before .before .before .before .before .before .before .before .before .before .before .before .before .args .depths) (drop (c .before .before .before .before .before .before .before .before .before .before .before .before .before .before .before .before .before .loop .index) (now (c .before .before .before .before .before .before .before .before .before .before .before .before .before .before .before .before .before .before .before .before .before .args .table))))
+listed-at t c = held-list (orderOf (c .before .before .before .before .before .before .before .before .before .before .before .before .before .before .before .before .before .before .before .before .before .args .order)) (tag-at t (c .before .before .before .before .before .before .before .before .before .before .before .before)) (c .before .before .before .before .before .before .before .before .before .before .before .before .before .before .before .before .before .loop .out) (c .before .before .before .before .before .before .before .before .before .before .before .before .before .before .before .before .before .before .before .before .before .args .depths) (c .before .before .before .before .before .before .before .before .before .before .before .before .before .before .before .before .before .loop .place .0) (holds-at t (c .before .before .before .before .before .before .before .before .before .before)) (some-at t (c .before .before .before .before .before .before .before .before .before)) (begun-at t (c .before .before .before)) (c .write-list .ensures)
 
 -- and its header
 shut-at : (t : ℕ) (c : write-list-lts.After-shut (calls t) (write-list-at t) write-list.Post write-list-Inv-loop write-list-μ-loop)
-    → stoodAs (c .shut .last .0) (c .shut .result) ≡ over (c .before .before .before .before .before .before .before .before .before .before .before .before .before .before .before .before .before .before .before .before .before .loop .out) (c .before .before .before .before .before .before .before .before .before .before .before .before .before .before .before .before .before .before .before .before .before .loop .place .0) (c .before .before .before .before .before .before .before .before .before .before .before .before .before .before .before .before .before .before .before .before .before .loop .index) (shut (getD (now (c .before .before .before .before .before .before .before .before .before .before .before .before .before .before .before .before .before .before .before .before .before .before .before .before .before .args .table)) (c .before .before .before .before .before .before .before .before .before .before .before .before .before .before .before .before .before .before .before .before .before .loop .index) 0) (inner (c .before .before .before .before .before .before .before .before .before .before .before .before .before .before .before .before .before .before .before .before .before .before .before .before .before .args .level) (c .before .before .before .before .before .before .before .before .before .before .before .before .before .before .before .before .at-level .result) (c .before .before .before .before .before .before .before .before .before .before .before .before .before .before .before .before .before .before .before .before .before .before .before .before .before .args .depths) (drop (c .before .before .before .before .before .before .before .before .before .before .before .before .before .before .before .before .before .before .before .before .before .loop .index) (now (c .before .before .before .before .before .before .before .before .before .before .before .before .before .before .before .before .before .before .before .before .before .before .before .before .before .args .table)))))
-shut-at t c = c .shut .ensures ∙ held-shut (tag-at t (c .before .before .before .before .before .before .before .before .before .before .before .before .before .before .before .before)) (c .before .before .before .before .before .before .before .before .before .before .before .before .before .before .before .before .before .before .before .before .before .loop .out) (c .before .before .before .before .before .before .before .before .before .before .before .before .before .before .before .before .before .before .before .before .before .before .before .before .before .args .depths) (c .before .before .before .before .before .before .before .before .before .before .before .before .before .before .before .before .before .before .before .before .before .loop .place .0) (holds-at t (c .before .before .before .before .before .before .before .before .before .before .before .before .before .before)) (some-at t (c .before .before .before .before .before .before .before .before .before .before .before .before .before)) (c .before .before .before .before .write-list .last .1 .1 .0) (c .before .before .before .before .write-list .result) (listed-at t (c .before .before .before .before))
+    → stoodAs (c .shut .last .0) (c .shut .result) ≡ over (c .before .before .before .before .before .before .before .before .before .before .before .before .before .before .before .before .before .before .before .before .before .loop .out) (c .before .before .before .before .before .before .before .before .before .before .before .before .before .before .before .before .before .before .before .before .before .loop .place .0) (c .before .before .before .before .before .before .before .before .before .before .before .before .before .before .before .before .before .before .before .before .before .loop .index) (shut (getD (now (c .before .before .before .before .before .before .before .before .before .before .before .before .before .before .before .before .before .before .before .before .before .before .before .before .before .args .table)) (c .before .before .before .before .before .before .before .before .before .before .before .before .before .before .before .before .before .before .before .before .before .loop .index) 0) (inner (orderOf (c .before .before .before .before .before .before .before .before .before .before .before .before .before .before .before .before .before .before .before .before .before .before .before .before .before .args .order)) (c .before .before .before .before .before .before .before .before .before .before .before .before .before .before .before .before .before .before .before .before .before .before .before .before .before .args .level) (c .before .before .before .before .before .before .before .before .before .before .before .before .before .before .before .before .at-level .result) (c .before .before .before .before .before .before .before .before .before .before .before .before .before .before .before .before .before .before .before .before .before .before .before .before .before .args .depths) (drop (c .before .before .before .before .before .before .before .before .before .before .before .before .before .before .before .before .before .before .before .before .before .loop .index) (now (c .before .before .before .before .before .before .before .before .before .before .before .before .before .before .before .before .before .before .before .before .before .before .before .before .before .args .table)))))
+shut-at t c = c .shut .ensures ∙ held-shut (orderOf (c .before .before .before .before .before .before .before .before .before .before .before .before .before .before .before .before .before .before .before .before .before .before .before .before .before .args .order)) (tag-at t (c .before .before .before .before .before .before .before .before .before .before .before .before .before .before .before .before)) (c .before .before .before .before .before .before .before .before .before .before .before .before .before .before .before .before .before .before .before .before .before .loop .out) (c .before .before .before .before .before .before .before .before .before .before .before .before .before .before .before .before .before .before .before .before .before .before .before .before .before .args .depths) (c .before .before .before .before .before .before .before .before .before .before .before .before .before .before .before .before .before .before .before .before .before .loop .place .0) (holds-at t (c .before .before .before .before .before .before .before .before .before .before .before .before .before .before)) (some-at t (c .before .before .before .before .before .before .before .before .before .before .before .before .before)) (c .before .before .before .before .write-list .last .1 .1 .1 .0) (c .before .before .before .before .write-list .result) (listed-at t (c .before .before .before .before))
 
 -- the next place and index
 held-at : (t : ℕ) (c : write-list-lts.After-wrote (calls t) (write-list-at t) write-list.Post write-list-Inv-loop write-list-μ-loop)
-    → this (stood (c .before .before .before .before .shut .last .0) (c .wrote .given .0 .0 .0) (c .wrote .given .0 .1 .0)) ≡ over (c .before .before .before .before .before .before .before .before .before .before .before .before .before .before .before .before .before .before .before .before .before .before .before .before .before .loop .out) (c .before .before .before .before .before .before .before .before .before .before .before .before .before .before .before .before .before .before .before .before .before .before .before .before .before .loop .place .0) (c .before .before .before .before .before .before .before .before .before .before .before .before .before .before .before .before .before .before .before .before .before .before .before .before .before .loop .index) (shut (getD (now (c .before .before .before .before .before .before .before .before .before .before .before .before .before .before .before .before .before .before .before .before .before .before .before .before .before .before .before .before .before .args .table)) (c .before .before .before .before .before .before .before .before .before .before .before .before .before .before .before .before .before .before .before .before .before .before .before .before .before .loop .index) 0) (inner (c .before .before .before .before .before .before .before .before .before .before .before .before .before .before .before .before .before .before .before .before .before .before .before .before .before .before .before .before .before .args .level) (c .before .before .before .before .before .before .before .before .before .before .before .before .before .before .before .before .before .before .before .before .at-level .result) (c .before .before .before .before .before .before .before .before .before .before .before .before .before .before .before .before .before .before .before .before .before .before .before .before .before .before .before .before .before .args .depths) (drop (c .before .before .before .before .before .before .before .before .before .before .before .before .before .before .before .before .before .before .before .before .before .before .before .before .before .loop .index) (now (c .before .before .before .before .before .before .before .before .before .before .before .before .before .before .before .before .before .before .before .before .before .before .before .before .before .before .before .before .before .args .table)))))
+    → this (stood (c .before .before .before .before .shut .last .0) (c .wrote .given .0 .0 .0) (c .wrote .given .0 .1 .0)) ≡ over (c .before .before .before .before .before .before .before .before .before .before .before .before .before .before .before .before .before .before .before .before .before .before .before .before .before .loop .out) (c .before .before .before .before .before .before .before .before .before .before .before .before .before .before .before .before .before .before .before .before .before .before .before .before .before .loop .place .0) (c .before .before .before .before .before .before .before .before .before .before .before .before .before .before .before .before .before .before .before .before .before .before .before .before .before .loop .index) (shut (getD (now (c .before .before .before .before .before .before .before .before .before .before .before .before .before .before .before .before .before .before .before .before .before .before .before .before .before .before .before .before .before .args .table)) (c .before .before .before .before .before .before .before .before .before .before .before .before .before .before .before .before .before .before .before .before .before .before .before .before .before .loop .index) 0) (inner (orderOf (c .before .before .before .before .before .before .before .before .before .before .before .before .before .before .before .before .before .before .before .before .before .before .before .before .before .before .before .before .before .args .order)) (c .before .before .before .before .before .before .before .before .before .before .before .before .before .before .before .before .before .before .before .before .before .before .before .before .before .before .before .before .before .args .level) (c .before .before .before .before .before .before .before .before .before .before .before .before .before .before .before .before .before .before .before .before .at-level .result) (c .before .before .before .before .before .before .before .before .before .before .before .before .before .before .before .before .before .before .before .before .before .before .before .before .before .before .before .before .before .args .depths) (drop (c .before .before .before .before .before .before .before .before .before .before .before .before .before .before .before .before .before .before .before .before .before .before .before .before .before .loop .index) (now (c .before .before .before .before .before .before .before .before .before .before .before .before .before .before .before .before .before .before .before .before .before .before .before .before .before .before .before .before .before .args .table)))))
 held-at t c = ap (stoodAs (c .before .before .before .before .shut .last .0)) (sym (c .wrote .given .1)) ∙ shut-at t (c .before .before .before .before)
 
 -- the tag is no container
@@ -95,8 +96,8 @@ leaf-at t c = sym (c .before .holds-list .ensures) ∙ c .if2 .left
 
 -- it stands whole
 whole-at : (t : ℕ) (c : write-list-lts.After-wrote2 (calls t) (write-list-at t) write-list.Post write-list-Inv-loop write-list-μ-loop)
-    → this (stood (c .before .before .before .before .write-leaf .last .1 .1 .0) (c .wrote2 .given .0 .0 .0) (c .wrote2 .given .0 .1 .0)) ≡ over (c .before .before .before .before .before .before .before .before .before .before .before .before .before .loop .out) (c .before .before .before .before .before .before .before .before .before .before .before .before .before .loop .place .0) (c .before .before .before .before .before .before .before .before .before .before .before .before .before .loop .index) (shut (getD (now (c .before .before .before .before .before .before .before .before .before .before .before .before .before .before .before .before .before .args .table)) (c .before .before .before .before .before .before .before .before .before .before .before .before .before .loop .index) 0) (begun (c .before .before .before .before .before .before .before .before .at-level .result) (drop (c .before .before .before .before .before .before .before .before .before .before .before .before .before .loop .index) (now (c .before .before .before .before .before .before .before .before .before .before .before .before .before .before .before .before .before .args .table)))))
-whole-at t c = ap (stoodAs (c .before .before .before .before .write-leaf .last .1 .1 .0)) (sym (c .wrote2 .given .1)) ∙ c .before .before .before .before .write-leaf .ensures
+    → this (stood (c .before .before .before .before .write-leaf .last .1 .1 .1 .0) (c .wrote2 .given .0 .0 .0) (c .wrote2 .given .0 .1 .0)) ≡ over (c .before .before .before .before .before .before .before .before .before .before .before .before .before .loop .out) (c .before .before .before .before .before .before .before .before .before .before .before .before .before .loop .place .0) (c .before .before .before .before .before .before .before .before .before .before .before .before .before .loop .index) (shut (getD (now (c .before .before .before .before .before .before .before .before .before .before .before .before .before .before .before .before .before .args .table)) (c .before .before .before .before .before .before .before .before .before .before .before .before .before .loop .index) 0) (begun (orderOf (c .before .before .before .before .before .before .before .before .before .before .before .before .before .before .before .before .before .args .order)) (c .before .before .before .before .before .before .before .before .at-level .result) (drop (c .before .before .before .before .before .before .before .before .before .before .before .before .before .loop .index) (now (c .before .before .before .before .before .before .before .before .before .before .before .before .before .before .before .before .before .args .table)))))
+whole-at t c = ap (stoodAs (c .before .before .before .before .write-leaf .last .1 .1 .1 .0)) (sym (c .wrote2 .given .1)) ∙ c .before .before .before .before .write-leaf .ensures
 
 -- ---- what the code leaves to be shown
 
@@ -116,7 +117,7 @@ write-list-same-length : (t : ℕ) → write-list-lts.Need-same-length (calls t)
 write-list-same-length t c = c .before .before .before .loop .inv .0
 
 write-list-returns : (t : ℕ) → write-list-lts.Need-returns (calls t) (write-list-at t) write-list.Post write-list-Inv-loop write-list-μ-loop
-write-list-returns t c = turn-high (c .before .before .before .before .before .before .before .args .level) (now (c .before .before .before .before .before .before .before .args .table)) (c .before .before .before .loop .out) (c .before .before .before .before .before .before .before .args .depths) (c .before .before .before .loop .place .0) (c .before .before .before .loop .index) (c .before .before .loop-test .taken) (omega (arith, c .if1 .taken)) ∙ sym (c .before .before .before .loop .inv .3)
+write-list-returns t c = turn-high (orderOf (c .before .before .before .before .before .before .before .args .order)) (c .before .before .before .before .before .before .before .args .level) (now (c .before .before .before .before .before .before .before .args .table)) (c .before .before .before .loop .out) (c .before .before .before .before .before .before .before .args .depths) (c .before .before .before .loop .place .0) (c .before .before .before .loop .index) (c .before .before .loop-test .taken) (omega (arith, c .if1 .taken)) ∙ sym (c .before .before .before .loop .inv .3)
 
 write-list-cast-code : (t : ℕ) → write-list-lts.Need-cast-code (calls t) (write-list-at t) write-list.Post write-list-Inv-loop write-list-μ-loop
 write-list-cast-code t c = omega (arith, c .if1 .left)
@@ -146,7 +147,7 @@ write-list-same-length-2 : (t : ℕ) → write-list-lts.Need-same-length-2 (call
 write-list-same-length-2 t c = c .before .before .before .before .before .before .before .before .loop .inv .0
 
 write-list-returns-2 : (t : ℕ) → write-list-lts.Need-returns-2 (calls t) (write-list-at t) write-list.Post write-list-Inv-loop write-list-μ-loop
-write-list-returns-2 t c = held-deep (tag-at t (c .before .before .before)) (c .before .before .before .before .before .before .before .before .loop .out) (c .before .before .before .before .before .before .before .before .before .before .before .before .args .depths) (c .before .before .before .before .before .before .before .before .loop .place .0) (holds-at t (c .before)) (omega (arith, c .if3 .taken)) ∙ sym (c .before .before .before .before .before .before .before .before .loop .inv .3)
+write-list-returns-2 t c = held-deep (orderOf (c .before .before .before .before .before .before .before .before .before .before .before .before .args .order)) (tag-at t (c .before .before .before)) (c .before .before .before .before .before .before .before .before .loop .out) (c .before .before .before .before .before .before .before .before .before .before .before .before .args .depths) (c .before .before .before .before .before .before .before .before .loop .place .0) (holds-at t (c .before)) (omega (arith, c .if3 .taken)) ∙ sym (c .before .before .before .before .before .before .before .before .loop .inv .3)
 
 write-list-begin-tag-requires : (t : ℕ) → write-list-lts.Need-begin-tag-requires (calls t) (write-list-at t) write-list.Post write-list-Inv-loop write-list-μ-loop
 write-list-begin-tag-requires t c κs = (omega (arith, c .before .before .before .before .before .before .before .before .before .loop .inv .1), c .before .before .before .before .before .before .before .before .loop-test .taken, refl)
@@ -158,20 +159,20 @@ write-list-enum-told : (t : ℕ) → write-list-lts.Need-enum-told (calls t) (wr
 write-list-enum-told t c = search needs
 
 write-list-same-length-3 : (t : ℕ) → write-list-lts.Need-same-length-3 (calls t) (write-list-at t) write-list.Post write-list-Inv-loop write-list-μ-loop
-write-list-same-length-3 t c = c .before .before .before .before .begin-tag .kept .1 .1 .0 ∙ c .before .before .before .before .before .before .before .before .before .before .before .before .before .before .loop .inv .0
+write-list-same-length-3 t c = c .before .before .before .before .begin-tag .kept .1 .1 .1 .0 ∙ c .before .before .before .before .before .before .before .before .before .before .before .before .before .before .loop .inv .0
 
 write-list-returns-3 : (t : ℕ) → write-list-lts.Need-returns-3 (calls t) (write-list-at t) write-list.Post write-list-Inv-loop write-list-μ-loop
-write-list-returns-3 t c = ap (stoodAs (c .before .before .before .before .begin-tag .last .1 .1 .0)) (c .enum-told .given .1) ∙ held-fell (tag-at t (c .before .before .before .before .before .before .before .before .before)) (c .before .before .before .before .before .before .before .before .before .before .before .before .before .before .loop .out) (c .before .before .before .before .before .before .before .before .before .before .before .before .before .before .before .before .before .before .args .depths) (c .before .before .before .before .before .before .before .before .before .before .before .before .before .before .loop .place .0) (holds-at t (c .before .before .before .before .before .before .before)) (some-at t (c .before .before .before .before .before .before)) (ap (stoodAs (c .before .before .before .before .begin-tag .last .1 .1 .0)) (sym (c .enum-told .given .1)) ∙ c .before .before .before .before .begin-tag .ensures) ∙ sym (c .before .before .before .before .before .before .before .before .before .before .before .before .before .before .loop .inv .3)
+write-list-returns-3 t c = ap (stoodAs (c .before .before .before .before .begin-tag .last .1 .1 .1 .0)) (c .enum-told .given .1) ∙ held-fell (orderOf (c .before .before .before .before .before .before .before .before .before .before .before .before .before .before .before .before .before .before .args .order)) (tag-at t (c .before .before .before .before .before .before .before .before .before)) (c .before .before .before .before .before .before .before .before .before .before .before .before .before .before .loop .out) (c .before .before .before .before .before .before .before .before .before .before .before .before .before .before .before .before .before .before .args .depths) (c .before .before .before .before .before .before .before .before .before .before .before .before .before .before .loop .place .0) (holds-at t (c .before .before .before .before .before .before .before)) (some-at t (c .before .before .before .before .before .before)) (ap (stoodAs (c .before .before .before .before .begin-tag .last .1 .1 .1 .0)) (sym (c .enum-told .given .1)) ∙ c .before .before .before .before .begin-tag .ensures) ∙ sym (c .before .before .before .before .before .before .before .before .before .before .before .before .before .before .loop .inv .3)
 
 write-list-sub-write-list : (t : ℕ) → write-list-lts.Need-sub-write-list (calls t) (write-list-at t) write-list.Post write-list-Inv-loop write-list-μ-loop
 write-list-sub-write-list t c = omega (arith, c .before .before .before .before .before .before .before .if3 .left)
 
 write-list-write-list-requires : (t : ℕ) → write-list-lts.Need-write-list-requires (calls t) (write-list-at t) write-list.Post write-list-Inv-loop write-list-μ-loop
-write-list-write-list-requires t c κs = let h = stood-index (now (c .before .before .before .before .before .before .before .before .before .before .before .before .before .before .before .before .before .before .before .before .args .table)) (c .before .before .before .before .before .before .before .before .before .before .before .before .before .before .before .before .loop .out) ((c .before .before .before .before .before .before .before .before .before .before .before .before .before .before .before .before .loop .place .0) + 2) (c .before .before .before .before .before .before .before .before .before .before .before .before .before .before .before .before .loop .index) (c .before .before .before .before .before .before .begin-tag .last .1 .1 .0) _ _ (begun (c .before .before .before .before .before .before .before .before .before .before .before .at-level .result) (drop (c .before .before .before .before .before .before .before .before .before .before .before .before .before .before .before .before .loop .index) (now (c .before .before .before .before .before .before .before .before .before .before .before .before .before .before .before .before .before .before .before .before .args .table)))) (omega (arith, c .before .before .before .before .before .before .before .before .before .before .before .before .before .before .before .loop-test .taken)) (parts-begun (c .before .before .before .before .before .before .before .before .before .before .before .at-level .result) (drop (c .before .before .before .before .before .before .before .before .before .before .before .before .before .before .before .before .loop .index) (now (c .before .before .before .before .before .before .before .before .before .before .before .before .before .before .before .before .before .before .before .before .args .table)))) (begun-at t (c .before .before)) in
+write-list-write-list-requires t c κs = let h = stood-index (now (c .before .before .before .before .before .before .before .before .before .before .before .before .before .before .before .before .before .before .before .before .args .table)) (c .before .before .before .before .before .before .before .before .before .before .before .before .before .before .before .before .loop .out) ((c .before .before .before .before .before .before .before .before .before .before .before .before .before .before .before .before .loop .place .0) + 2) (c .before .before .before .before .before .before .before .before .before .before .before .before .before .before .before .before .loop .index) (c .before .before .before .before .before .before .begin-tag .last .1 .1 .1 .0) _ _ (begun (orderOf (c .before .before .before .before .before .before .before .before .before .before .before .before .before .before .before .before .before .before .before .before .args .order)) (c .before .before .before .before .before .before .before .before .before .before .before .at-level .result) (drop (c .before .before .before .before .before .before .before .before .before .before .before .before .before .before .before .before .loop .index) (now (c .before .before .before .before .before .before .before .before .before .before .before .before .before .before .before .before .before .before .before .before .args .table)))) (omega (arith, c .before .before .before .before .before .before .before .before .before .before .before .before .before .before .before .loop-test .taken)) (parts-begun (orderOf (c .before .before .before .before .before .before .before .before .before .before .before .before .before .before .before .before .before .before .before .before .args .order)) (c .before .before .before .before .before .before .before .before .before .before .before .at-level .result) (drop (c .before .before .before .before .before .before .before .before .before .before .before .before .before .before .before .before .loop .index) (now (c .before .before .before .before .before .before .before .before .before .before .before .before .before .before .before .before .before .before .before .before .args .table)))) (begun-at t (c .before .before)) in
     (omega (arith, c .before .before .before .before .before .before .before .before .before .before .before .before .before .before .before .before .before .before .before .before .pre .0, c .before .before .before .before .before .before .before .before .if3 .left), (h .3, h .1))
 
 write-list-shut-requires : (t : ℕ) → write-list-lts.Need-shut-requires (calls t) (write-list-at t) write-list.Post write-list-Inv-loop write-list-μ-loop
-write-list-shut-requires t c κs = (shut-after (c .before .before .before .before .before .before .before .before .before .before .before .before .before .before .before .before .before .before .before .before .loop .out) (c .before .before .before .write-list .last .1 .1 .0) (c .before .before .before .before .before .before .before .before .before .before .before .before .before .before .before .before .before .before .before .before .loop .place .0) (c .before .before .before .before .before .before .before .before .before .before .before .before .before .before .before .before .before .before .before .before .loop .index) (c .before .before .before .write-list .result) (inner (c .before .before .before .before .before .before .before .before .before .before .before .before .before .before .before .before .before .before .before .before .before .before .before .before .args .level) (c .before .before .before .before .before .before .before .before .before .before .before .before .before .before .before .at-level .result) (c .before .before .before .before .before .before .before .before .before .before .before .before .before .before .before .before .before .before .before .before .before .before .before .before .args .depths) (drop (c .before .before .before .before .before .before .before .before .before .before .before .before .before .before .before .before .before .before .before .before .loop .index) (now (c .before .before .before .before .before .before .before .before .before .before .before .before .before .before .before .before .before .before .before .before .before .before .before .before .args .table)))) (listed-at t (c .before .before .before)), omega (arith, c .before .before .before .before .before .before .before .before .before .before .before .before .before .before .before .before .before .if1 .left))
+write-list-shut-requires t c κs = (shut-after (c .before .before .before .before .before .before .before .before .before .before .before .before .before .before .before .before .before .before .before .before .loop .out) (c .before .before .before .write-list .last .1 .1 .1 .0) (c .before .before .before .before .before .before .before .before .before .before .before .before .before .before .before .before .before .before .before .before .loop .place .0) (c .before .before .before .before .before .before .before .before .before .before .before .before .before .before .before .before .before .before .before .before .loop .index) (c .before .before .before .write-list .result) (inner (orderOf (c .before .before .before .before .before .before .before .before .before .before .before .before .before .before .before .before .before .before .before .before .before .before .before .before .args .order)) (c .before .before .before .before .before .before .before .before .before .before .before .before .before .before .before .before .before .before .before .before .before .before .before .before .args .level) (c .before .before .before .before .before .before .before .before .before .before .before .before .before .before .before .at-level .result) (c .before .before .before .before .before .before .before .before .before .before .before .before .before .before .before .before .before .before .before .before .before .before .before .before .args .depths) (drop (c .before .before .before .before .before .before .before .before .before .before .before .before .before .before .before .before .before .before .before .before .loop .index) (now (c .before .before .before .before .before .before .before .before .before .before .before .before .before .before .before .before .before .before .before .before .before .before .before .before .args .table)))) (listed-at t (c .before .before .before)), omega (arith, c .before .before .before .before .before .before .before .before .before .before .before .before .before .before .before .before .before .if1 .left))
 
 write-list-enum-known-w : (t : ℕ) → write-list-lts.Need-enum-known-wrote (calls t) (write-list-at t) write-list.Post write-list-Inv-loop write-list-μ-loop
 write-list-enum-known-w t c = search needs
@@ -180,17 +181,17 @@ write-list-enum-told-2 : (t : ℕ) → write-list-lts.Need-enum-told-2 (calls t)
 write-list-enum-told-2 t c = search needs
 
 write-list-same-length-4 : (t : ℕ) → write-list-lts.Need-same-length-4 (calls t) (write-list-at t) write-list.Post write-list-Inv-loop write-list-μ-loop
-write-list-same-length-4 t c = c .before .before .before .before .shut .kept .0 ∙ c .before .before .before .before .before .before .before .before .write-list .kept .1 .1 .0 ∙ c .before .before .before .before .before .before .before .before .before .before .before .before .before .before .before .begin-tag .kept .1 .1 .0 ∙ c .before .before .before .before .before .before .before .before .before .before .before .before .before .before .before .before .before .before .before .before .before .before .before .before .before .loop .inv .0
+write-list-same-length-4 t c = c .before .before .before .before .shut .kept .0 ∙ c .before .before .before .before .before .before .before .before .write-list .kept .1 .1 .1 .0 ∙ c .before .before .before .before .before .before .before .before .before .before .before .before .before .before .before .begin-tag .kept .1 .1 .1 .0 ∙ c .before .before .before .before .before .before .before .before .before .before .before .before .before .before .before .before .before .before .before .before .before .before .before .before .before .loop .inv .0
 
 write-list-returns-4 : (t : ℕ) → write-list-lts.Need-returns-4 (calls t) (write-list-at t) write-list.Post write-list-Inv-loop write-list-μ-loop
-write-list-returns-4 t c = ap (stoodAs (c .before .before .before .before .shut .last .0)) (c .enum-told2 .given .1) ∙ sym (held-more (tag-at t (c .before .before .before .before .before .before .before .before .before .before .before .before .before .before .before .before .before .before .before .before)) (c .before .before .before .before .before .before .before .before .before .before .before .before .before .before .before .before .before .before .before .before .before .before .before .before .before .loop .out) (c .before .before .before .before .before .before .before .before .before .before .before .before .before .before .before .before .before .before .before .before .before .before .before .before .before .before .before .before .before .args .depths) (c .before .before .before .before .before .before .before .before .before .before .before .before .before .before .before .before .before .before .before .before .before .before .before .before .before .loop .place .0) (holds-at t (c .before .before .before .before .before .before .before .before .before .before .before .before .before .before .before .before .before .before)) (some-at t (c .before .before .before .before .before .before .before .before .before .before .before .before .before .before .before .before .before)) (ap (stoodAs (c .before .before .before .before .shut .last .0)) (sym (c .enum-told2 .given .1)) ∙ shut-at t (c .before .before .before .before))) ∙ sym (c .before .before .before .before .before .before .before .before .before .before .before .before .before .before .before .before .before .before .before .before .before .before .before .before .before .loop .inv .3)
+write-list-returns-4 t c = ap (stoodAs (c .before .before .before .before .shut .last .0)) (c .enum-told2 .given .1) ∙ sym (held-more (orderOf (c .before .before .before .before .before .before .before .before .before .before .before .before .before .before .before .before .before .before .before .before .before .before .before .before .before .before .before .before .before .args .order)) (tag-at t (c .before .before .before .before .before .before .before .before .before .before .before .before .before .before .before .before .before .before .before .before)) (c .before .before .before .before .before .before .before .before .before .before .before .before .before .before .before .before .before .before .before .before .before .before .before .before .before .loop .out) (c .before .before .before .before .before .before .before .before .before .before .before .before .before .before .before .before .before .before .before .before .before .before .before .before .before .before .before .before .before .args .depths) (c .before .before .before .before .before .before .before .before .before .before .before .before .before .before .before .before .before .before .before .before .before .before .before .before .before .loop .place .0) (holds-at t (c .before .before .before .before .before .before .before .before .before .before .before .before .before .before .before .before .before .before)) (some-at t (c .before .before .before .before .before .before .before .before .before .before .before .before .before .before .before .before .before)) (ap (stoodAs (c .before .before .before .before .shut .last .0)) (sym (c .enum-told2 .given .1)) ∙ shut-at t (c .before .before .before .before))) ∙ sym (c .before .before .before .before .before .before .before .before .before .before .before .before .before .before .before .before .before .before .before .before .before .before .before .before .before .loop .inv .3)
 
 write-list-loop-less : (t : ℕ) → write-list-lts.Need-loop-less (calls t) (write-list-at t) write-list.Post write-list-Inv-loop write-list-μ-loop
-write-list-loop-less t c = let x = tag-index (tag-at t (c .before .before .before .before .before .before .before .before .before .before .before .before .before .before .before .before .before .before .before .before .before)) (c .before .before .before .before .before .before .before .before .before .before .before .before .before .before .before .before .before .before .before .before .before .before .before .before .before .before .loop .out) (c .before .before .before .before .before .before .before .before .before .before .before .before .before .before .before .before .before .before .before .before .before .before .before .before .before .before .before .before .before .before .args .depths) (c .before .before .before .before .before .before .before .before .before .before .before .before .before .before .before .before .before .before .before .before .before .before .before .before .before .before .loop .place .0) (inner (c .before .before .before .before .before .before .before .before .before .before .before .before .before .before .before .before .before .before .before .before .before .before .before .before .before .before .before .before .before .before .args .level) (c .before .before .before .before .before .before .before .before .before .before .before .before .before .before .before .before .before .before .before .before .before .at-level .result) (c .before .before .before .before .before .before .before .before .before .before .before .before .before .before .before .before .before .before .before .before .before .before .before .before .before .before .before .before .before .before .args .depths) (drop (c .before .before .before .before .before .before .before .before .before .before .before .before .before .before .before .before .before .before .before .before .before .before .before .before .before .before .loop .index) (now (c .before .before .before .before .before .before .before .before .before .before .before .before .before .before .before .before .before .before .before .before .before .before .before .before .before .before .before .before .before .before .args .table)))) (parts-inner (tag-at t (c .before .before .before .before .before .before .before .before .before .before .before .before .before .before .before .before .before .before .before .before .before)) (c .before .before .before .before .before .before .before .before .before .before .before .before .before .before .before .before .before .before .before .before .before .before .before .before .before .before .loop .out) (c .before .before .before .before .before .before .before .before .before .before .before .before .before .before .before .before .before .before .before .before .before .before .before .before .before .before .before .before .before .before .args .depths) (c .before .before .before .before .before .before .before .before .before .before .before .before .before .before .before .before .before .before .before .before .before .before .before .before .before .before .loop .place .0) (holds-at t (c .before .before .before .before .before .before .before .before .before .before .before .before .before .before .before .before .before .before .before)) (some-at t (c .before .before .before .before .before .before .before .before .before .before .before .before .before .before .before .before .before .before))) (c .before .before .before .before .before .shut .last .0) _ _ (held-at t (c .before)) in omega (arith, x .1, x .2)
+write-list-loop-less t c = let x = tag-index (orderOf (c .before .before .before .before .before .before .before .before .before .before .before .before .before .before .before .before .before .before .before .before .before .before .before .before .before .before .before .before .before .before .args .order)) (tag-at t (c .before .before .before .before .before .before .before .before .before .before .before .before .before .before .before .before .before .before .before .before .before)) (c .before .before .before .before .before .before .before .before .before .before .before .before .before .before .before .before .before .before .before .before .before .before .before .before .before .before .loop .out) (c .before .before .before .before .before .before .before .before .before .before .before .before .before .before .before .before .before .before .before .before .before .before .before .before .before .before .before .before .before .before .args .depths) (c .before .before .before .before .before .before .before .before .before .before .before .before .before .before .before .before .before .before .before .before .before .before .before .before .before .before .loop .place .0) (inner (orderOf (c .before .before .before .before .before .before .before .before .before .before .before .before .before .before .before .before .before .before .before .before .before .before .before .before .before .before .before .before .before .before .args .order)) (c .before .before .before .before .before .before .before .before .before .before .before .before .before .before .before .before .before .before .before .before .before .before .before .before .before .before .before .before .before .before .args .level) (c .before .before .before .before .before .before .before .before .before .before .before .before .before .before .before .before .before .before .before .before .before .at-level .result) (c .before .before .before .before .before .before .before .before .before .before .before .before .before .before .before .before .before .before .before .before .before .before .before .before .before .before .before .before .before .before .args .depths) (drop (c .before .before .before .before .before .before .before .before .before .before .before .before .before .before .before .before .before .before .before .before .before .before .before .before .before .before .loop .index) (now (c .before .before .before .before .before .before .before .before .before .before .before .before .before .before .before .before .before .before .before .before .before .before .before .before .before .before .before .before .before .before .args .table)))) (parts-inner (orderOf (c .before .before .before .before .before .before .before .before .before .before .before .before .before .before .before .before .before .before .before .before .before .before .before .before .before .before .before .before .before .before .args .order)) (tag-at t (c .before .before .before .before .before .before .before .before .before .before .before .before .before .before .before .before .before .before .before .before .before)) (c .before .before .before .before .before .before .before .before .before .before .before .before .before .before .before .before .before .before .before .before .before .before .before .before .before .before .loop .out) (c .before .before .before .before .before .before .before .before .before .before .before .before .before .before .before .before .before .before .before .before .before .before .before .before .before .before .before .before .before .before .args .depths) (c .before .before .before .before .before .before .before .before .before .before .before .before .before .before .before .before .before .before .before .before .before .before .before .before .before .before .loop .place .0) (holds-at t (c .before .before .before .before .before .before .before .before .before .before .before .before .before .before .before .before .before .before .before)) (some-at t (c .before .before .before .before .before .before .before .before .before .before .before .before .before .before .before .before .before .before))) (c .before .before .before .before .before .shut .last .0) _ _ (held-at t (c .before)) in omega (arith, x .1, x .2)
 
 write-list-loop-again : (t : ℕ) → write-list-lts.Need-loop-again (calls t) (write-list-at t) write-list.Post write-list-Inv-loop write-list-μ-loop
-write-list-loop-again t c = let x = tag-index (tag-at t (c .before .before .before .before .before .before .before .before .before .before .before .before .before .before .before .before .before .before .before .before .before)) (c .before .before .before .before .before .before .before .before .before .before .before .before .before .before .before .before .before .before .before .before .before .before .before .before .before .before .loop .out) (c .before .before .before .before .before .before .before .before .before .before .before .before .before .before .before .before .before .before .before .before .before .before .before .before .before .before .before .before .before .before .args .depths) (c .before .before .before .before .before .before .before .before .before .before .before .before .before .before .before .before .before .before .before .before .before .before .before .before .before .before .loop .place .0) (inner (c .before .before .before .before .before .before .before .before .before .before .before .before .before .before .before .before .before .before .before .before .before .before .before .before .before .before .before .before .before .before .args .level) (c .before .before .before .before .before .before .before .before .before .before .before .before .before .before .before .before .before .before .before .before .before .at-level .result) (c .before .before .before .before .before .before .before .before .before .before .before .before .before .before .before .before .before .before .before .before .before .before .before .before .before .before .before .before .before .before .args .depths) (drop (c .before .before .before .before .before .before .before .before .before .before .before .before .before .before .before .before .before .before .before .before .before .before .before .before .before .before .loop .index) (now (c .before .before .before .before .before .before .before .before .before .before .before .before .before .before .before .before .before .before .before .before .before .before .before .before .before .before .before .before .before .before .args .table)))) (parts-inner (tag-at t (c .before .before .before .before .before .before .before .before .before .before .before .before .before .before .before .before .before .before .before .before .before)) (c .before .before .before .before .before .before .before .before .before .before .before .before .before .before .before .before .before .before .before .before .before .before .before .before .before .before .loop .out) (c .before .before .before .before .before .before .before .before .before .before .before .before .before .before .before .before .before .before .before .before .before .before .before .before .before .before .before .before .before .before .args .depths) (c .before .before .before .before .before .before .before .before .before .before .before .before .before .before .before .before .before .before .before .before .before .before .before .before .before .before .loop .place .0) (holds-at t (c .before .before .before .before .before .before .before .before .before .before .before .before .before .before .before .before .before .before .before)) (some-at t (c .before .before .before .before .before .before .before .before .before .before .before .before .before .before .before .before .before .before))) (c .before .before .before .before .before .shut .last .0) _ _ (held-at t (c .before)) in
-    (c .before .before .before .before .before .shut .kept .0 ∙ c .before .before .before .before .before .before .before .before .before .write-list .kept .1 .1 .0 ∙ c .before .before .before .before .before .before .before .before .before .before .before .before .before .before .before .before .begin-tag .kept .1 .1 .0 ∙ c .before .before .before .before .before .before .before .before .before .before .before .before .before .before .before .before .before .before .before .before .before .before .before .before .before .before .loop .inv .0, x .2, x .0, c .before .before .before .before .before .before .before .before .before .before .before .before .before .before .before .before .before .before .before .before .before .before .before .before .before .before .loop .inv .3 ∙ held-more (tag-at t (c .before .before .before .before .before .before .before .before .before .before .before .before .before .before .before .before .before .before .before .before .before)) (c .before .before .before .before .before .before .before .before .before .before .before .before .before .before .before .before .before .before .before .before .before .before .before .before .before .before .loop .out) (c .before .before .before .before .before .before .before .before .before .before .before .before .before .before .before .before .before .before .before .before .before .before .before .before .before .before .before .before .before .before .args .depths) (c .before .before .before .before .before .before .before .before .before .before .before .before .before .before .before .before .before .before .before .before .before .before .before .before .before .before .loop .place .0) (holds-at t (c .before .before .before .before .before .before .before .before .before .before .before .before .before .before .before .before .before .before .before)) (some-at t (c .before .before .before .before .before .before .before .before .before .before .before .before .before .before .before .before .before .before)) (held-at t (c .before)))
+write-list-loop-again t c = let x = tag-index (orderOf (c .before .before .before .before .before .before .before .before .before .before .before .before .before .before .before .before .before .before .before .before .before .before .before .before .before .before .before .before .before .before .args .order)) (tag-at t (c .before .before .before .before .before .before .before .before .before .before .before .before .before .before .before .before .before .before .before .before .before)) (c .before .before .before .before .before .before .before .before .before .before .before .before .before .before .before .before .before .before .before .before .before .before .before .before .before .before .loop .out) (c .before .before .before .before .before .before .before .before .before .before .before .before .before .before .before .before .before .before .before .before .before .before .before .before .before .before .before .before .before .before .args .depths) (c .before .before .before .before .before .before .before .before .before .before .before .before .before .before .before .before .before .before .before .before .before .before .before .before .before .before .loop .place .0) (inner (orderOf (c .before .before .before .before .before .before .before .before .before .before .before .before .before .before .before .before .before .before .before .before .before .before .before .before .before .before .before .before .before .before .args .order)) (c .before .before .before .before .before .before .before .before .before .before .before .before .before .before .before .before .before .before .before .before .before .before .before .before .before .before .before .before .before .before .args .level) (c .before .before .before .before .before .before .before .before .before .before .before .before .before .before .before .before .before .before .before .before .before .at-level .result) (c .before .before .before .before .before .before .before .before .before .before .before .before .before .before .before .before .before .before .before .before .before .before .before .before .before .before .before .before .before .before .args .depths) (drop (c .before .before .before .before .before .before .before .before .before .before .before .before .before .before .before .before .before .before .before .before .before .before .before .before .before .before .loop .index) (now (c .before .before .before .before .before .before .before .before .before .before .before .before .before .before .before .before .before .before .before .before .before .before .before .before .before .before .before .before .before .before .args .table)))) (parts-inner (orderOf (c .before .before .before .before .before .before .before .before .before .before .before .before .before .before .before .before .before .before .before .before .before .before .before .before .before .before .before .before .before .before .args .order)) (tag-at t (c .before .before .before .before .before .before .before .before .before .before .before .before .before .before .before .before .before .before .before .before .before)) (c .before .before .before .before .before .before .before .before .before .before .before .before .before .before .before .before .before .before .before .before .before .before .before .before .before .before .loop .out) (c .before .before .before .before .before .before .before .before .before .before .before .before .before .before .before .before .before .before .before .before .before .before .before .before .before .before .before .before .before .before .args .depths) (c .before .before .before .before .before .before .before .before .before .before .before .before .before .before .before .before .before .before .before .before .before .before .before .before .before .before .loop .place .0) (holds-at t (c .before .before .before .before .before .before .before .before .before .before .before .before .before .before .before .before .before .before .before)) (some-at t (c .before .before .before .before .before .before .before .before .before .before .before .before .before .before .before .before .before .before))) (c .before .before .before .before .before .shut .last .0) _ _ (held-at t (c .before)) in
+    (c .before .before .before .before .before .shut .kept .0 ∙ c .before .before .before .before .before .before .before .before .before .write-list .kept .1 .1 .1 .0 ∙ c .before .before .before .before .before .before .before .before .before .before .before .before .before .before .before .before .begin-tag .kept .1 .1 .1 .0 ∙ c .before .before .before .before .before .before .before .before .before .before .before .before .before .before .before .before .before .before .before .before .before .before .before .before .before .before .loop .inv .0, x .2, x .0, c .before .before .before .before .before .before .before .before .before .before .before .before .before .before .before .before .before .before .before .before .before .before .before .before .before .before .loop .inv .3 ∙ held-more (orderOf (c .before .before .before .before .before .before .before .before .before .before .before .before .before .before .before .before .before .before .before .before .before .before .before .before .before .before .before .before .before .before .args .order)) (tag-at t (c .before .before .before .before .before .before .before .before .before .before .before .before .before .before .before .before .before .before .before .before .before)) (c .before .before .before .before .before .before .before .before .before .before .before .before .before .before .before .before .before .before .before .before .before .before .before .before .before .before .loop .out) (c .before .before .before .before .before .before .before .before .before .before .before .before .before .before .before .before .before .before .before .before .before .before .before .before .before .before .before .before .before .before .args .depths) (c .before .before .before .before .before .before .before .before .before .before .before .before .before .before .before .before .before .before .before .before .before .before .before .before .before .before .loop .place .0) (holds-at t (c .before .before .before .before .before .before .before .before .before .before .before .before .before .before .before .before .before .before .before)) (some-at t (c .before .before .before .before .before .before .before .before .before .before .before .before .before .before .before .before .before .before)) (held-at t (c .before)))
 
 write-list-write-leaf-requires : (t : ℕ) → write-list-lts.Need-write-leaf-requires (calls t) (write-list-at t) write-list.Post write-list-Inv-loop write-list-μ-loop
 write-list-write-leaf-requires t c κs = (c .before .before .before .before .before .before .before .before .loop .inv .1, c .before .before .before .before .before .before .before .loop-test .taken, refl, omega (arith, c .before .before .before .before .before .if1 .left))
@@ -202,32 +203,32 @@ write-list-enum-told-3 : (t : ℕ) → write-list-lts.Need-enum-told-3 (calls t)
 write-list-enum-told-3 t c = search needs
 
 write-list-same-length-5 : (t : ℕ) → write-list-lts.Need-same-length-5 (calls t) (write-list-at t) write-list.Post write-list-Inv-loop write-list-μ-loop
-write-list-same-length-5 t c = c .before .before .before .before .write-leaf .kept .1 .1 .0 ∙ c .before .before .before .before .before .before .before .before .before .before .before .before .before .loop .inv .0
+write-list-same-length-5 t c = c .before .before .before .before .write-leaf .kept .1 .1 .1 .0 ∙ c .before .before .before .before .before .before .before .before .before .before .before .before .before .loop .inv .0
 
 write-list-returns-5 : (t : ℕ) → write-list-lts.Need-returns-5 (calls t) (write-list-at t) write-list.Post write-list-Inv-loop write-list-μ-loop
-write-list-returns-5 t c = ap (stoodAs (c .before .before .before .before .write-leaf .last .1 .1 .0)) (c .enum-told3 .given .1) ∙ leaf-fell (tag-at t (c .before .before .before .before .before .before .before .before)) (c .before .before .before .before .before .before .before .before .before .before .before .before .before .loop .out) (c .before .before .before .before .before .before .before .before .before .before .before .before .before .before .before .before .before .args .depths) (c .before .before .before .before .before .before .before .before .before .before .before .before .before .loop .place .0) (leaf-at t (c .before .before .before .before .before .before)) (ap (stoodAs (c .before .before .before .before .write-leaf .last .1 .1 .0)) (sym (c .enum-told3 .given .1)) ∙ c .before .before .before .before .write-leaf .ensures) ∙ sym (c .before .before .before .before .before .before .before .before .before .before .before .before .before .loop .inv .3)
+write-list-returns-5 t c = ap (stoodAs (c .before .before .before .before .write-leaf .last .1 .1 .1 .0)) (c .enum-told3 .given .1) ∙ leaf-fell (orderOf (c .before .before .before .before .before .before .before .before .before .before .before .before .before .before .before .before .before .args .order)) (tag-at t (c .before .before .before .before .before .before .before .before)) (c .before .before .before .before .before .before .before .before .before .before .before .before .before .loop .out) (c .before .before .before .before .before .before .before .before .before .before .before .before .before .before .before .before .before .args .depths) (c .before .before .before .before .before .before .before .before .before .before .before .before .before .loop .place .0) (leaf-at t (c .before .before .before .before .before .before)) (ap (stoodAs (c .before .before .before .before .write-leaf .last .1 .1 .1 .0)) (sym (c .enum-told3 .given .1)) ∙ c .before .before .before .before .write-leaf .ensures) ∙ sym (c .before .before .before .before .before .before .before .before .before .before .before .before .before .loop .inv .3)
 
 write-list-ends-list-requires : (t : ℕ) → write-list-lts.Need-ends-list-requires (calls t) (write-list-at t) write-list.Post write-list-Inv-loop write-list-μ-loop
 write-list-ends-list-requires t c κs = tt
 
 write-list-same-length-6 : (t : ℕ) → write-list-lts.Need-same-length-6 (calls t) (write-list-at t) write-list.Post write-list-Inv-loop write-list-μ-loop
-write-list-same-length-6 t c = c .before .before .before .before .before .before .before .write-leaf .kept .1 .1 .0 ∙ c .before .before .before .before .before .before .before .before .before .before .before .before .before .before .before .before .loop .inv .0
+write-list-same-length-6 t c = c .before .before .before .before .before .before .before .write-leaf .kept .1 .1 .1 .0 ∙ c .before .before .before .before .before .before .before .before .before .before .before .before .before .before .before .before .loop .inv .0
 
 write-list-returns-6 : (t : ℕ) → write-list-lts.Need-returns-6 (calls t) (write-list-at t) write-list.Post write-list-Inv-loop write-list-μ-loop
-write-list-returns-6 t c = leaf-last (tag-at t (c .before .before .before .before .before .before .before .before .before .before .before)) (c .before .before .before .before .before .before .before .before .before .before .before .before .before .before .before .before .loop .out) (c .before .before .before .before .before .before .before .before .before .before .before .before .before .before .before .before .before .before .before .before .args .depths) (c .before .before .before .before .before .before .before .before .before .before .before .before .before .before .before .before .loop .place .0) (leaf-at t (c .before .before .before .before .before .before .before .before .before)) (sym (c .before .ends-list .ensures) ∙ c .if4 .taken) (whole-at t (c .before .before .before)) ∙ sym (c .before .before .before .before .before .before .before .before .before .before .before .before .before .before .before .before .loop .inv .3)
+write-list-returns-6 t c = leaf-last (orderOf (c .before .before .before .before .before .before .before .before .before .before .before .before .before .before .before .before .before .before .before .before .args .order)) (tag-at t (c .before .before .before .before .before .before .before .before .before .before .before)) (c .before .before .before .before .before .before .before .before .before .before .before .before .before .before .before .before .loop .out) (c .before .before .before .before .before .before .before .before .before .before .before .before .before .before .before .before .before .before .before .before .args .depths) (c .before .before .before .before .before .before .before .before .before .before .before .before .before .before .before .before .loop .place .0) (leaf-at t (c .before .before .before .before .before .before .before .before .before)) (sym (c .before .ends-list .ensures) ∙ c .if4 .taken) (whole-at t (c .before .before .before)) ∙ sym (c .before .before .before .before .before .before .before .before .before .before .before .before .before .before .before .before .loop .inv .3)
 
 write-list-loop-less-2 : (t : ℕ) → write-list-lts.Need-loop-less-2 (calls t) (write-list-at t) write-list.Post write-list-Inv-loop write-list-μ-loop
-write-list-loop-less-2 t c = let x = tag-index (tag-at t (c .before .before .before .before .before .before .before .before .before .before .before)) (c .before .before .before .before .before .before .before .before .before .before .before .before .before .before .before .before .loop .out) (c .before .before .before .before .before .before .before .before .before .before .before .before .before .before .before .before .before .before .before .before .args .depths) (c .before .before .before .before .before .before .before .before .before .before .before .before .before .before .before .before .loop .place .0) (begun (c .before .before .before .before .before .before .before .before .before .before .before .at-level .result) (drop (c .before .before .before .before .before .before .before .before .before .before .before .before .before .before .before .before .loop .index) (now (c .before .before .before .before .before .before .before .before .before .before .before .before .before .before .before .before .before .before .before .before .args .table)))) (parts-begun (c .before .before .before .before .before .before .before .before .before .before .before .at-level .result) (drop (c .before .before .before .before .before .before .before .before .before .before .before .before .before .before .before .before .loop .index) (now (c .before .before .before .before .before .before .before .before .before .before .before .before .before .before .before .before .before .before .before .before .args .table)))) (c .before .before .before .before .before .before .before .write-leaf .last .1 .1 .0) _ _ (whole-at t (c .before .before .before)) in omega (arith, x .1, x .2)
+write-list-loop-less-2 t c = let x = tag-index (orderOf (c .before .before .before .before .before .before .before .before .before .before .before .before .before .before .before .before .before .before .before .before .args .order)) (tag-at t (c .before .before .before .before .before .before .before .before .before .before .before)) (c .before .before .before .before .before .before .before .before .before .before .before .before .before .before .before .before .loop .out) (c .before .before .before .before .before .before .before .before .before .before .before .before .before .before .before .before .before .before .before .before .args .depths) (c .before .before .before .before .before .before .before .before .before .before .before .before .before .before .before .before .loop .place .0) (begun (orderOf (c .before .before .before .before .before .before .before .before .before .before .before .before .before .before .before .before .before .before .before .before .args .order)) (c .before .before .before .before .before .before .before .before .before .before .before .at-level .result) (drop (c .before .before .before .before .before .before .before .before .before .before .before .before .before .before .before .before .loop .index) (now (c .before .before .before .before .before .before .before .before .before .before .before .before .before .before .before .before .before .before .before .before .args .table)))) (parts-begun (orderOf (c .before .before .before .before .before .before .before .before .before .before .before .before .before .before .before .before .before .before .before .before .args .order)) (c .before .before .before .before .before .before .before .before .before .before .before .at-level .result) (drop (c .before .before .before .before .before .before .before .before .before .before .before .before .before .before .before .before .loop .index) (now (c .before .before .before .before .before .before .before .before .before .before .before .before .before .before .before .before .before .before .before .before .args .table)))) (c .before .before .before .before .before .before .before .write-leaf .last .1 .1 .1 .0) _ _ (whole-at t (c .before .before .before)) in omega (arith, x .1, x .2)
 
 write-list-loop-again-2 : (t : ℕ) → write-list-lts.Need-loop-again-2 (calls t) (write-list-at t) write-list.Post write-list-Inv-loop write-list-μ-loop
-write-list-loop-again-2 t c = let x = tag-index (tag-at t (c .before .before .before .before .before .before .before .before .before .before .before)) (c .before .before .before .before .before .before .before .before .before .before .before .before .before .before .before .before .loop .out) (c .before .before .before .before .before .before .before .before .before .before .before .before .before .before .before .before .before .before .before .before .args .depths) (c .before .before .before .before .before .before .before .before .before .before .before .before .before .before .before .before .loop .place .0) (begun (c .before .before .before .before .before .before .before .before .before .before .before .at-level .result) (drop (c .before .before .before .before .before .before .before .before .before .before .before .before .before .before .before .before .loop .index) (now (c .before .before .before .before .before .before .before .before .before .before .before .before .before .before .before .before .before .before .before .before .args .table)))) (parts-begun (c .before .before .before .before .before .before .before .before .before .before .before .at-level .result) (drop (c .before .before .before .before .before .before .before .before .before .before .before .before .before .before .before .before .loop .index) (now (c .before .before .before .before .before .before .before .before .before .before .before .before .before .before .before .before .before .before .before .before .args .table)))) (c .before .before .before .before .before .before .before .write-leaf .last .1 .1 .0) _ _ (whole-at t (c .before .before .before)) in
-    (c .before .before .before .before .before .before .before .write-leaf .kept .1 .1 .0 ∙ c .before .before .before .before .before .before .before .before .before .before .before .before .before .before .before .before .loop .inv .0, x .2, x .0, c .before .before .before .before .before .before .before .before .before .before .before .before .before .before .before .before .loop .inv .3 ∙ leaf-more (tag-at t (c .before .before .before .before .before .before .before .before .before .before .before)) (c .before .before .before .before .before .before .before .before .before .before .before .before .before .before .before .before .loop .out) (c .before .before .before .before .before .before .before .before .before .before .before .before .before .before .before .before .before .before .before .before .args .depths) (c .before .before .before .before .before .before .before .before .before .before .before .before .before .before .before .before .loop .place .0) (leaf-at t (c .before .before .before .before .before .before .before .before .before)) (sym (c .before .ends-list .ensures) ∙ c .if4 .left) (whole-at t (c .before .before .before)))
+write-list-loop-again-2 t c = let x = tag-index (orderOf (c .before .before .before .before .before .before .before .before .before .before .before .before .before .before .before .before .before .before .before .before .args .order)) (tag-at t (c .before .before .before .before .before .before .before .before .before .before .before)) (c .before .before .before .before .before .before .before .before .before .before .before .before .before .before .before .before .loop .out) (c .before .before .before .before .before .before .before .before .before .before .before .before .before .before .before .before .before .before .before .before .args .depths) (c .before .before .before .before .before .before .before .before .before .before .before .before .before .before .before .before .loop .place .0) (begun (orderOf (c .before .before .before .before .before .before .before .before .before .before .before .before .before .before .before .before .before .before .before .before .args .order)) (c .before .before .before .before .before .before .before .before .before .before .before .at-level .result) (drop (c .before .before .before .before .before .before .before .before .before .before .before .before .before .before .before .before .loop .index) (now (c .before .before .before .before .before .before .before .before .before .before .before .before .before .before .before .before .before .before .before .before .args .table)))) (parts-begun (orderOf (c .before .before .before .before .before .before .before .before .before .before .before .before .before .before .before .before .before .before .before .before .args .order)) (c .before .before .before .before .before .before .before .before .before .before .before .at-level .result) (drop (c .before .before .before .before .before .before .before .before .before .before .before .before .before .before .before .before .loop .index) (now (c .before .before .before .before .before .before .before .before .before .before .before .before .before .before .before .before .before .before .before .before .args .table)))) (c .before .before .before .before .before .before .before .write-leaf .last .1 .1 .1 .0) _ _ (whole-at t (c .before .before .before)) in
+    (c .before .before .before .before .before .before .before .write-leaf .kept .1 .1 .1 .0 ∙ c .before .before .before .before .before .before .before .before .before .before .before .before .before .before .before .before .loop .inv .0, x .2, x .0, c .before .before .before .before .before .before .before .before .before .before .before .before .before .before .before .before .loop .inv .3 ∙ leaf-more (orderOf (c .before .before .before .before .before .before .before .before .before .before .before .before .before .before .before .before .before .before .before .before .args .order)) (tag-at t (c .before .before .before .before .before .before .before .before .before .before .before)) (c .before .before .before .before .before .before .before .before .before .before .before .before .before .before .before .before .loop .out) (c .before .before .before .before .before .before .before .before .before .before .before .before .before .before .before .before .before .before .before .before .args .depths) (c .before .before .before .before .before .before .before .before .before .before .before .before .before .before .before .before .loop .place .0) (leaf-at t (c .before .before .before .before .before .before .before .before .before)) (sym (c .before .ends-list .ensures) ∙ c .if4 .left) (whole-at t (c .before .before .before)))
 
 write-list-same-length-7 : (t : ℕ) → write-list-lts.Need-same-length-7 (calls t) (write-list-at t) write-list.Post write-list-Inv-loop write-list-μ-loop
 write-list-same-length-7 t c = c .before .loop .inv .0
 
 write-list-returns-7 : (t : ℕ) → write-list-lts.Need-returns-7 (calls t) (write-list-at t) write-list.Post write-list-Inv-loop write-list-μ-loop
-write-list-returns-7 t c = rest-none (c .before .before .before .before .before .args .level) (now (c .before .before .before .before .before .args .table)) (c .before .loop .out) (c .before .before .before .before .before .args .depths) (c .before .loop .place .0) (c .before .loop .index) (c .loop-test .left) ∙ sym (c .before .loop .inv .3)
+write-list-returns-7 t c = rest-none (orderOf (c .before .before .before .before .before .args .order)) (c .before .before .before .before .before .args .level) (now (c .before .before .before .before .before .args .table)) (c .before .loop .out) (c .before .before .before .before .before .args .depths) (c .before .loop .place .0) (c .before .loop .index) (c .loop-test .left) ∙ sym (c .before .loop .inv .3)
 
 pub +write-list-spec : {M : Type 1} → statement M
 +write-list-spec = close μ-write-list λ t. write-list-lts.spec (calls t)

@@ -1,5 +1,6 @@
 use denote.Ref.{now}
 use native.Mathlib.Omega.{arith}
+use Rattle.bits.specs.Places.{orderOf}
 use Rattle.classes.specs.declared.Class.the-variants.{Opaque, End, Container, Fixed, Attributes}
 use Rattle.write_lists.proofs.ValueLaws.{values-of, end-none, end-some}
 use borrow.Author.Needs.{needs}
@@ -42,31 +43,31 @@ same-length : tie.Need-same-length
 same-length c = search needs
 
 returns : tie.Need-returns
-returns c = values-of (now (c .before .before .before .before .before .before .before .before .args .out)) (c .before .before .before .before .before .before .before .before .args .at .0) (now (c .before .before .before .before .before .before .before .before .args .values)) (c .before .before .before .before .before .before .before .before .args .code) Opaque (c .before .before .before .before .enum-told .given .1) (c .before .before .copy-bytes .ensures)
+returns c = values-of (orderOf (c .before .before .before .before .before .before .before .before .args .order)) (now (c .before .before .before .before .before .before .before .before .args .out)) (c .before .before .before .before .before .before .before .before .args .at .0) (now (c .before .before .before .before .before .before .before .before .args .values)) (c .before .before .before .before .before .before .before .before .args .code) Opaque (c .before .before .before .before .enum-told .given .1) (c .before .before .copy-bytes .ensures)
 
 returns-2 : tie.Need-returns-2
-returns-2 c = values-of (now (c .before .before .before .before .before .args .out)) (c .before .before .before .before .before .args .at .0) (now (c .before .before .before .before .before .args .values)) (c .before .before .before .before .before .args .code) End (c .before .enum-told2 .given .1) (end-none (now (c .before .before .before .before .before .args .out)) (c .before .before .before .before .before .args .at .0) (now (c .before .before .before .before .before .args .values)) (c .before .before .before .before .before .args .code) (c .before .before .before .before .before .pre) (omega (arith, c .if1 .taken)))
+returns-2 c = values-of (orderOf (c .before .before .before .before .before .args .order)) (now (c .before .before .before .before .before .args .out)) (c .before .before .before .before .before .args .at .0) (now (c .before .before .before .before .before .args .values)) (c .before .before .before .before .before .args .code) End (c .before .enum-told2 .given .1) (end-none (orderOf (c .before .before .before .before .before .args .order)) (now (c .before .before .before .before .before .args .out)) (c .before .before .before .before .before .args .at .0) (now (c .before .before .before .before .before .args .values)) (c .before .before .before .before .before .args .code) (c .before .before .before .before .before .pre) (omega (arith, c .if1 .taken)))
 
 returns-3 : tie.Need-returns-3
-returns-3 c = values-of (now (c .before .before .before .before .before .args .out)) (c .before .before .before .before .before .args .at .0) (now (c .before .before .before .before .before .args .values)) (c .before .before .before .before .before .args .code) End (c .before .enum-told2 .given .1) (end-some (now (c .before .before .before .before .before .args .out)) (c .before .before .before .before .before .args .at .0) (now (c .before .before .before .before .before .args .values)) (c .before .before .before .before .before .args .code) (c .if1 .left))
+returns-3 c = values-of (orderOf (c .before .before .before .before .before .args .order)) (now (c .before .before .before .before .before .args .out)) (c .before .before .before .before .before .args .at .0) (now (c .before .before .before .before .before .args .values)) (c .before .before .before .before .before .args .code) End (c .before .enum-told2 .given .1) (end-some (orderOf (c .before .before .before .before .before .args .order)) (now (c .before .before .before .before .before .args .out)) (c .before .before .before .before .before .args .at .0) (now (c .before .before .before .before .before .args .values)) (c .before .before .before .before .before .args .code) (c .if1 .left))
 
 same-length-2 : tie.Need-same-length-2
 same-length-2 c = search needs
 
 returns-4 : tie.Need-returns-4
-returns-4 c = values-of (now (c .before .before .before .before .before .before .before .before .args .out)) (c .before .before .before .before .before .before .before .before .args .at .0) (now (c .before .before .before .before .before .before .before .before .args .values)) (c .before .before .before .before .before .before .before .before .args .code) Container (c .before .before .before .before .enum-told3 .given .1) (c .before .before .write-front .ensures)
+returns-4 c = values-of (orderOf (c .before .before .before .before .before .before .before .before .args .order)) (now (c .before .before .before .before .before .before .before .before .args .out)) (c .before .before .before .before .before .before .before .before .args .at .0) (now (c .before .before .before .before .before .before .before .before .args .values)) (c .before .before .before .before .before .before .before .before .args .code) Container (c .before .before .before .before .enum-told3 .given .1) (c .before .before .write-front .ensures)
 
 same-length-3 : tie.Need-same-length-3
 same-length-3 c = search needs
 
 returns-5 : tie.Need-returns-5
-returns-5 c = values-of (now (c .before .before .before .before .before .before .before .before .args .out)) (c .before .before .before .before .before .before .before .before .args .at .0) (now (c .before .before .before .before .before .before .before .before .args .values)) (c .before .before .before .before .before .before .before .before .args .code) Fixed (c .before .before .before .before .enum-told4 .given .1) (c .before .before .write-body .ensures)
+returns-5 c = values-of (orderOf (c .before .before .before .before .before .before .before .before .args .order)) (now (c .before .before .before .before .before .before .before .before .args .out)) (c .before .before .before .before .before .before .before .before .args .at .0) (now (c .before .before .before .before .before .before .before .before .args .values)) (c .before .before .before .before .before .before .before .before .args .code) Fixed (c .before .before .before .before .enum-told4 .given .1) (c .before .before .write-body .ensures)
 
 same-length-4 : tie.Need-same-length-4
 same-length-4 c = search needs
 
 returns-6 : tie.Need-returns-6
-returns-6 c = values-of (now (c .before .before .before .before .before .before .before .before .args .out)) (c .before .before .before .before .before .before .before .before .args .at .0) (now (c .before .before .before .before .before .before .before .before .args .values)) (c .before .before .before .before .before .before .before .before .args .code) Attributes (c .before .before .before .before .enum-told5 .given .1) (c .before .before .write-body2 .ensures)
+returns-6 c = values-of (orderOf (c .before .before .before .before .before .before .before .before .args .order)) (now (c .before .before .before .before .before .before .before .before .args .out)) (c .before .before .before .before .before .before .before .before .args .at .0) (now (c .before .before .before .before .before .before .before .before .args .values)) (c .before .before .before .before .before .before .before .before .args .code) Attributes (c .before .before .before .before .enum-told5 .given .1) (c .before .before .write-body2 .ensures)
 
 pub write-tag-values-spec : {M : Type 1} → statement M
 write-tag-values-spec =

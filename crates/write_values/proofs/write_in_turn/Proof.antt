@@ -4,6 +4,7 @@ use mathlib.Core.Path.{_∙_}
 use native.Mathlib.Omega.{arith}
 use borrow.Author.Needs.{needs}
 use denote.Ref.{now}
+use Rattle.bits.specs.Places.{orderOf}
 use Rattle.format.specs.Formats.{times}
 use Rattle.format.specs.Bodies.{value}
 use Rattle.attributes.specs.Rows.{typeOf}
@@ -12,13 +13,13 @@ use Rattle.write_values.proofs.write_in_turn.Statement.{statement}
 use Rattle.write_values.proofs.write_in_turn.Tie as tie
 
 abbrev Inv-loop : tie.InvT-loop
-Inv-loop what count out₀ values from cur₀ index₀ left₀ out cur index left = Going values out₀ cur₀ from (times count (value (typeOf what))) out cur index (times left (value (typeOf what)))
+Inv-loop order what count out₀ values from cur₀ index₀ left₀ out cur index left = Going (orderOf order) values out₀ cur₀ from (times count (value (typeOf what))) out cur index (times left (value (typeOf what)))
 
 abbrev μ-loop : tie.MeasureT-loop
-μ-loop what count out₀ values from cur₀ index₀ left₀ out cur index left = left
+μ-loop order what count out₀ values from cur₀ index₀ left₀ out cur index left = left
 
 loop-holds : tie.Need-loop-holds Inv-loop μ-loop
-loop-holds c = going-none (now (c .before .before .args .values)) (now (c .before .before .args .out)) (c .before .before .args .sink) (c .before .before .args .from) (times (c .before .before .args .count) (value (typeOf (c .before .before .args .what)))) (c .before .before .pre)
+loop-holds c = going-none (orderOf (c .before .before .args .order)) (now (c .before .before .args .values)) (now (c .before .before .args .out)) (c .before .before .args .sink) (c .before .before .args .from) (times (c .before .before .args .count) (value (typeOf (c .before .before .args .what)))) (c .before .before .pre)
 
 write-value-requires : tie.Need-write-value-requires Inv-loop μ-loop
 write-value-requires c κs = c .before .before .loop .inv .fine
@@ -30,10 +31,10 @@ enum-told : tie.Need-enum-told Inv-loop μ-loop
 enum-told c = search needs
 
 same-length : tie.Need-same-length Inv-loop μ-loop
-same-length c = c .before .before .before .before .write-value .kept .1 .0 ∙ c .before .before .before .before .before .before .before .loop .inv .size
+same-length c = c .before .before .before .before .write-value .kept .1 .1 .0 ∙ c .before .before .before .before .before .before .before .loop .inv .size
 
 returns : tie.Need-returns Inv-loop μ-loop
-returns c = going-stop (c .before .before .before .before .before .before .before .loop .inv) (value (typeOf (c .before .before .before .before .before .before .before .before .before .before .args .what))) (times (c .before .before .before .before .before .before .before .loop .left - 1) (value (typeOf (c .before .before .before .before .before .before .before .before .before .before .args .what)))) (times-more (value (typeOf (c .before .before .before .before .before .before .before .before .before .before .args .what))) (c .before .before .before .before .before .before .before .loop .left) (c .before .before .before .before .before .before .loop-test .taken)) (c .before .before .before .before .write-value .last .1 .0) (c .before .before .before .before .write-value .result) (c .before .before .before .before .write-value .ensures) (c .enum-told .given .1)
+returns c = going-stop (c .before .before .before .before .before .before .before .loop .inv) (value (typeOf (c .before .before .before .before .before .before .before .before .before .before .args .what))) (times (c .before .before .before .before .before .before .before .loop .left - 1) (value (typeOf (c .before .before .before .before .before .before .before .before .before .before .args .what)))) (times-more (value (typeOf (c .before .before .before .before .before .before .before .before .before .before .args .what))) (c .before .before .before .before .before .before .before .loop .left) (c .before .before .before .before .before .before .loop-test .taken)) (c .before .before .before .before .write-value .last .1 .1 .0) (c .before .before .before .before .write-value .result) (c .before .before .before .before .write-value .ensures) (c .enum-told .given .1)
 
 sub-left : tie.Need-sub-left Inv-loop μ-loop
 sub-left c = omega (arith, c .before .before .before .before .before .before .before .loop-test .taken)
@@ -42,7 +43,7 @@ loop-less : tie.Need-loop-less Inv-loop μ-loop
 loop-less c = omega (arith, c .before .before .before .before .before .before .before .loop-test .taken)
 
 loop-again : tie.Need-loop-again Inv-loop μ-loop
-loop-again c = going-next (c .before .before .before .before .before .before .before .before .loop .inv) (value (typeOf (c .before .before .before .before .before .before .before .before .before .before .before .args .what))) (times (c .before .before .before .before .before .before .before .before .loop .left - 1) (value (typeOf (c .before .before .before .before .before .before .before .before .before .before .before .args .what)))) (times-more (value (typeOf (c .before .before .before .before .before .before .before .before .before .before .before .args .what))) (c .before .before .before .before .before .before .before .before .loop .left) (c .before .before .before .before .before .before .before .loop-test .taken)) (c .before .before .before .before .before .write-value .last .1 .0) (c .before .before .before .before .before .write-value .result) (c .before .before .before .before .before .write-value .ensures) (c .before .before .before .before .before .write-value .kept .1 .0) (c .before .r .given .0 .0) (c .before .r .given .0 .1 .0) (c .before .r .given .1)
+loop-again c = going-next (c .before .before .before .before .before .before .before .before .loop .inv) (value (typeOf (c .before .before .before .before .before .before .before .before .before .before .before .args .what))) (times (c .before .before .before .before .before .before .before .before .loop .left - 1) (value (typeOf (c .before .before .before .before .before .before .before .before .before .before .before .args .what)))) (times-more (value (typeOf (c .before .before .before .before .before .before .before .before .before .before .before .args .what))) (c .before .before .before .before .before .before .before .before .loop .left) (c .before .before .before .before .before .before .before .loop-test .taken)) (c .before .before .before .before .before .write-value .last .1 .1 .0) (c .before .before .before .before .before .write-value .result) (c .before .before .before .before .before .write-value .ensures) (c .before .before .before .before .before .write-value .kept .1 .1 .0) (c .before .r .given .0 .0) (c .before .r .given .0 .1 .0) (c .before .r .given .1)
 
 same-length-2 : tie.Need-same-length-2 Inv-loop μ-loop
 same-length-2 c = c .before .loop .inv .size

@@ -1,5 +1,6 @@
 -- `write_values::write_path` meets its contract.
 use denote.Ref.{now}
+use Rattle.bits.specs.Places.{orderOf}
 use Rattle.sink.specs.Laying.{at}
 use Rattle.values.specs.Parts.{pathOf}
 use native.Mathlib.Omega.{arith}
@@ -24,22 +25,22 @@ same-length : tie.Need-same-length
 same-length c = search needs
 
 returns : tie.Need-returns
-returns c = let a = c .before .before .before .before .before .before .before .before .args in counted-stop 0 pathOf (now (a .values)) (at (now (a .out)) (a .sink)) (a .from) (c .before .before .before .before .write-one .last .1 .0) (c .before .before .before .before .write-one .result) (c .before .before .before .before .write-one .ensures) (c .enum-told .given .1)
+returns c = let a = c .before .before .before .before .before .before .before .before .args in counted-stop (orderOf (a .order)) 0 pathOf (now (a .values)) (at (now (a .out)) (a .sink)) (a .from) (c .before .before .before .before .write-one .last .1 .1 .0) (c .before .before .before .before .write-one .result) (c .before .before .before .before .write-one .ensures) (c .enum-told .given .1)
 
 mul-write-verbs : tie.Need-mul-write-verbs
-mul-write-verbs c = let a = c .before .before .before .before .before .before .before .before .before .args in let h = counted-inside 0 pathOf (now (a .values)) (at (now (a .out)) (a .sink)) (a .from) (c .before .before .before .before .before .write-one .last .1 .0) (c .before .before .before .before .before .write-one .result) (c .before .before .before .before .before .write-one .ensures) (c .before .r .given .0 .0) (c .before .r .given .0 .1 .0) (c .before .r .given .1) in omega (arith, h)
+mul-write-verbs c = let a = c .before .before .before .before .before .before .before .before .before .args in let h = counted-inside (orderOf (a .order)) 0 pathOf (now (a .values)) (at (now (a .out)) (a .sink)) (a .from) (c .before .before .before .before .before .write-one .last .1 .1 .0) (c .before .before .before .before .before .write-one .result) (c .before .before .before .before .before .write-one .ensures) (c .before .r .given .0 .0) (c .before .r .given .0 .1 .0) (c .before .r .given .1) in omega (arith, h)
 
 shared-slice-read-write-verbs : tie.Need-shared-slice-read-write-verbs
-shared-slice-read-write-verbs c = let a = c .before .before .before .before .before .before .before .before .before .before .args in counted-inside 0 pathOf (now (a .values)) (at (now (a .out)) (a .sink)) (a .from) (c .before .before .before .before .before .before .write-one .last .1 .0) (c .before .before .before .before .before .before .write-one .result) (c .before .before .before .before .before .before .write-one .ensures) (c .before .before .r .given .0 .0) (c .before .before .r .given .0 .1 .0) (c .before .before .r .given .1)
+shared-slice-read-write-verbs c = let a = c .before .before .before .before .before .before .before .before .before .before .args in counted-inside (orderOf (a .order)) 0 pathOf (now (a .values)) (at (now (a .out)) (a .sink)) (a .from) (c .before .before .before .before .before .before .write-one .last .1 .1 .0) (c .before .before .before .before .before .before .write-one .result) (c .before .before .before .before .before .before .write-one .ensures) (c .before .before .r .given .0 .0) (c .before .before .r .given .0 .1 .0) (c .before .before .r .given .1)
 
 write-verbs-requires : tie.Need-write-verbs-requires
-write-verbs-requires c κs = let a = c .before .before .before .before .before .before .before .before .before .before .before .args in (ran-fine (now (a .values)) (now (a .out)) (a .sink) (a .from) (formatOf (Count 0)) (c .before .before .before .before .before .before .before .write-one .last .1 .0) (c .before .before .before .before .before .before .before .write-one .result) (c .before .before .before .before .before .before .before .before .before .before .before .pre) (c .before .before .before .before .before .before .before .write-one .ensures) (c .before .before .before .r .given .0 .0) (c .before .before .before .r .given .0 .1 .0) (c .before .before .before .r .given .1), counted-most 0 pathOf (now (a .values)) (at (now (a .out)) (a .sink)) (a .from) (c .before .before .before .before .before .before .before .write-one .last .1 .0) (c .before .before .before .before .before .before .before .write-one .result) (c .before .before .before .before .before .before .before .write-one .ensures) (c .before .before .before .r .given .0 .0) (c .before .before .before .r .given .0 .1 .0) (c .before .before .before .r .given .1))
+write-verbs-requires c κs = let a = c .before .before .before .before .before .before .before .before .before .before .before .args in (ran-fine (orderOf (a .order)) (now (a .values)) (now (a .out)) (a .sink) (a .from) (formatOf (Count 0)) (c .before .before .before .before .before .before .before .write-one .last .1 .1 .0) (c .before .before .before .before .before .before .before .write-one .result) (c .before .before .before .before .before .before .before .before .before .before .before .pre) (c .before .before .before .before .before .before .before .write-one .ensures) (c .before .before .before .r .given .0 .0) (c .before .before .before .r .given .0 .1 .0) (c .before .before .before .r .given .1), counted-most (orderOf (a .order)) 0 pathOf (now (a .values)) (at (now (a .out)) (a .sink)) (a .from) (c .before .before .before .before .before .before .before .write-one .last .1 .1 .0) (c .before .before .before .before .before .before .before .write-one .result) (c .before .before .before .before .before .before .before .write-one .ensures) (c .before .before .before .r .given .0 .0) (c .before .before .before .r .given .0 .1 .0) (c .before .before .before .r .given .1))
 
 same-length-2 : tie.Need-same-length-2
 same-length-2 c = search needs
 
 returns-2 : tie.Need-returns-2
-returns-2 c = let a = c .before .before .before .before .before .before .before .before .before .before .before .before .before .before .args in counted-on 0 pathOf (now (a .values)) (at (now (a .out)) (a .sink)) (a .from) (c .before .before .before .before .before .before .before .before .before .before .write-one .last .1 .0) (c .before .before .before .before .before .before .before .before .before .before .write-one .result) (c .before .before .before .before .before .before .before .before .before .before .write-one .ensures) (c .before .before .before .before .before .before .r .given .0 .0) (c .before .before .before .before .before .before .r .given .0 .1 .0) (c .before .before .before .before .before .before .r .given .1) (c .before .before .write-verbs .ensures)
+returns-2 c = let a = c .before .before .before .before .before .before .before .before .before .before .before .before .before .before .args in counted-on (orderOf (a .order)) 0 pathOf (now (a .values)) (at (now (a .out)) (a .sink)) (a .from) (c .before .before .before .before .before .before .before .before .before .before .write-one .last .1 .1 .0) (c .before .before .before .before .before .before .before .before .before .before .write-one .result) (c .before .before .before .before .before .before .before .before .before .before .write-one .ensures) (c .before .before .before .before .before .before .r .given .0 .0) (c .before .before .before .before .before .before .r .given .0 .1 .0) (c .before .before .before .before .before .before .r .given .1) (c .before .before .write-verbs .ensures)
 
 pub write-path-spec : {M : Type 1} → statement M
 write-path-spec =

@@ -1,5 +1,6 @@
 -- `write_values::write_ratio` meets its contract.
 use denote.Ref.{now}
+use Rattle.bits.specs.Places.{orderOf}
 use Rattle.sink.specs.Laying.{at}
 use Rattle.format.specs.Items.{u32}
 use Rattle.items.specs.Kinds.{formatOf}
@@ -22,16 +23,16 @@ same-length : tie.Need-same-length
 same-length c = search needs
 
 returns : tie.Need-returns
-returns c = let a = c .before .before .before .before .before .before .before .before .args in then-off (now (a .values)) (at (now (a .out)) (a .sink)) (a .from) (formatOf I32) (λ xs. u32) (c .before .before .before .before .write-one .last .1 .0) (c .before .before .before .before .write-one .result) (c .before .before .before .before .write-one .ensures) (c .enum-told .given .1)
+returns c = let a = c .before .before .before .before .before .before .before .before .args in then-off (orderOf (a .order)) (now (a .values)) (at (now (a .out)) (a .sink)) (a .from) (formatOf I32) (λ xs. u32) (c .before .before .before .before .write-one .last .1 .1 .0) (c .before .before .before .before .write-one .result) (c .before .before .before .before .write-one .ensures) (c .enum-told .given .1)
 
 write-one-requires-2 : tie.Need-write-one-requires-2
-write-one-requires-2 c κs = let a = c .before .before .before .before .before .before .before .before .before .before .args in ran-fine (now (a .values)) (now (a .out)) (a .sink) (a .from) (formatOf I32) (c .before .before .before .before .before .before .write-one .last .1 .0) (c .before .before .before .before .before .before .write-one .result) (c .before .before .before .before .before .before .before .before .before .before .pre) (c .before .before .before .before .before .before .write-one .ensures) (c .before .before .r .given .0 .0) (c .before .before .r .given .0 .1 .0) (c .before .before .r .given .1)
+write-one-requires-2 c κs = let a = c .before .before .before .before .before .before .before .before .before .before .args in ran-fine (orderOf (a .order)) (now (a .values)) (now (a .out)) (a .sink) (a .from) (formatOf I32) (c .before .before .before .before .before .before .write-one .last .1 .1 .0) (c .before .before .before .before .before .before .write-one .result) (c .before .before .before .before .before .before .before .before .before .before .pre) (c .before .before .before .before .before .before .write-one .ensures) (c .before .before .r .given .0 .0) (c .before .before .r .given .0 .1 .0) (c .before .before .r .given .1)
 
 same-length-2 : tie.Need-same-length-2
 same-length-2 c = search needs
 
 returns-2 : tie.Need-returns-2
-returns-2 c = let a = c .before .before .before .before .before .before .before .before .before .before .before .before .before .args in then-on (now (a .values)) (at (now (a .out)) (a .sink)) (a .from) (formatOf I32) (λ xs. u32) (c .before .before .before .before .before .before .before .before .before .write-one .last .1 .0) (c .before .before .before .before .before .before .before .before .before .write-one .result) (c .before .before .before .before .before .before .before .before .before .write-one .ensures) (c .before .before .before .before .before .r .given .0 .0) (c .before .before .before .before .before .r .given .0 .1 .0) (c .before .before .before .before .before .r .given .1) (c .before .before .write-one2 .ensures)
+returns-2 c = let a = c .before .before .before .before .before .before .before .before .before .before .before .before .before .args in then-on (orderOf (a .order)) (now (a .values)) (at (now (a .out)) (a .sink)) (a .from) (formatOf I32) (λ xs. u32) (c .before .before .before .before .before .before .before .before .before .write-one .last .1 .1 .0) (c .before .before .before .before .before .before .before .before .before .write-one .result) (c .before .before .before .before .before .before .before .before .before .write-one .ensures) (c .before .before .before .before .before .r .given .0 .0) (c .before .before .before .before .before .r .given .0 .1 .0) (c .before .before .before .before .before .r .given .1) (c .before .before .write-one2 .ensures)
 
 pub write-ratio-spec : {M : Type 1} → statement M
 write-ratio-spec =

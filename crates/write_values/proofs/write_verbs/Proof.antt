@@ -1,5 +1,6 @@
 -- `write_values::write_verbs` meets its contract.
 use denote.Ref.{now}
+use Rattle.bits.specs.Places.{orderOf}
 use Rattle.sink.specs.Laying.{at}
 use native.Mathlib.Omega.{arith}
 use Rattle.format.specs.Formats.{times}
@@ -27,18 +28,18 @@ same-length : tie.Need-same-length
 same-length c = search needs
 
 returns : tie.Need-returns
-returns c = let a = c .before .before .before .before .before .before .before .before .args in then-off (now (a .values)) (at (now (a .out)) (a .sink)) (a .from) (times (a .count) (fieldOf Verb 3)) (λ verbs. scaled (coordinates verbs)) (c .before .before .before .before .write-fields .last .1 .1 .1 .0) (c .before .before .before .before .write-fields .result .put) (c .before .before .before .before .write-fields .ensures .0) (c .enum-told .given .1)
+returns c = let a = c .before .before .before .before .before .before .before .before .args in then-off (orderOf (a .order)) (now (a .values)) (at (now (a .out)) (a .sink)) (a .from) (times (a .count) (fieldOf Verb 3)) (λ verbs. scaled (coordinates verbs)) (c .before .before .before .before .write-fields .last .1 .1 .1 .1 .0) (c .before .before .before .before .write-fields .result .put) (c .before .before .before .before .write-fields .ensures .0) (c .enum-told .given .1)
 
 write-scaled-requires : tie.Need-write-scaled-requires
 write-scaled-requires c κs = let a = c .before .before .before .before .before .before .before .before .before .before .args in
     let h = announces-done Verb (now (a .values)) (a .from) (a .count) (c .before .before .before .before .before .before .write-fields .result .count) (c .before .before .before .before .before .before .write-fields .ensures .1) (c .before .before .r .given .1) in
-    (ran-fine (now (a .values)) (now (a .out)) (a .sink) (a .from) (times (a .count) (fieldOf Verb 3)) (c .before .before .before .before .before .before .write-fields .last .1 .1 .1 .0) (c .before .before .before .before .before .before .write-fields .result .put) (c .before .before .before .before .before .before .before .before .before .before .pre .0) (c .before .before .before .before .before .before .write-fields .ensures .0) (c .before .before .r .given .0 .0) (c .before .before .r .given .0 .1 .0) (c .before .before .r .given .1), omega (arith, h .1, c .before .before .before .before .before .before .before .before .before .before .pre .1))
+    (ran-fine (orderOf (a .order)) (now (a .values)) (now (a .out)) (a .sink) (a .from) (times (a .count) (fieldOf Verb 3)) (c .before .before .before .before .before .before .write-fields .last .1 .1 .1 .1 .0) (c .before .before .before .before .before .before .write-fields .result .put) (c .before .before .before .before .before .before .before .before .before .before .pre .0) (c .before .before .before .before .before .before .write-fields .ensures .0) (c .before .before .r .given .0 .0) (c .before .before .r .given .0 .1 .0) (c .before .before .r .given .1), omega (arith, h .1, c .before .before .before .before .before .before .before .before .before .before .pre .1))
 
 same-length-2 : tie.Need-same-length-2
 same-length-2 c = search needs
 
 returns-2 : tie.Need-returns-2
-returns-2 c = let a = c .before .before .before .before .before .before .before .before .before .before .before .before .before .args in verbs-done (now (a .values)) (at (now (a .out)) (a .sink)) (a .from) (a .count) (c .before .before .before .before .before .before .before .before .before .write-fields .result .count) (c .before .before .before .before .before .before .before .before .before .write-fields .last .1 .1 .1 .0) (c .before .before .before .before .before .before .before .before .before .write-fields .result .put) (c .before .before .before .before .before .before .before .before .before .write-fields .ensures .0) (c .before .before .before .before .before .before .before .before .before .write-fields .ensures .1) (c .before .before .before .before .before .r .given .0 .0) (c .before .before .before .before .before .r .given .0 .1 .0) (c .before .before .before .before .before .r .given .1) (c .before .before .write-scaled .ensures)
+returns-2 c = let a = c .before .before .before .before .before .before .before .before .before .before .before .before .before .args in verbs-done (orderOf (a .order)) (now (a .values)) (at (now (a .out)) (a .sink)) (a .from) (a .count) (c .before .before .before .before .before .before .before .before .before .write-fields .result .count) (c .before .before .before .before .before .before .before .before .before .write-fields .last .1 .1 .1 .1 .0) (c .before .before .before .before .before .before .before .before .before .write-fields .result .put) (c .before .before .before .before .before .before .before .before .before .write-fields .ensures .0) (c .before .before .before .before .before .before .before .before .before .write-fields .ensures .1) (c .before .before .before .before .before .r .given .0 .0) (c .before .before .before .before .before .r .given .0 .1 .0) (c .before .before .before .before .before .r .given .1) (c .before .before .write-scaled .ensures)
 
 pub write-verbs-spec : {M : Type 1} → statement M
 write-verbs-spec =

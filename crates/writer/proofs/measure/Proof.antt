@@ -24,7 +24,7 @@ write-list-requires c κs = search needs
 
 -- src/lib.rt:28:1
 returns : tie.Need-returns
-returns c = ap (λ (l : List ℕ). stoodAs l (c .before .write-list .result)) (sym (nothing-lent _ (c .before .write-list .kept .1 .1 .0))) ∙ c .before .write-list .ensures
+returns c = ap (λ (l : List ℕ). stoodAs l (c .before .write-list .result)) (sym (nothing-lent _ (c .before .write-list .kept .1 .1 .1 .0))) ∙ c .before .write-list .ensures
 
 pub measure-spec : {M : Type 1} → statement M
 measure-spec =

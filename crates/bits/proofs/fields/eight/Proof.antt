@@ -1,14 +1,9 @@
--- `bits::fields::eight` meets its contract: a field grows by a byte at a time.
+-- `bits::fields::eight` meets its contract: a field grows by a byte at a time, from the last one down.
 use denote.Ref.{now}
-use Prim.Native.Nat.{_*_, _+_}
-use native.Mathlib.Omega.{arith}
-use Rattle.bits.proofs.FieldLaws.{ub-first, ub-more}
+use Rattle.bits.proofs.FieldLaws.{eight-low}
 use borrow.Author.Needs.{needs}
 use Rattle.bits.proofs.fields.eight.Statement.{statement}
 use Rattle.bits.proofs.fields.eight.Tie as tie
-use Rattle.bits.proofs.fields.eight.Reads as reads
-use Rattle.bits.proofs.fields.eight.Lts as lts
-use Rattle.bits.proofs.wide.Reads as wide-reads
 
 shared-slice-read-wide : tie.Need-shared-slice-read-wide
 shared-slice-read-wide c = search needs
@@ -122,17 +117,7 @@ add-result-7 : tie.Need-add-result-7
 add-result-7 c = search needs
 
 returns : tie.Need-returns
-returns c =
-    let b = now (c .before .before .before .before .before .before .before .before .before .before .before .before .before .before .before .before .before .args .bytes) in
-    let i = c .before .before .before .before .before .before .before .before .before .before .before .before .before .before .before .before .before .args .i in
-    let e0 = ub-first b i (c .before .before .before .before .before .before .before .before .before .before .before .before .before .before .wide .ensures) in
-    let e1 = ub-more b (8 * i) 8 (i + 1) e0 (omega arith) (c .before .before .before .before .before .before .before .before .before .before .before .before .wide2 .ensures) in
-    let e2 = ub-more b (8 * i) 16 (i + 2) e1 (omega arith) (c .before .before .before .before .before .before .before .before .before .before .wide3 .ensures) in
-    let e3 = ub-more b (8 * i) 24 (i + 3) e2 (omega arith) (c .before .before .before .before .before .before .before .before .wide4 .ensures) in
-    let e4 = ub-more b (8 * i) 32 (i + 4) e3 (omega arith) (c .before .before .before .before .before .before .wide5 .ensures) in
-    let e5 = ub-more b (8 * i) 40 (i + 5) e4 (omega arith) (c .before .before .before .before .wide6 .ensures) in
-    let e6 = ub-more b (8 * i) 48 (i + 6) e5 (omega arith) (c .before .before .wide7 .ensures) in
-    ub-more b (8 * i) 56 (i + 7) e6 (omega arith) (c .wide8 .ensures)
+returns c = eight-low (now (c .before .before .before .before .before .before .before .before .before .before .before .before .before .before .before .before .before .args .bytes)) (c .before .before .before .before .before .before .before .before .before .before .before .before .before .before .before .before .before .args .i) (c .before .before .before .before .before .before .before .before .before .before .before .before .before .before .wide .ensures) (c .before .before .before .before .before .before .before .before .before .before .before .before .wide2 .ensures) (c .before .before .before .before .before .before .before .before .before .before .wide3 .ensures) (c .before .before .before .before .before .before .before .before .wide4 .ensures) (c .before .before .before .before .before .before .wide5 .ensures) (c .before .before .before .before .wide6 .ensures) (c .before .before .wide7 .ensures) (c .wide8 .ensures)
 
 pub eight-spec : {M : Type 1} → statement M
 eight-spec =

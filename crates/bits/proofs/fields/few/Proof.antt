@@ -1,46 +1,46 @@
--- `bits::fields::few` meets its contract: the bytes so far are the field of their bits.
+-- `bits::fields::few` meets its contract: the bytes so far are the field of their bits, from the last one down.
 use denote.Ref.{now}
 use Prim.Native.Nat.{_*_, _-_, _≤_}
-use mathlib.Core.Path.{_≡_, sym}
+use mathlib.Core.Path.{_≡_, refl, sym}
 use native.Mathlib.Omega.{arith}
 use lib.ListN.{length}
-use Rattle.format.specs.Bits.{high, ub}
-use Rattle.bits.proofs.FieldLaws.{ub-none, bytes-more, bytes-bound, bytes-all}
+use Rattle.format.specs.Bits.{low, ub}
+use Rattle.bits.proofs.FieldLaws.{bytes-none, bytes-more, bytes-bound, bytes-all}
 use Rattle.bits.proofs.fields.few.Statement.{statement}
 use Rattle.bits.proofs.fields.few.Tie as tie
 
 abbrev Inv-loop : tie.InvT-loop
-Inv-loop bytes count i₀ sum₀ i sum = (i ≤ length bytes) × (sum ≡ ub high bytes 0 (8 * i))
+Inv-loop bytes left₀ sum₀ left sum = (left ≤ length bytes) × (sum ≡ ub low bytes (8 * left) (8 * (length bytes - left)))
 
 abbrev μ-loop : tie.MeasureT-loop
-μ-loop bytes count i₀ sum₀ i sum = length bytes - i
+μ-loop bytes left₀ sum₀ left sum = left
 
 loop-holds : tie.Need-loop-holds Inv-loop μ-loop
-loop-holds c = (omega arith, sym (ub-none (now (c .before .args .bytes)) 0))
+loop-holds c = (omega arith, bytes-none (now (c .before .args .bytes)) (length (now (c .before .args .bytes))))
+
+sub-left : tie.Need-sub-left Inv-loop μ-loop
+sub-left c = omega arith
 
 mul-sum : tie.Need-mul-sum Inv-loop μ-loop
-mul-sum c = omega (arith, bytes-bound (now (c .before .before .before .args .bytes)) (c .before .loop .i) (omega (arith, c .loop-test .taken, c .before .before .before .pre)) (c .before .loop .inv .1))
+mul-sum c = omega (arith, bytes-bound (now (c .before .before .before .args .bytes)) (8 * c .before .loop .left) (8 * (length (now (c .before .before .before .args .bytes)) - c .before .loop .left)) (omega (arith, c .loop-test .taken, c .before .before .before .pre)) (c .before .loop .inv .1))
 
 shared-slice-read-wide : tie.Need-shared-slice-read-wide Inv-loop μ-loop
-shared-slice-read-wide c = c .before .loop-test .taken
+shared-slice-read-wide c = omega (arith, c .before .loop-test .taken, c .before .before .loop .inv .0)
 
 wide-requires : tie.Need-wide-requires Inv-loop μ-loop
 wide-requires c κs = tt
 
 add-sum : tie.Need-add-sum Inv-loop μ-loop
-add-sum c = omega (arith, c .wide .ensures .1, bytes-bound (now (c .before .before .before .before .before .args .bytes)) (c .before .before .before .loop .i) (omega (arith, c .before .before .loop-test .taken, c .before .before .before .before .before .pre)) (c .before .before .before .loop .inv .1))
-
-add-i : tie.Need-add-i Inv-loop μ-loop
-add-i c = omega arith
+add-sum c = omega (arith, c .wide .ensures .1, bytes-bound (now (c .before .before .before .before .before .args .bytes)) (8 * c .before .before .before .loop .left) (8 * (length (now (c .before .before .before .before .before .args .bytes)) - c .before .before .before .loop .left)) (omega (arith, c .before .before .loop-test .taken, c .before .before .before .before .before .pre)) (c .before .before .before .loop .inv .1))
 
 loop-less : tie.Need-loop-less Inv-loop μ-loop
-loop-less c = omega arith
+loop-less c = omega (arith, c .before .before .loop-test .taken)
 
 loop-again : tie.Need-loop-again Inv-loop μ-loop
-loop-again c = (omega (arith, c .before .before .loop-test .taken), bytes-more (now (c .before .before .before .before .before .args .bytes)) (c .before .before .before .loop .i) (c .before .before .before .loop .inv .1) (c .wide .ensures))
+loop-again c = (omega (arith, c .before .before .before .loop .inv .0), bytes-more (now (c .before .before .before .before .before .args .bytes)) (c .before .before .before .loop .left - 1) (c .before .before .before .loop .left) (length (now (c .before .before .before .before .before .args .bytes))) (omega (arith, c .before .before .loop-test .taken)) (c .before .before .before .loop .inv .0) (c .before .before .before .loop .inv .1) (c .wide .ensures))
 
 returns : tie.Need-returns Inv-loop μ-loop
-returns c = bytes-all (now (c .before .before .before .args .bytes)) (c .before .loop .i) (omega (arith, c .before .loop .inv .0, c .loop-test .left)) (c .before .loop .inv .1)
+returns c = bytes-all (now (c .before .before .before .args .bytes)) (c .before .loop .left) (length (now (c .before .before .before .args .bytes))) (omega (arith, c .loop-test .left)) refl (c .before .before .before .pre) (c .before .loop .inv .1)
 
 pub few-spec : {M : Type 1} → statement M
 few-spec =
@@ -49,11 +49,11 @@ few-spec =
     Inv-loop
     μ-loop
     loop-holds
+    sub-left
     mul-sum
     shared-slice-read-wide
     wide-requires
     add-sum
-    add-i
     loop-less
     loop-again
     returns)

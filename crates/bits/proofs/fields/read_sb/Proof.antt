@@ -2,7 +2,7 @@
 use denote.Ref.{now}
 use mathlib.Core.Path.{sym, ap, _∙_}
 use Rattle.format.specs.Items.{signExtend}
-use Rattle.bits.specs.Places.{numOf}
+use Rattle.bits.specs.Places.{numOf, orderOf}
 use Rattle.bits.proofs.FieldLaws.{ub-got, map-num, map-bad}
 use borrow.Author.Needs.{needs}
 use Rattle.bits.proofs.fields.read_sb.Statement.{statement}
@@ -17,7 +17,7 @@ enum-known-r c = search needs
 extend-requires : tie.Need-extend-requires
 extend-requires c κs =
     let a = c .before .before .before .before .before .args in
-    let g = ub-got (now (a .bytes)) (a .at .0) (a .width) (ap numOf (sym (c .before .r .given .1)) ∙ c .before .before .before .read-ub .ensures) in
+    let g = ub-got (orderOf (a .order)) (now (a .bytes)) (a .at .0) (a .width) (ap numOf (sym (c .before .r .given .1)) ∙ c .before .before .before .read-ub .ensures) in
     (c .before .before .before .before .before .pre .1, c .before .before .before .before .before .pre .2, rw (g .value) (g .below))
 
 enum-known-r-2 : tie.Need-enum-known-r-2

@@ -2,6 +2,7 @@
 use denote.Ref.{now}
 use mathlib.Core.Path.{sym}
 use native.Mathlib.Omega.{arith}
+use Rattle.bits.specs.Places.{orderOf}
 use Rattle.bits.proofs.FieldLaws.{ub-in, ub-past}
 use borrow.Author.Needs.{needs}
 use Rattle.bits.proofs.fields.read_ub.Statement.{statement}
@@ -16,7 +17,7 @@ mul-if1 c = search needs
 returns : tie.Need-returns
 returns c =
     let a = c .before .before .args in
-    ub-past (now (a .bytes)) (a .at .0) (a .width) (omega arith)
+    ub-past (orderOf (a .order)) (now (a .bytes)) (a .at .0) (a .width) (omega arith)
 
 field-requires : tie.Need-field-requires
 field-requires c κs = (omega arith, c .before .before .pre .0 .1, c .before .before .pre .1, c .before .before .pre .2)
@@ -24,7 +25,7 @@ field-requires c κs = (omega arith, c .before .before .pre .0 .1, c .before .be
 returns-2 : tie.Need-returns-2
 returns-2 c =
     let a = c .before .before .before .args in
-    ub-in (now (a .bytes)) (a .at .0) (a .width) (omega arith) (sym (c .field .ensures .0))
+    ub-in (orderOf (a .order)) (now (a .bytes)) (a .at .0) (a .width) (omega arith) (sym (c .field .ensures .0))
 
 pub read-ub-spec : {M : Type 1} → statement M
 read-ub-spec = tie.close (tie.spec add-next mul-if1 returns field-requires returns-2)

@@ -4,7 +4,7 @@ use mathlib.Core.Path.{sym, ap, _∙_}
 use native.Mathlib.Omega.{arith}
 use native.Mathlib.Numerals.{add-one}
 use Prim.Native.Nat.{suc}
-use Rattle.bits.specs.Places.{numOf}
+use Rattle.bits.specs.Places.{numOf, orderOf}
 use Rattle.bits.proofs.FieldLaws.{ub-got, map-num, map-bad}
 use borrow.Author.Needs.{needs}
 use Rattle.bits.proofs.fields.read_width.Statement.{statement}
@@ -16,10 +16,10 @@ read-ub-requires c κs = search needs
 enum-known-r : tie.Need-enum-known-r
 enum-known-r c = search needs
 
-add-t8 : tie.Need-add-t8
-add-t8 c =
+add-t9 : tie.Need-add-t9
+add-t9 c =
     let a = c .before .before .before .before .before .args in
-    let g = ub-got (now (a .bytes)) (a .at .0) 5 (ap numOf (sym (c .before .r .given .1)) ∙ c .before .before .before .read-ub .ensures) in
+    let g = ub-got (orderOf (a .order)) (now (a .bytes)) (a .at .0) 5 (ap numOf (sym (c .before .r .given .1)) ∙ c .before .before .before .read-ub .ensures) in
     omega arith
 
 enum-known-r-2 : tie.Need-enum-known-r-2
@@ -33,4 +33,4 @@ returns-2 c = map-bad suc (ap numOf (sym (c .before .r2 .given .1)) ∙ c .befor
 
 pub read-width-spec : {M : Type 1} → statement M
 read-width-spec =
-    tie.close (tie.spec read-ub-requires enum-known-r add-t8 enum-known-r-2 returns returns-2)
+    tie.close (tie.spec read-ub-requires enum-known-r add-t9 enum-known-r-2 returns returns-2)

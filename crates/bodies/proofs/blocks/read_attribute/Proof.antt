@@ -1,5 +1,5 @@
 use denote.Ref.{now}
-use Rattle.format.specs.Bits.{high}
+use Rattle.bits.specs.Places.{orderOf}
 use Rattle.format.specs.Formats.{Item, item}
 use Rattle.format.specs.Bodies.{content}
 use Rattle.attributes.specs.Rows.{attributeOf}
@@ -26,7 +26,7 @@ same-length : tie.Need-same-length
 same-length c = search needs
 
 returns : tie.Need-returns
-returns c = let a = c .before .before .before .before .before .before .before .before .before .before .args in then-one high (now (a .body)) (now (a .table)) (a .from) (item (Item.echo (a .flag))) (λ xs. content (attributeOf (a .attribute)) (a .flag)) (a .at .0) (echo-one (now (a .body)) (a .at .0) (a .flag)) (c .before .before .before .before .before .before .put .ensures) (c .before .before .read-content .ensures)
+returns c = let a = c .before .before .before .before .before .before .before .before .before .before .args in then-one (orderOf (a .order)) (now (a .body)) (now (a .table)) (a .from) (item (Item.echo (a .flag))) (λ xs. content (attributeOf (a .attribute)) (a .flag)) (a .at .0) (echo-one (orderOf (a .order)) (now (a .body)) (a .at .0) (a .flag)) (c .before .before .before .before .before .before .put .ensures) (c .before .before .read-content .ensures)
 
 pub read-attribute-spec : {M : Type 1} → statement M
 read-attribute-spec =

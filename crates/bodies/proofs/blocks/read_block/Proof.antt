@@ -1,7 +1,7 @@
 use denote.Ref.{now}
 use mathlib.Core.Path.{sym, ap, _∙_}
 use native.Mathlib.Omega.{arith}
-use Rattle.format.specs.Bits.{high}
+use Rattle.bits.specs.Places.{orderOf}
 use Rattle.format.specs.Items.{run}
 use Rattle.format.specs.Bodies.{allFlags}
 use Rattle.table.specs.Run.{runLeaves}
@@ -29,10 +29,10 @@ slice-aggregate-read-contents : tie.Need-slice-aggregate-read-contents
 slice-aggregate-read-contents c = search needs
 
 read-contents-requires : tie.Need-read-contents-requires
-read-contents-requires c κs = let a = c .before .before .before .before .before .before .before .before .before .before .args in let n = c .before .before .before .before .before .before .read-flags .kept .1 .1 .1 .0 in (
+read-contents-requires c κs = let a = c .before .before .before .before .before .before .before .before .before .before .args in let n = c .before .before .before .before .before .before .read-flags .kept .1 .1 .1 .1 .0 in (
   c .before .before .before .before .before .before .before .before .before .before .pre .0,
   omega (arith, n),
-  flags-fit (now (a .body)) (rowsFrom (a .rows .start) (a .rows .end)) (flags-read (now (a .body)) _ (a .at .0) (c .before .before .before .before .before .before .before .before .before .before .pre .0) (omega arith) (ap (runLeaves _) (sym (c .before .before .before .r .given .1)) ∙ c .before .before .before .before .before .before .read-flags .ensures)) (c .before .before .before .before .before .before .before .before .before .before .pre .1),
+  flags-fit (orderOf (a .order)) (now (a .body)) (rowsFrom (a .rows .start) (a .rows .end)) (flags-read (orderOf (a .order)) (now (a .body)) _ (a .at .0) (c .before .before .before .before .before .before .before .before .before .before .pre .0) (omega arith) (ap (runLeaves _) (sym (c .before .before .before .r .given .1)) ∙ c .before .before .before .before .before .before .read-flags .ensures)) (c .before .before .before .before .before .before .before .before .before .before .pre .1),
 )
 
 enum-known-r-2 : tie.Need-enum-known-r-2
@@ -43,13 +43,13 @@ same-length c = search needs
 
 returns : tie.Need-returns
 returns c = let a = c .before .before .before .before .before .before .before .before .before .before .before .before .before .args in
-    block-rows (now (a .body)) (now (a .table)) (a .from) (a .at .0) (rowsFrom (a .rows .start) (a .rows .end))
-    (flags-read (now (a .body)) _ (a .at .0) (c .before .before .before .before .before .before .before .before .before .before .before .before .before .pre .0) (omega arith) (ap (runLeaves _) (sym (c .before .before .before .before .before .before .r .given .1)) ∙ c .before .before .before .before .before .before .before .before .before .read-flags .ensures)) (c .before .before .read-contents .ensures)
+    block-rows (orderOf (a .order)) (now (a .body)) (now (a .table)) (a .from) (a .at .0) (rowsFrom (a .rows .start) (a .rows .end))
+    (flags-read (orderOf (a .order)) (now (a .body)) _ (a .at .0) (c .before .before .before .before .before .before .before .before .before .before .before .before .before .pre .0) (omega arith) (ap (runLeaves _) (sym (c .before .before .before .before .before .before .r .given .1)) ∙ c .before .before .before .before .before .before .before .before .before .read-flags .ensures)) (c .before .before .read-contents .ensures)
 
 returns-2 : tie.Need-returns-2
 returns-2 c = let a = c .before .before .before .before .before .before .before .before .args in
-    block-stop (now (a .body)) (now (a .table)) (a .from) (a .at .0) (rowsFrom (a .rows .start) (a .rows .end))
-    (ended-is _ 0 (run high (now (a .body)) (allFlags (rowsFrom (a .rows .start) (a .rows .end))) (a .at .0)) (ap (runLeaves _) (sym (c .before .r2 .given .1)) ∙ c .before .before .before .before .read-flags .ensures))
+    block-stop (orderOf (a .order)) (now (a .body)) (now (a .table)) (a .from) (a .at .0) (rowsFrom (a .rows .start) (a .rows .end))
+    (ended-is _ 0 (run (orderOf (a .order)) (now (a .body)) (allFlags (rowsFrom (a .rows .start) (a .rows .end))) (a .at .0)) (ap (runLeaves _) (sym (c .before .r2 .given .1)) ∙ c .before .before .before .before .read-flags .ensures))
 
 pub read-block-spec : {M : Type 1} → statement M
 read-block-spec =

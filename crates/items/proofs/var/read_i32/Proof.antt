@@ -17,19 +17,19 @@ enum-told : tie.Need-enum-told
 enum-told c = search needs
 
 returns : tie.Need-returns
-returns c = i32-bad (c .enum-told .given .1) (c .before .before .read-u32 .ensures)
+returns c = λ o. i32-bad (c .enum-told .given .1) (c .before .before .read-u32 .ensures o)
 
 returns-2 : tie.Need-returns-2
-returns-2 c = i32-one (ap numOf (sym (c .before .before .r .given .1)) ∙ c .before .before .before .before .read-u32 .ensures) (c .if1 .taken)
+returns-2 c = λ o. i32-one (ap numOf (sym (c .before .before .r .given .1)) ∙ c .before .before .before .before .read-u32 .ensures o) (c .if1 .taken)
 
 wrapping-sub-u64-requires : tie.Need-wrapping-sub-u64-requires
 wrapping-sub-u64-requires c κs = search needs
 
 returns-3 : tie.Need-returns-3
-returns-3 c = i32-even (ap numOf (sym (c .before .before .before .r .given .1)) ∙ c .before .before .before .before .before .read-u32 .ensures) (c .before .if1 .left) (c .if2 .taken)
+returns-3 c = λ o. i32-even (ap numOf (sym (c .before .before .before .r .given .1)) ∙ c .before .before .before .before .before .read-u32 .ensures o) (c .before .if1 .left) (c .if2 .taken)
 
 returns-4 : tie.Need-returns-4
-returns-4 c = i32-odd (ap numOf (sym (c .before .before .before .before .r .given .1)) ∙ c .before .before .before .before .before .before .read-u32 .ensures) (c .before .before .if1 .left) (c .before .if2 .left) (omega arith) (c .wrapping-sub-u64 .ok) (c .wrapping-sub-u64 .ensures)
+returns-4 c = λ o. i32-odd (ap numOf (sym (c .before .before .before .before .r .given .1)) ∙ c .before .before .before .before .before .before .read-u32 .ensures o) (c .before .before .if1 .left) (c .before .if2 .left) (omega arith) (c .wrapping-sub-u64 .ok) (c .wrapping-sub-u64 .ensures)
 
 pub read-i32-spec : {M : Type 1} → statement M
 read-i32-spec =

@@ -1,6 +1,7 @@
 -- `spelling::fields::write_fields` meets its contract.
 use denote.Ref.{now}
 use mathlib.Core.Path.{sym, _∙_}
+use Rattle.bits.specs.Places.{orderOf}
 use Rattle.sink.specs.Laying.{at}
 use Rattle.spelling.proofs.FieldLaws.{signed-run}
 use borrow.Author.Needs.{needs}
@@ -22,7 +23,7 @@ same-length : tie.Need-same-length
 same-length c = search needs
 
 returns : tie.Need-returns
-returns c = let a = c .before .before .before .before .before .before .before .before .args in signed-run (a .kind) (a .width) (now (a .values)) (at (now (a .out)) (a .sink)) (a .from) (a .count) (c .before .before .write-signed .last .1 .1 .0) (c .before .before .write-signed .result) (sym (c .before .before .before .before .before .is-signed .ensures) ∙ c .before .before .before .before .if1 .taken) (c .before .before .write-signed .ensures)
+returns c = let a = c .before .before .before .before .before .before .before .before .args in signed-run (orderOf (a .order)) (a .kind) (a .width) (now (a .values)) (at (now (a .out)) (a .sink)) (a .from) (a .count) (c .before .before .write-signed .last .1 .1 .1 .0) (c .before .before .write-signed .result) (sym (c .before .before .before .before .before .is-signed .ensures) ∙ c .before .before .before .before .if1 .taken) (c .before .before .write-signed .ensures)
 
 write-unsigned-requires : tie.Need-write-unsigned-requires
 write-unsigned-requires c κs = search needs

@@ -5,6 +5,7 @@ use mathlib.Core.Path.{refl}
 use native.Mathlib.Omega.{arith}
 use borrow.Author.Needs.{needs}
 use lib.ListN.{getD}
+use Rattle.bits.specs.Places.{orderOf}
 use Rattle.table.proofs.FieldLaws.{weight-is}
 use Rattle.spelling.proofs.FieldLaws.{Going, Counted, field-large, field-out, field-in, fields-few, fields-start, fields-bad, fields-next, fields-over, counted-next, counted-over}
 use Rattle.spelling.proofs.fields.write_unsigned.Statement.{statement}
@@ -20,16 +21,16 @@ use Rattle.table.proofs.fields.weight.Reads as weight-reads
 use Rattle.table.proofs.fields.weights_of.Reads as weights-of-reads
 
 abbrev Inv-loop : tie.InvT-loop
-Inv-loop kind width count out₀ values from sum₀ none size weights cur₀ i₀ out sum cur i = Going kind width values out₀ cur₀ from count out cur i × Counted kind values from i sum
+Inv-loop order kind width count out₀ values from sum₀ none size weights cur₀ i₀ out sum cur i = Going (orderOf order) kind width values out₀ cur₀ from count out cur i × Counted kind values from i sum
 
 abbrev μ-loop : tie.MeasureT-loop
-μ-loop kind width count out₀ values from sum₀ none size weights cur₀ i₀ out sum cur i = count - i
+μ-loop order kind width count out₀ values from sum₀ none size weights cur₀ i₀ out sum cur i = count - i
 
 room-for-requires : tie.Need-room-for-requires Inv-loop μ-loop
 room-for-requires c κs = tt
 
 returns : tie.Need-returns Inv-loop μ-loop
-returns c = (fields-few (c .before .before .before .before .args .kind) (c .before .before .before .before .args .width) (now (c .before .before .before .before .args .values)) (now (c .before .before .before .before .args .out)) (c .before .before .before .before .args .sink) (c .before .before .before .before .args .from) (c .before .before .before .before .args .count) (c .before .room-for .ensures) (c .if1 .taken), tt)
+returns c = (fields-few (orderOf (c .before .before .before .before .args .order)) (c .before .before .before .before .args .kind) (c .before .before .before .before .args .width) (now (c .before .before .before .before .args .values)) (now (c .before .before .before .before .args .out)) (c .before .before .before .before .args .sink) (c .before .before .before .before .args .from) (c .before .before .before .before .args .count) (c .before .room-for .ensures) (c .if1 .taken), tt)
 
 power-requires : tie.Need-power-requires Inv-loop μ-loop
 power-requires c κs = omega (arith, c .before .before .before .before .pre .2)
@@ -38,7 +39,7 @@ weights-of-requires : tie.Need-weights-of-requires Inv-loop μ-loop
 weights-of-requires c κs = tt
 
 loop-holds : tie.Need-loop-holds Inv-loop μ-loop
-loop-holds c = (fields-start (c .before .before .before .before .before .before .args .kind) (c .before .before .before .before .before .before .args .width) (now (c .before .before .before .before .before .before .args .values)) (now (c .before .before .before .before .before .before .args .out)) (c .before .before .before .before .before .before .args .sink) (c .before .before .before .before .before .before .args .from) (c .before .before .before .before .before .before .args .count) (c .before .before .before .before .before .before .pre .0), (refl, omega arith))
+loop-holds c = (fields-start (orderOf (c .before .before .before .before .before .before .args .order)) (c .before .before .before .before .before .before .args .kind) (c .before .before .before .before .before .before .args .width) (now (c .before .before .before .before .before .before .args .values)) (now (c .before .before .before .before .before .before .args .out)) (c .before .before .before .before .before .before .args .sink) (c .before .before .before .before .before .before .args .from) (c .before .before .before .before .before .before .args .count) (c .before .before .before .before .before .before .pre .0), (refl, omega arith))
 
 add-value : tie.Need-add-value Inv-loop μ-loop
 add-value c = omega (arith, c .loop-test .taken, c .before .before .before .before .if1 .left, c .before .before .before .before .before .room-for .ensures)
@@ -53,7 +54,7 @@ same-length : tie.Need-same-length Inv-loop μ-loop
 same-length c = c .before .before .before .loop .inv .0 .size
 
 returns-2 : tie.Need-returns-2 Inv-loop μ-loop
-returns-2 c = (fields-bad (c .before .before .before .loop .inv .0) (c .before .before .loop-test .taken) (c .before .before .before .before .before .before .before .room-for .ensures) (c .before .before .before .before .before .before .if1 .left) (field-large (c .before .before .before .before .before .before .before .before .before .before .args .kind) (c .before .before .before .before .before .before .before .before .before .before .args .width) (c .before .before .before .loop .cur .place .0) (getD (now (c .before .before .before .before .before .before .before .before .before .before .args .values)) (c .before .before .before .before .before .before .before .before .before .before .args .from + c .before .before .before .loop .i) 0) (c .before .before .before .before .before .power .result) (c .before .before .before .before .before .before .before .before .before .before .pre .4) (c .before .before .before .before .before .power .ensures .0) (c .if2 .taken)), tt)
+returns-2 c = (fields-bad (c .before .before .before .loop .inv .0) (c .before .before .loop-test .taken) (c .before .before .before .before .before .before .before .room-for .ensures) (c .before .before .before .before .before .before .if1 .left) (field-large (orderOf (c .before .before .before .before .before .before .before .before .before .before .args .order)) (c .before .before .before .before .before .before .before .before .before .before .args .kind) (c .before .before .before .before .before .before .before .before .before .before .args .width) (c .before .before .before .loop .cur .place .0) (getD (now (c .before .before .before .before .before .before .before .before .before .before .args .values)) (c .before .before .before .before .before .before .before .before .before .before .args .from + c .before .before .before .loop .i) 0) (c .before .before .before .before .before .power .result) (c .before .before .before .before .before .before .before .before .before .before .pre .4) (c .before .before .before .before .before .power .ensures .0) (c .if2 .taken)), tt)
 
 allowed-requires : tie.Need-allowed-requires Inv-loop μ-loop
 allowed-requires c κs = tt
@@ -62,7 +63,7 @@ same-length-2 : tie.Need-same-length-2 Inv-loop μ-loop
 same-length-2 c = c .before .before .before .before .before .loop .inv .0 .size
 
 returns-3 : tie.Need-returns-3 Inv-loop μ-loop
-returns-3 c = (fields-bad (c .before .before .before .before .before .loop .inv .0) (c .before .before .before .before .loop-test .taken) (c .before .before .before .before .before .before .before .before .before .room-for .ensures) (c .before .before .before .before .before .before .before .before .if1 .left) (field-out (c .before .before .before .before .before .before .before .before .before .before .before .before .args .kind) (c .before .before .before .before .before .before .before .before .before .before .before .before .args .width) (c .before .before .before .before .before .loop .cur .place .0) (getD (now (c .before .before .before .before .before .before .before .before .before .before .before .before .args .values)) (c .before .before .before .before .before .before .before .before .before .before .before .before .args .from + c .before .before .before .before .before .loop .i) 0) (c .before .before .before .before .before .before .before .power .result) (c .before .before .before .before .before .before .before .before .before .before .before .before .pre .4) (c .before .before .before .before .before .before .before .power .ensures .0) (c .before .allowed .ensures) (c .if3 .taken)), tt)
+returns-3 c = (fields-bad (c .before .before .before .before .before .loop .inv .0) (c .before .before .before .before .loop-test .taken) (c .before .before .before .before .before .before .before .before .before .room-for .ensures) (c .before .before .before .before .before .before .before .before .if1 .left) (field-out (orderOf (c .before .before .before .before .before .before .before .before .before .before .before .before .args .order)) (c .before .before .before .before .before .before .before .before .before .before .before .before .args .kind) (c .before .before .before .before .before .before .before .before .before .before .before .before .args .width) (c .before .before .before .before .before .loop .cur .place .0) (getD (now (c .before .before .before .before .before .before .before .before .before .before .before .before .args .values)) (c .before .before .before .before .before .before .before .before .before .before .before .before .args .from + c .before .before .before .before .before .loop .i) 0) (c .before .before .before .before .before .before .before .power .result) (c .before .before .before .before .before .before .before .before .before .before .before .before .pre .4) (c .before .before .before .before .before .before .before .power .ensures .0) (c .before .allowed .ensures) (c .if3 .taken)), tt)
 
 put-bits-requires : tie.Need-put-bits-requires Inv-loop μ-loop
 put-bits-requires c κs = (c .before .before .before .before .before .before .loop .inv .0 .holds, omega (arith, c .before .before .before .before .before .before .loop .inv .0 .low, c .before .before .before .before .before .before .loop .inv .0 .within, c .before .before .before .before .before .before .before .before .before .before .before .before .before .pre .3), c .before .before .before .before .before .before .before .before .before .before .before .before .before .pre .2, omega (arith, c .before .before .before .if2 .left, c .before .before .before .before .before .before .before .before .power .ensures .0))
@@ -83,7 +84,7 @@ loop-less : tie.Need-loop-less Inv-loop μ-loop
 loop-less c = omega (arith, c .before .before .before .before .before .before .before .before .before .before .loop-test .taken)
 
 loop-again : tie.Need-loop-again Inv-loop μ-loop
-loop-again c = (fields-next (c .before .before .before .before .before .before .before .before .before .before .before .loop .inv .0) (c .before .before .before .before .before .before .before .before .before .before .loop-test .taken) (c .before .before .before .before .before .before .before .before .before .before .before .before .before .before .before .room-for .ensures) (c .before .before .before .before .before .before .before .before .before .before .before .before .before .before .if1 .left) (getD (now (c .before .before .before .before .before .before .before .before .before .before .before .before .before .before .before .before .before .before .args .values)) (c .before .before .before .before .before .before .before .before .before .before .before .before .before .before .before .before .before .before .args .from + c .before .before .before .before .before .before .before .before .before .before .before .loop .i) 0) (c .before .before .before .before .before .before .before .before .before .before .before .before .before .before .before .before .before .before .pre .2) (field-in (c .before .before .before .before .before .before .before .before .before .before .before .before .before .before .before .before .before .before .args .kind) (c .before .before .before .before .before .before .before .before .before .before .before .before .before .before .before .before .before .before .args .width) (c .before .before .before .before .before .before .before .before .before .before .before .loop .cur .place .0) (getD (now (c .before .before .before .before .before .before .before .before .before .before .before .before .before .before .before .before .before .before .args .values)) (c .before .before .before .before .before .before .before .before .before .before .before .before .before .before .before .before .before .before .args .from + c .before .before .before .before .before .before .before .before .before .before .before .loop .i) 0) (c .before .before .before .before .before .before .before .before .before .before .before .before .before .power .result) (c .before .before .before .before .before .before .before .before .before .before .before .before .before .before .before .before .before .before .pre .4) (c .before .before .before .before .before .before .before .before .before .before .before .before .before .power .ensures .0) (c .before .before .before .before .before .before .before .allowed .ensures) (c .before .before .before .before .before .before .if3 .left) (c .before .before .before .before .before .before .before .before .if2 .left)) (c .before .before .before .before .put-bits .kept .0) (c .before .before .before .before .put-bits .ensures), counted-next (c .before .before .before .before .before .before .before .before .before .before .before .before .before .before .before .before .before .before .args .kind) (now (c .before .before .before .before .before .before .before .before .before .before .before .before .before .before .before .before .before .before .args .values)) (c .before .before .before .before .before .before .before .before .before .before .before .before .before .before .before .before .before .before .args .from) (c .before .before .before .before .before .before .before .before .before .before .before .loop .i) (c .before .before .before .before .before .before .before .before .before .before .before .loop .inv .1) (omega (arith, c .before .before .before .before .before .before .before .before .before .before .loop-test .taken, c .before .before .before .before .before .before .before .before .before .before .before .before .before .before .if1 .left, c .before .before .before .before .before .before .before .before .before .before .before .before .before .before .before .room-for .ensures)) ((weight-is (c .before .before .before .before .before .before .before .before .before .before .before .before .before .before .before .before .before .before .args .kind) (getD (now (c .before .before .before .before .before .before .before .before .before .before .before .before .before .before .before .before .before .before .args .values)) (c .before .before .before .before .before .before .before .before .before .before .before .before .before .before .before .before .before .before .args .from + c .before .before .before .before .before .before .before .before .before .before .before .loop .i) 0) (c .before .before .before .before .before .before .before .before .before .before .before .before .weights-of .ensures) (c .weight .ensures)) .0) ((weight-is (c .before .before .before .before .before .before .before .before .before .before .before .before .before .before .before .before .before .before .args .kind) (getD (now (c .before .before .before .before .before .before .before .before .before .before .before .before .before .before .before .before .before .before .args .values)) (c .before .before .before .before .before .before .before .before .before .before .before .before .before .before .before .before .before .before .args .from + c .before .before .before .before .before .before .before .before .before .before .before .loop .i) 0) (c .before .before .before .before .before .before .before .before .before .before .before .before .weights-of .ensures) (c .weight .ensures)) .1))
+loop-again c = (fields-next (c .before .before .before .before .before .before .before .before .before .before .before .loop .inv .0) (c .before .before .before .before .before .before .before .before .before .before .loop-test .taken) (c .before .before .before .before .before .before .before .before .before .before .before .before .before .before .before .room-for .ensures) (c .before .before .before .before .before .before .before .before .before .before .before .before .before .before .if1 .left) (getD (now (c .before .before .before .before .before .before .before .before .before .before .before .before .before .before .before .before .before .before .args .values)) (c .before .before .before .before .before .before .before .before .before .before .before .before .before .before .before .before .before .before .args .from + c .before .before .before .before .before .before .before .before .before .before .before .loop .i) 0) (c .before .before .before .before .before .before .before .before .before .before .before .before .before .before .before .before .before .before .pre .2) (field-in (orderOf (c .before .before .before .before .before .before .before .before .before .before .before .before .before .before .before .before .before .before .args .order)) (c .before .before .before .before .before .before .before .before .before .before .before .before .before .before .before .before .before .before .args .kind) (c .before .before .before .before .before .before .before .before .before .before .before .before .before .before .before .before .before .before .args .width) (c .before .before .before .before .before .before .before .before .before .before .before .loop .cur .place .0) (getD (now (c .before .before .before .before .before .before .before .before .before .before .before .before .before .before .before .before .before .before .args .values)) (c .before .before .before .before .before .before .before .before .before .before .before .before .before .before .before .before .before .before .args .from + c .before .before .before .before .before .before .before .before .before .before .before .loop .i) 0) (c .before .before .before .before .before .before .before .before .before .before .before .before .before .power .result) (c .before .before .before .before .before .before .before .before .before .before .before .before .before .before .before .before .before .before .pre .4) (c .before .before .before .before .before .before .before .before .before .before .before .before .before .power .ensures .0) (c .before .before .before .before .before .before .before .allowed .ensures) (c .before .before .before .before .before .before .if3 .left) (c .before .before .before .before .before .before .before .before .if2 .left)) (c .before .before .before .before .put-bits .kept .1 .0) (c .before .before .before .before .put-bits .ensures), counted-next (c .before .before .before .before .before .before .before .before .before .before .before .before .before .before .before .before .before .before .args .kind) (now (c .before .before .before .before .before .before .before .before .before .before .before .before .before .before .before .before .before .before .args .values)) (c .before .before .before .before .before .before .before .before .before .before .before .before .before .before .before .before .before .before .args .from) (c .before .before .before .before .before .before .before .before .before .before .before .loop .i) (c .before .before .before .before .before .before .before .before .before .before .before .loop .inv .1) (omega (arith, c .before .before .before .before .before .before .before .before .before .before .loop-test .taken, c .before .before .before .before .before .before .before .before .before .before .before .before .before .before .if1 .left, c .before .before .before .before .before .before .before .before .before .before .before .before .before .before .before .room-for .ensures)) ((weight-is (c .before .before .before .before .before .before .before .before .before .before .before .before .before .before .before .before .before .before .args .kind) (getD (now (c .before .before .before .before .before .before .before .before .before .before .before .before .before .before .before .before .before .before .args .values)) (c .before .before .before .before .before .before .before .before .before .before .before .before .before .before .before .before .before .before .args .from + c .before .before .before .before .before .before .before .before .before .before .before .loop .i) 0) (c .before .before .before .before .before .before .before .before .before .before .before .before .weights-of .ensures) (c .weight .ensures)) .0) ((weight-is (c .before .before .before .before .before .before .before .before .before .before .before .before .before .before .before .before .before .before .args .kind) (getD (now (c .before .before .before .before .before .before .before .before .before .before .before .before .before .before .before .before .before .before .args .values)) (c .before .before .before .before .before .before .before .before .before .before .before .before .before .before .before .before .before .before .args .from + c .before .before .before .before .before .before .before .before .before .before .before .loop .i) 0) (c .before .before .before .before .before .before .before .before .before .before .before .before .weights-of .ensures) (c .weight .ensures)) .1))
 
 add-ended : tie.Need-add-ended Inv-loop μ-loop
 add-ended c = omega (arith, c .before .before .before .before .if1 .left, c .before .before .before .before .before .room-for .ensures)

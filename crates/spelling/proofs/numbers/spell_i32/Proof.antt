@@ -20,13 +20,13 @@ same-length : tie.Need-same-length
 same-length c = search needs
 
 returns : tie.Need-returns
-returns c = c .before .before .spell-var .ensures ∙ ap (bitsOver (mk (now (c .before .before .before .before .before .before .args .out)) (c .before .before .before .before .before .before .args .at .bit .0) 0)) (sym (i32-plus (c .before .before .before .before .before .before .args .value) (c .before .before .before .before .if1 .taken)))
+returns c = λ o. c .before .before .spell-var .ensures o ∙ ap (bitsOver o (mk (now (c .before .before .before .before .before .before .args .out)) (c .before .before .before .before .before .before .args .at .bit .0) 0)) (sym (i32-plus o (c .before .before .before .before .before .before .args .value) (c .before .before .before .before .if1 .taken)))
 
 wrapping-sub-u64-requires : tie.Need-wrapping-sub-u64-requires
 wrapping-sub-u64-requires c κs = search needs
 
 returns-2 : tie.Need-returns-2
-returns-2 c = laid-no (mk (now (c .before .before .before .before .args .out)) (c .before .before .before .before .args .at .bit .0) 0) _ (i32-none (c .before .before .before .before .args .value) (c .before .wrapping-sub-u64 .result) (search needs) (c .before .before .if1 .left) (omega (arith, c .before .wrapping-sub-u64 .ensures)) (c .if2 .taken))
+returns-2 c = λ o. laid-no o (mk (now (c .before .before .before .before .args .out)) (c .before .before .before .before .args .at .bit .0) 0) _ (i32-none o (c .before .before .before .before .args .value) (c .before .wrapping-sub-u64 .result) (search needs) (c .before .before .if1 .left) (omega (arith, c .before .wrapping-sub-u64 .ensures)) (c .if2 .taken))
 
 mul-spell-var-2 : tie.Need-mul-spell-var-2
 mul-spell-var-2 c = search needs
@@ -41,7 +41,7 @@ same-length-2 : tie.Need-same-length-2
 same-length-2 c = search needs
 
 returns-3 : tie.Need-returns-3
-returns-3 c = c .before .before .spell-var2 .ensures ∙ ap (bitsOver (mk (now (c .before .before .before .before .before .before .before .before .args .out)) (c .before .before .before .before .before .before .before .before .args .at .bit .0) 0)) (sym (i32-minus (c .before .before .before .before .before .before .before .before .args .value) (c .before .before .before .before .before .wrapping-sub-u64 .result) (search needs) (c .before .before .before .before .before .before .if1 .left) (omega (arith, c .before .before .before .before .before .wrapping-sub-u64 .ensures))))
+returns-3 c = λ o. c .before .before .spell-var2 .ensures o ∙ ap (bitsOver o (mk (now (c .before .before .before .before .before .before .before .before .args .out)) (c .before .before .before .before .before .before .before .before .args .at .bit .0) 0)) (sym (i32-minus o (c .before .before .before .before .before .before .before .before .args .value) (c .before .before .before .before .before .wrapping-sub-u64 .result) (search needs) (c .before .before .before .before .before .before .if1 .left) (omega (arith, c .before .before .before .before .before .wrapping-sub-u64 .ensures))))
 
 pub spell-i32-spec : {M : Type 1} → statement M
 spell-i32-spec =

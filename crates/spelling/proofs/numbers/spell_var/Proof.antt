@@ -4,7 +4,7 @@ use mathlib.Core.Path.{_≡_, refl, sym, _∙_}
 use native.Mathlib.Omega.{arith}
 use mathlib.Core.Logic.{⊎-elim}
 use lib.ListN.{length}
-use Rattle.format.specs.Bits.{high}
+use Rattle.format.specs.Bits.{Order}
 use Rattle.format.specs.WritingItems.{spellVar}
 use Rattle.sink.specs.Laying.{mk}
 use Rattle.spelling.specs.Writing.{bitsOver}
@@ -13,19 +13,19 @@ use Rattle.spelling.proofs.numbers.spell_var.Statement.{statement}
 use Rattle.spelling.proofs.numbers.spell_var.Tie as tie
 
 abbrev Inv-loop : tie.InvT-loop
-Inv-loop out₀ value most top i₀ next₀ rest₀ left₀ out i next rest left = (length out ≡ length out₀) × (left ≤ 9) × (next ≡ 8 * i) × (next + 8 * left ≤ 134217800) × (bitsOver (mk out₀ next₀ 0) (spellVar high top rest₀ left₀) ≡ bitsOver (mk out next 0) (spellVar high top rest left))
+Inv-loop out₀ value most top i₀ next₀ rest₀ left₀ out i next rest left = (length out ≡ length out₀) × (left ≤ 9) × (next ≡ 8 * i) × (next + 8 * left ≤ 134217800) × ((o : Order) → bitsOver o (mk out₀ next₀ 0) (spellVar o top rest₀ left₀) ≡ bitsOver o (mk out next 0) (spellVar o top rest left))
 
 abbrev μ-loop : tie.MeasureT-loop
 μ-loop out₀ value most top i₀ next₀ rest₀ left₀ out i next rest left = left
 
 loop-holds : tie.Need-loop-holds Inv-loop μ-loop
-loop-holds c = (refl, c .before .pre .1, c .before .pre .0 .0, omega (arith, c .before .pre .0 .1, c .before .pre .1), refl)
+loop-holds c = (refl, c .before .pre .1, c .before .pre .0 .0, omega (arith, c .before .pre .0 .1, c .before .pre .1), λ o. refl)
 
 same-length : tie.Need-same-length Inv-loop μ-loop
 same-length c = c .before .before .loop .inv .0
 
 returns : tie.Need-returns Inv-loop μ-loop
-returns c = let l = c .before .before .loop in var-long (l .out) (l .i) (l .next) (c .before .before .before .before .args .top) (l .rest) (l .inv .2) (l .left) (c .before .before .before .before .pre .2) (c .if1 .taken) (omega (arith, c .before .loop-test .taken)) ∙ sym (l .inv .4)
+returns c = λ o. let l = c .before .before .loop in var-long o (l .out) (l .i) (l .next) (c .before .before .before .before .args .top) (l .rest) (l .inv .2) (l .left) (c .before .before .before .before .pre .2) (c .if1 .taken) (omega (arith, c .before .loop-test .taken)) ∙ sym (l .inv .4 o)
 
 add-put-byte : tie.Need-add-put-byte Inv-loop μ-loop
 add-put-byte c = omega arith
@@ -51,14 +51,14 @@ loop-again c = let l = c .before .before .before .before .before .before .loop i
   omega (arith, l .inv .1),
   omega (arith, l .inv .2),
   omega (arith, l .inv .3, c .before .before .before .before .if1 .left),
-  l .inv .4 ∙ var-more (l .out) (l .i) (l .next) (c .before .before .before .before .before .before .before .before .args .top) (l .rest) (l .inv .2) (l .left) (c .before .before .before .before .if1 .left) (omega (arith, c .before .before .before .before .before .loop-test .taken)) (c .before .before .put-byte .ensures),
+  λ o. l .inv .4 o ∙ var-more o (l .out) (l .i) (l .next) (c .before .before .before .before .before .before .before .before .args .top) (l .rest) (l .inv .2) (l .left) (c .before .before .before .before .if1 .left) (omega (arith, c .before .before .before .before .before .loop-test .taken)) (c .before .before .put-byte .ensures),
 )
 
 same-length-2 : tie.Need-same-length-2 Inv-loop μ-loop
 same-length-2 c = c .before .before .before .loop .inv .0
 
 returns-2 : tie.Need-returns-2 Inv-loop μ-loop
-returns-2 c = let l = c .before .before .before .loop in var-over (l .out) (l .i) (l .next) (c .before .before .before .before .before .args .top) (l .rest) (l .inv .2) (l .left) (c .before .if2 .taken) (c .if3 .taken) ∙ sym (l .inv .4)
+returns-2 c = λ o. let l = c .before .before .before .loop in var-over o (l .out) (l .i) (l .next) (c .before .before .before .before .before .args .top) (l .rest) (l .inv .2) (l .left) (c .before .if2 .taken) (c .if3 .taken) ∙ sym (l .inv .4 o)
 
 put-byte-requires-2 : tie.Need-put-byte-requires-2 Inv-loop μ-loop
 put-byte-requires-2 c κs = omega (arith, c .before .before .loop-test .left)
@@ -70,7 +70,7 @@ same-length-3 : tie.Need-same-length-3 Inv-loop μ-loop
 same-length-3 c = c .before .before .put-byte2 .kept .0 ∙ c .before .before .before .before .before .before .loop .inv .0
 
 returns-3 : tie.Need-returns-3 Inv-loop μ-loop
-returns-3 c = let l = c .before .before .before .before .before .before .loop in var-end (l .out) (l .i) (l .next) (c .before .before .before .before .before .before .before .before .args .top) (l .rest) (l .inv .2) (l .left) (omega (arith, c .before .before .before .before .before .loop-test .left)) (λ z. ⊎-elim (λ w. omega arith) (λ w. omega arith) (c .before .before .before .before .if2 .came)) (c .before .before .put-byte2 .ensures) ∙ sym (l .inv .4)
+returns-3 c = λ o. let l = c .before .before .before .before .before .before .loop in var-end o (l .out) (l .i) (l .next) (c .before .before .before .before .before .before .before .before .args .top) (l .rest) (l .inv .2) (l .left) (omega (arith, c .before .before .before .before .before .loop-test .left)) (λ z. ⊎-elim (λ w. omega arith) (λ w. omega arith) (c .before .before .before .before .if2 .came)) (c .before .before .put-byte2 .ensures) ∙ sym (l .inv .4 o)
 
 pub spell-var-spec : {M : Type 1} → statement M
 spell-var-spec =

@@ -5,7 +5,7 @@ use native.Mathlib.Omega.{arith}
 use borrow.Author.Needs.{needs}
 use denote.Ref.{now}
 use lib.ListN.{length, drop}
-use Rattle.format.specs.Bits.{high}
+use Rattle.format.specs.Bits.{Order}
 use Rattle.format.specs.WritingItems.{spellTxt}
 use Rattle.sink.specs.Laying.{mk}
 use Rattle.spelling.specs.Writing.{bitsOver}
@@ -14,13 +14,13 @@ use Rattle.spelling.proofs.text.spell_text.Statement.{statement}
 use Rattle.spelling.proofs.text.spell_text.Tie as tie
 
 abbrev Inv-loop : tie.InvT-loop
-Inv-loop out₀ at text start count i₀ out i = (length out ≡ length out₀) × (i ≤ length text) × (bitsOver (mk out₀ (at .bit .0) 0) (spellTxt high text) ≡ bitsOver (mk out (at .bit .0 + 8 * i) 0) (spellTxt high (drop i text)))
+Inv-loop out₀ at text start count i₀ out i = (length out ≡ length out₀) × (i ≤ length text) × ((o : Order) → bitsOver o (mk out₀ (at .bit .0) 0) (spellTxt o text) ≡ bitsOver o (mk out (at .bit .0 + 8 * i) 0) (spellTxt o (drop i text)))
 
 abbrev μ-loop : tie.MeasureT-loop
 μ-loop out₀ at text start count i₀ out i = length text - i
 
 loop-holds : tie.Need-loop-holds Inv-loop μ-loop
-loop-holds c = (refl, omega arith, text-start (now (c .before .before .args .out)) (c .before .before .args .at .bit .0) (now (c .before .before .args .text)))
+loop-holds c = (refl, omega arith, λ o. text-start o (now (c .before .before .args .out)) (c .before .before .args .at .bit .0) (now (c .before .before .args .text)))
 
 mul-value : tie.Need-mul-value Inv-loop μ-loop
 mul-value c = search needs
@@ -32,13 +32,13 @@ same-length : tie.Need-same-length Inv-loop μ-loop
 same-length c = c .before .before .before .loop .inv .0
 
 returns : tie.Need-returns Inv-loop μ-loop
-returns c = let l = c .before .before .before .loop in sym (l .inv .2 ∙ text-zero (l .out) (c .before .before .before .before .before .before .args .at .byte .0) (c .before .before .before .before .before .before .args .at .bit .0) (c .before .before .before .before .before .before .pre .0 .0) (now (c .before .before .before .before .before .before .args .text)) (l .i) (c .before .before .loop-test .taken) (c .if1 .taken))
+returns c = λ o. let l = c .before .before .before .loop in sym (l .inv .2 o ∙ text-zero o (l .out) (c .before .before .before .before .before .before .args .at .byte .0) (c .before .before .before .before .before .before .args .at .bit .0) (c .before .before .before .before .before .before .pre .0 .0) (now (c .before .before .before .before .before .before .args .text)) (l .i) (c .before .before .loop-test .taken) (c .if1 .taken))
 
 same-length-2 : tie.Need-same-length-2 Inv-loop μ-loop
 same-length-2 c = c .before .before .before .before .loop .inv .0
 
 returns-2 : tie.Need-returns-2 Inv-loop μ-loop
-returns-2 c = let l = c .before .before .before .before .loop in sym (l .inv .2 ∙ text-large (l .out) (c .before .before .before .before .before .before .before .args .at .byte .0) (c .before .before .before .before .before .before .before .args .at .bit .0) (c .before .before .before .before .before .before .before .pre .0 .0) (now (c .before .before .before .before .before .before .before .args .text)) (l .i) (c .before .before .before .loop-test .taken) (c .before .if1 .left) (c .if2 .taken))
+returns-2 c = λ o. let l = c .before .before .before .before .loop in sym (l .inv .2 o ∙ text-large o (l .out) (c .before .before .before .before .before .before .before .args .at .byte .0) (c .before .before .before .before .before .before .before .args .at .bit .0) (c .before .before .before .before .before .before .before .pre .0 .0) (now (c .before .before .before .before .before .before .before .args .text)) (l .i) (c .before .before .before .loop-test .taken) (c .before .if1 .left) (c .if2 .taken))
 
 add-put-byte : tie.Need-add-put-byte Inv-loop μ-loop
 add-put-byte c = omega (arith, c .before .before .before .before .before .before .before .before .pre .0 .1, c .before .before .before .before .before .before .before .before .pre .1)
@@ -53,7 +53,7 @@ loop-less : tie.Need-loop-less Inv-loop μ-loop
 loop-less c = omega arith
 
 loop-again : tie.Need-loop-again Inv-loop μ-loop
-loop-again c = let l = c .before .before .before .before .before .before .before .before .loop in (c .before .before .put-byte .kept .0 ∙ l .inv .0, omega (arith, c .before .before .before .before .before .before .before .loop-test .taken), l .inv .2 ∙ text-next (l .out) (c .before .before .before .before .before .before .before .before .before .before .before .args .at .byte .0) (c .before .before .before .before .before .before .before .before .before .before .before .args .at .bit .0) (c .before .before .before .before .before .before .before .before .before .before .before .pre .0 .0) (now (c .before .before .before .before .before .before .before .before .before .before .before .args .text)) (l .i) (c .before .before .before .before .before .before .before .loop-test .taken) (c .before .before .before .before .before .if1 .left) (c .before .before .before .before .if2 .left) (c .before .before .put-byte .ensures))
+loop-again c = let l = c .before .before .before .before .before .before .before .before .loop in (c .before .before .put-byte .kept .0 ∙ l .inv .0, omega (arith, c .before .before .before .before .before .before .before .loop-test .taken), λ o. l .inv .2 o ∙ text-next o (l .out) (c .before .before .before .before .before .before .before .before .before .before .before .args .at .byte .0) (c .before .before .before .before .before .before .before .before .before .before .before .args .at .bit .0) (c .before .before .before .before .before .before .before .before .before .before .before .pre .0 .0) (now (c .before .before .before .before .before .before .before .before .before .before .before .args .text)) (l .i) (c .before .before .before .before .before .before .before .loop-test .taken) (c .before .before .before .before .before .if1 .left) (c .before .before .before .before .if2 .left) (c .before .before .put-byte .ensures))
 
 add-put-byte-2 : tie.Need-add-put-byte-2 Inv-loop μ-loop
 add-put-byte-2 c = omega (arith, c .before .before .before .before .before .pre .0 .1, c .before .before .before .before .before .pre .1)
@@ -74,7 +74,7 @@ same-length-3 : tie.Need-same-length-3 Inv-loop μ-loop
 same-length-3 c = c .before .before .put-byte2 .kept .0 ∙ c .before .before .before .before .before .loop .inv .0
 
 returns-3 : tie.Need-returns-3 Inv-loop μ-loop
-returns-3 c = let l = c .before .before .before .before .before .loop in text-over (l .out) (c .before .before .before .before .before .before .before .before .args .at .byte .0) (c .before .before .before .before .before .before .before .before .args .at .bit .0) (c .before .before .before .before .before .before .before .before .pre .0 .0) (now (c .before .before .before .before .before .before .before .before .args .text)) (l .i) (omega (arith, l .inv .1, c .before .before .before .before .loop-test .left)) (c .before .before .put-byte2 .ensures) ∙ sym (l .inv .2)
+returns-3 c = λ o. let l = c .before .before .before .before .before .loop in text-over o (l .out) (c .before .before .before .before .before .before .before .before .args .at .byte .0) (c .before .before .before .before .before .before .before .before .args .at .bit .0) (c .before .before .before .before .before .before .before .before .pre .0 .0) (now (c .before .before .before .before .before .before .before .before .args .text)) (l .i) (omega (arith, l .inv .1, c .before .before .before .before .loop-test .left)) (c .before .before .put-byte2 .ensures) ∙ sym (l .inv .2 o)
 
 pub spell-text-spec : {M : Type 1} → statement M
 spell-text-spec =

@@ -5,6 +5,7 @@ use native.Mathlib.Omega.{arith}
 use denote.Ref.{now}
 use lib.ListN.{getD}
 use lib.Seq.{length-slice}
+use Rattle.bits.specs.Places.{orderOf}
 use Rattle.sink.specs.Laying.{at}
 use Rattle.spelling.specs.Writing.{seen}
 use Rattle.spelling.proofs.RunLaws.{finish-ends, skip-place}
@@ -14,7 +15,7 @@ use Rattle.spelling.proofs.text.write_string.Statement.{statement}
 use Rattle.spelling.proofs.text.write_string.Tie as tie
 
 returns : tie.Need-returns
-returns c = let a = c .before .before .before .args in sym (string-none (now (a .values)) (at (now (a .out)) (a .sink)) (a .from) (c .if1 .taken))
+returns c = let a = c .before .before .before .args in sym (string-none (orderOf (a .order)) (now (a .values)) (at (now (a .out)) (a .sink)) (a .from) (c .if1 .taken))
 
 mul-length : tie.Need-mul-length
 mul-length c = search needs
@@ -23,7 +24,7 @@ shared-slice-read-length : tie.Need-shared-slice-read-length
 shared-slice-read-length c = search needs
 
 returns-2 : tie.Need-returns-2
-returns-2 c = let a = c .before .before .before .before .before .args in sym (string-long (now (a .values)) (at (now (a .out)) (a .sink)) (a .from) (c .before .before .if1 .left) (c .if2 .taken))
+returns-2 c = let a = c .before .before .before .before .before .args in sym (string-long (orderOf (a .order)) (now (a .values)) (at (now (a .out)) (a .sink)) (a .from) (c .before .before .if1 .left) (c .if2 .taken))
 
 add-first : tie.Need-add-first
 add-first c = search needs
@@ -32,7 +33,7 @@ sub-if3 : tie.Need-sub-if3
 sub-if3 c = search needs
 
 returns-3 : tie.Need-returns-3
-returns-3 c = let a = c .before .before .before .before .before .before .args in sym (string-cut (now (a .values)) (at (now (a .out)) (a .sink)) (a .from) (c .before .before .before .if1 .left) (c .if3 .taken))
+returns-3 c = let a = c .before .before .before .before .before .before .args in sym (string-cut (orderOf (a .order)) (now (a .values)) (at (now (a .out)) (a .sink)) (a .from) (c .before .before .before .if1 .left) (c .if3 .taken))
 
 add-behind : tie.Need-add-behind
 add-behind c = search needs
@@ -53,7 +54,7 @@ part-spell-text-end : tie.Need-part-spell-text-end
 part-spell-text-end c = search needs
 
 spell-text-requires : tie.Need-spell-text-requires
-spell-text-requires c κs = let a = c .before .before .before .before .before .before .before .before .before .before .before .before .args in (skip-place (at (now (a .out)) (a .sink)) (c .before .before .before .before .before .before .before .before .before .before .before .before .pre .1) (c .before .before .before .before .align .ensures), (let n = getD (now (a .values)) (a .from) 0 in let f = a .from + 1 in let e = length-slice f (f + n) (now (a .values)) (omega (arith, c .before .before .before .before .before .before .if3 .left, c .before .before .before .before .before .before .before .before .before .if1 .left)) in omega (arith, e, c .before .before .before .before .before .before .before .if2 .left)))
+spell-text-requires c κs = let a = c .before .before .before .before .before .before .before .before .before .before .before .before .args in (skip-place (orderOf (a .order)) (at (now (a .out)) (a .sink)) (c .before .before .before .before .before .before .before .before .before .before .before .before .pre .1) (c .before .before .before .before .align .ensures), (let n = getD (now (a .values)) (a .from) 0 in let f = a .from + 1 in let e = length-slice f (f + n) (now (a .values)) (omega (arith, c .before .before .before .before .before .before .if3 .left, c .before .before .before .before .before .before .before .before .before .if1 .left)) in omega (arith, e, c .before .before .before .before .before .before .before .if2 .left)))
 
 enum-known-r : tie.Need-enum-known-r
 enum-known-r c = search needs
@@ -69,13 +70,13 @@ same-length c = search needs
 
 returns-4 : tie.Need-returns-4
 returns-4 c = let a = c .before .before .before .before .before .before .before .before .before .before .before .before .before .before .before .before .before .before .before .args in let u = c .before .before .before .before .before .before .spell-text .last .0 in
-    ap (seen u) (c .ended .ensures) ∙ finish-ends u (c .before .before .r .given .0 .0) (a .from + 1 + getD (now (a .values)) (a .from) 0) ∙ sym (string-in (now (a .values)) (at (now (a .out)) (a .sink)) (a .from) (c .before .before .before .before .before .before .before .before .before .before .before .before .before .before .before .before .if1 .left) (a .from + 1) (a .from + 1 + getD (now (a .values)) (a .from) 0) refl refl (c .before .before .before .before .before .before .before .before .before .before .before .before .before .if3 .left) (c .before .before .before .before .before .before .before .before .before .before .before .align .ensures) u (c .before .before .before .before .before .before .spell-text .result) (c .before .before .before .before .before .before .spell-text .ensures) (c .before .before .r .given .0 .0) (c .before .before .r .given .1))
+    ap (seen u) (c .ended .ensures) ∙ finish-ends u (c .before .before .r .given .0 .0) (a .from + 1 + getD (now (a .values)) (a .from) 0) ∙ sym (string-in (orderOf (a .order)) (now (a .values)) (at (now (a .out)) (a .sink)) (a .from) (c .before .before .before .before .before .before .before .before .before .before .before .before .before .before .before .before .if1 .left) (a .from + 1) (a .from + 1 + getD (now (a .values)) (a .from) 0) refl refl (c .before .before .before .before .before .before .before .before .before .before .before .before .before .if3 .left) (c .before .before .before .before .before .before .before .before .before .before .before .align .ensures) u (c .before .before .before .before .before .before .spell-text .result) (c .before .before .before .before .before .before .spell-text .ensures (orderOf (a .order))) (c .before .before .r .given .0 .0) (c .before .before .r .given .1))
 
 same-length-2 : tie.Need-same-length-2
 same-length-2 c = search needs
 
 returns-5 : tie.Need-returns-5
-returns-5 c = let a = c .before .before .before .before .before .before .before .before .before .before .before .before .before .before .before .before .before .args in let u = c .before .before .before .before .spell-text .last .0 in sym (string-no (now (a .values)) (at (now (a .out)) (a .sink)) (a .from) (c .before .before .before .before .before .before .before .before .before .before .before .before .before .before .if1 .left) (a .from + 1) (a .from + 1 + getD (now (a .values)) (a .from) 0) refl refl (c .before .before .before .before .before .before .before .before .before .before .before .if3 .left) (c .before .before .before .before .before .before .before .before .before .align .ensures) u (c .before .before .before .before .spell-text .result) (c .before .before .before .before .spell-text .ensures) (c .enum-told .given .1))
+returns-5 c = let a = c .before .before .before .before .before .before .before .before .before .before .before .before .before .before .before .before .before .args in let u = c .before .before .before .before .spell-text .last .0 in sym (string-no (orderOf (a .order)) (now (a .values)) (at (now (a .out)) (a .sink)) (a .from) (c .before .before .before .before .before .before .before .before .before .before .before .before .before .before .if1 .left) (a .from + 1) (a .from + 1 + getD (now (a .values)) (a .from) 0) refl refl (c .before .before .before .before .before .before .before .before .before .before .before .if3 .left) (c .before .before .before .before .before .before .before .before .before .align .ensures) u (c .before .before .before .before .spell-text .result) (c .before .before .before .before .spell-text .ensures (orderOf (a .order))) (c .enum-told .given .1))
 
 pub write-string-spec : {M : Type 1} → statement M
 write-string-spec =

@@ -4,6 +4,7 @@ use native.Mathlib.Nat.{zero-add}
 use native.Mathlib.Omega.{arith}
 use borrow.Author.Needs.{needs}
 use denote.Ref.{now}
+use Rattle.bits.specs.Places.{orderOf}
 use Rattle.table.proofs.FieldLaws.{field-past, field-in, field-out, weight-is, Going, fields-next, fields-stop, fields-done}
 use Rattle.table.proofs.fields.read_fields.Statement.{statement}
 use Rattle.table.proofs.fields.read_fields.Tie as tie
@@ -17,10 +18,10 @@ use Rattle.table.proofs.fields.weights_of.Reads as weights-of-reads
 use Rattle.table.proofs.put.Reads as put-reads
 
 abbrev Inv-loop : tie.InvT-loop
-Inv-loop kind width count body table₀ from weights place₀ index₀ left₀ sum₀ table place index left sum = Going kind width body table₀ from count (place₀ .0) table (place .0) index left sum
+Inv-loop order kind width count body table₀ from weights place₀ index₀ left₀ sum₀ table place index left sum = Going (orderOf order) kind width body table₀ from count (place₀ .0) table (place .0) index left sum
 
 abbrev μ-loop : tie.MeasureT-loop
-μ-loop kind width count body table₀ from weights place₀ index₀ left₀ sum₀ table place index left sum = left
+μ-loop order kind width count body table₀ from weights place₀ index₀ left₀ sum₀ table place index left sum = left
 
 weights-of-requires : tie.Need-weights-of-requires Inv-loop μ-loop
 weights-of-requires c κs = tt
@@ -38,7 +39,7 @@ same-length : tie.Need-same-length Inv-loop μ-loop
 same-length c = c .before .before .before .loop .inv .size
 
 returns : tie.Need-returns Inv-loop μ-loop
-returns c = let a = c .before .before .before .before .before .before .before .args in fields-stop (a .kind) (a .width) (now (a .body)) (now (a .table)) (a .from) (a .count) (a .at .0) (c .before .before .before .before .before .before .before .pre .1) (c .before .before .loop-test .taken) (c .before .before .before .loop .inv) (field-past (a .kind) (now (a .body)) (c .before .before .before .loop .place .0) (a .width) (omega (arith, c .if1 .taken)))
+returns c = let a = c .before .before .before .before .before .before .before .args in fields-stop (orderOf (a .order)) (a .kind) (a .width) (now (a .body)) (now (a .table)) (a .from) (a .count) (a .at .0) (c .before .before .before .before .before .before .before .pre .1) (c .before .before .loop-test .taken) (c .before .before .before .loop .inv) (field-past (orderOf (a .order)) (a .kind) (now (a .body)) (c .before .before .before .loop .place .0) (a .width) (omega (arith, c .if1 .taken)))
 
 field-requires : tie.Need-field-requires Inv-loop μ-loop
 field-requires c κs = (omega (arith, c .if1 .left), c .before .before .before .loop .inv .fits .0 .1, c .before .before .before .before .before .before .before .pre .1, c .before .before .before .before .before .before .before .pre .2)
@@ -71,19 +72,19 @@ loop-less : tie.Need-loop-less Inv-loop μ-loop
 loop-less c = omega arith
 
 loop-again : tie.Need-loop-again Inv-loop μ-loop
-loop-again c = let a = c .before .before .before .before .before .before .before .before .before .before .before .before .before .before .before .before .before .args in fields-next (a .kind) (a .width) (now (a .body)) (now (a .table)) (a .from) (a .count) (a .at .0) (c .before .before .before .before .before .before .before .before .before .before .before .before .before .before .before .before .before .pre .1) (c .before .before .before .before .before .before .before .before .before .before .before .before .loop-test .taken) (c .before .before .before .before .before .before .before .before .before .before .before .before .before .loop .inv) (field-in (a .kind) (now (a .body)) (c .before .before .before .before .before .before .before .before .before .before .before .before .before .loop .place .0) (a .width) (omega (arith, c .before .before .before .before .before .before .before .before .before .before .if1 .left)) (c .before .before .before .before .before .before .before .before .before .field .ensures .0) (c .before .before .before .before .before .before .before .before .shown .ensures) (sym (c .before .before .before .before .before .before .before .allowed .ensures) ∙ c .before .before .before .before .before .before .if2 .taken)) (c .before .before .before .before .put .ensures) (weight-is (a .kind) (c .before .before .before .before .before .before .before .before .shown .result) (c .before .before .before .before .before .before .before .before .before .before .before .before .before .before .weights-of .ensures) (c .weight .ensures))
+loop-again c = let a = c .before .before .before .before .before .before .before .before .before .before .before .before .before .before .before .before .before .args in fields-next (orderOf (a .order)) (a .kind) (a .width) (now (a .body)) (now (a .table)) (a .from) (a .count) (a .at .0) (c .before .before .before .before .before .before .before .before .before .before .before .before .before .before .before .before .before .pre .1) (c .before .before .before .before .before .before .before .before .before .before .before .before .loop-test .taken) (c .before .before .before .before .before .before .before .before .before .before .before .before .before .loop .inv) (field-in (orderOf (a .order)) (a .kind) (now (a .body)) (c .before .before .before .before .before .before .before .before .before .before .before .before .before .loop .place .0) (a .width) (omega (arith, c .before .before .before .before .before .before .before .before .before .before .if1 .left)) (c .before .before .before .before .before .before .before .before .before .field .ensures .0) (c .before .before .before .before .before .before .before .before .shown .ensures) (sym (c .before .before .before .before .before .before .before .allowed .ensures) ∙ c .before .before .before .before .before .before .if2 .taken)) (c .before .before .before .before .put .ensures) (weight-is (a .kind) (c .before .before .before .before .before .before .before .before .shown .result) (c .before .before .before .before .before .before .before .before .before .before .before .before .before .before .weights-of .ensures) (c .weight .ensures))
 
 same-length-2 : tie.Need-same-length-2 Inv-loop μ-loop
 same-length-2 c = c .before .before .before .before .before .before .before .loop .inv .size
 
 returns-2 : tie.Need-returns-2 Inv-loop μ-loop
-returns-2 c = let a = c .before .before .before .before .before .before .before .before .before .before .before .args in fields-stop (a .kind) (a .width) (now (a .body)) (now (a .table)) (a .from) (a .count) (a .at .0) (c .before .before .before .before .before .before .before .before .before .before .before .pre .1) (c .before .before .before .before .before .before .loop-test .taken) (c .before .before .before .before .before .before .before .loop .inv) (field-out (a .kind) (now (a .body)) (c .before .before .before .before .before .before .before .loop .place .0) (a .width) (omega (arith, c .before .before .before .before .if1 .left)) (c .before .before .before .field .ensures .0) (c .before .before .shown .ensures) (sym (c .before .allowed .ensures) ∙ c .if2 .left))
+returns-2 c = let a = c .before .before .before .before .before .before .before .before .before .before .before .args in fields-stop (orderOf (a .order)) (a .kind) (a .width) (now (a .body)) (now (a .table)) (a .from) (a .count) (a .at .0) (c .before .before .before .before .before .before .before .before .before .before .before .pre .1) (c .before .before .before .before .before .before .loop-test .taken) (c .before .before .before .before .before .before .before .loop .inv) (field-out (orderOf (a .order)) (a .kind) (now (a .body)) (c .before .before .before .before .before .before .before .loop .place .0) (a .width) (omega (arith, c .before .before .before .before .if1 .left)) (c .before .before .before .field .ensures .0) (c .before .before .shown .ensures) (sym (c .before .allowed .ensures) ∙ c .if2 .left))
 
 same-length-3 : tie.Need-same-length-3 Inv-loop μ-loop
 same-length-3 c = c .before .loop .inv .size
 
 returns-3 : tie.Need-returns-3 Inv-loop μ-loop
-returns-3 c = let a = c .before .before .before .before .before .args in fields-done (a .kind) (a .width) (now (a .body)) (now (a .table)) (a .from) (a .count) (a .at .0) (omega arith) (c .before .loop .inv)
+returns-3 c = let a = c .before .before .before .before .before .args in fields-done (orderOf (a .order)) (a .kind) (a .width) (now (a .body)) (now (a .table)) (a .from) (a .count) (a .at .0) (omega arith) (c .before .loop .inv)
 
 pub read-fields-spec : {M : Type 1} → statement M
 read-fields-spec =

@@ -1,6 +1,7 @@
 -- `table::fields::read_run` meets its contract: the one signed kind is Coordinate.
 use denote.Ref.{now}
 use mathlib.Core.Path.{sym, _∙_}
+use Rattle.bits.specs.Places.{orderOf}
 use Rattle.table.proofs.FieldLaws.{signed-run}
 use borrow.Author.Needs.{needs}
 use Rattle.table.proofs.fields.read_run.Statement.{statement}
@@ -21,7 +22,7 @@ same-length : tie.Need-same-length
 same-length c = search needs
 
 returns : tie.Need-returns
-returns c = let a = c .before .before .before .before .before .before .before .before .args in signed-run (a .kind) (a .width) (a .count) (now (a .body)) (now (a .table)) (a .from) (a .at .0) (sym (c .before .before .before .before .before .is-signed .ensures) ∙ c .before .before .before .before .if1 .taken) (c .before .before .read-signed .ensures)
+returns c = let a = c .before .before .before .before .before .before .before .before .args in signed-run (orderOf (a .order)) (a .kind) (a .width) (a .count) (now (a .body)) (now (a .table)) (a .from) (a .at .0) (sym (c .before .before .before .before .before .is-signed .ensures) ∙ c .before .before .before .before .if1 .taken) (c .before .before .read-signed .ensures)
 
 read-fields-requires : tie.Need-read-fields-requires
 read-fields-requires c κs = search needs

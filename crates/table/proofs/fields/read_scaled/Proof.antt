@@ -1,6 +1,6 @@
 -- `table::fields::read_scaled` meets its contract: a width, and the run that it tells.
 use denote.Ref.{now}
-use Rattle.format.specs.Bits.{high}
+use Rattle.bits.specs.Places.{orderOf}
 use Rattle.format.specs.Formats.{Item, item, times, the}
 use Rattle.table.specs.Fields.{fieldOf}
 use Rattle.table.proofs.EngineLaws.{then-one, then-never}
@@ -27,7 +27,7 @@ add-read-run : tie.Need-add-read-run
 add-read-run c = search needs
 
 read-run-requires : tie.Need-read-run-requires
-read-run-requires c κs = let a = c .before .before .before .before .before .before .before .before .before .before .before .args in let f = width-fits (now (a .body)) (a .at .0) (c .before .before .before .before .before .before .before .before .read-width .ensures) (c .before .before .before .before .before .before .r .given .1) (c .before .before .before .before .before .before .before .before .before .before .before .pre .0) in (f .0, f .1, f .2, c .before .before .before .before .before .before .before .before .before .before .before .pre .1)
+read-run-requires c κs = let a = c .before .before .before .before .before .before .before .before .before .before .before .args in let f = width-fits (orderOf (a .order)) (now (a .body)) (a .at .0) (c .before .before .before .before .before .before .before .before .read-width .ensures) (c .before .before .before .before .before .before .r .given .1) (c .before .before .before .before .before .before .before .before .before .before .before .pre .0) in (f .0, f .1, f .2, c .before .before .before .before .before .before .before .before .before .before .before .pre .1)
 
 enum-known-r-2 : tie.Need-enum-known-r-2
 enum-known-r-2 c = search needs
@@ -37,13 +37,13 @@ same-length c = search needs
 
 returns : tie.Need-returns
 returns c = let a = c .before .before .before .before .before .before .before .before .before .before .before .before .before .before .args in
-    then-one high (now (a .body)) (now (a .table)) (a .from) (item Item.width) (λ w. times (a .count) (fieldOf (a .kind) (the w))) (a .at .0)
-    (width-one (now (a .body)) (a .at .0) (c .before .before .before .before .before .before .before .before .before .before .before .read-width .ensures) (c .before .before .before .before .before .before .before .before .before .r .given .1)) (c .before .before .before .before .before .before .put .ensures) (c .before .before .read-run .ensures)
+    then-one (orderOf (a .order)) (now (a .body)) (now (a .table)) (a .from) (item Item.width) (λ w. times (a .count) (fieldOf (a .kind) (the w))) (a .at .0)
+    (width-one (orderOf (a .order)) (now (a .body)) (a .at .0) (c .before .before .before .before .before .before .before .before .before .before .before .read-width .ensures) (c .before .before .before .before .before .before .before .before .before .r .given .1)) (c .before .before .before .before .before .before .put .ensures) (c .before .before .read-run .ensures)
 
 returns-2 : tie.Need-returns-2
 returns-2 c = let a = c .before .before .before .before .before .before .args in
-    then-never high (now (a .body)) (now (a .table)) (a .from) (item Item.width) (λ w. times (a .count) (fieldOf (a .kind) (the w))) (a .at .0)
-    (width-stop (now (a .body)) (a .at .0) (c .before .before .before .read-width .ensures) (c .before .r2 .given .1))
+    then-never (orderOf (a .order)) (now (a .body)) (now (a .table)) (a .from) (item Item.width) (λ w. times (a .count) (fieldOf (a .kind) (the w))) (a .at .0)
+    (width-stop (orderOf (a .order)) (now (a .body)) (a .at .0) (c .before .before .before .read-width .ensures) (c .before .r2 .given .1))
 
 pub read-scaled-spec : {M : Type 1} → statement M
 read-scaled-spec =

@@ -1,6 +1,6 @@
 use denote.Ref.{now}
 use mathlib.Core.Path.{sym, _∙_}
-use Rattle.format.specs.Bits.{high}
+use Rattle.bits.specs.Places.{orderOf}
 use Rattle.format.specs.Formats.{Item, item}
 use Rattle.format.specs.Items.{run, readItem}
 use Rattle.bits.proofs.FieldLaws.{align-clean}
@@ -25,10 +25,10 @@ enum-told c = search needs
 
 returns : tie.Need-returns
 returns c = let a = c .before .before .before .before .before .args in
-    then-never high (now (a .body)) (now (a .table)) (a .from) (item Item.align) (λ xs. item Item.string) (a .at .0) (align-never (now (a .body)) (a .at .0) (sym (c .before .before .align .ensures) ∙ c .enum-told .given .1))
+    then-never (orderOf (a .order)) (now (a .body)) (now (a .table)) (a .from) (item Item.align) (λ xs. item Item.string) (a .at .0) (align-never (orderOf (a .order)) (now (a .body)) (a .at .0) (sym (c .before .before .align .ensures) ∙ c .enum-told .given .1))
 
 text-requires : tie.Need-text-requires
-text-requires c κs = let a = c .before .before .before .before .before .before .before .args in let e = sym (c .before .before .before .before .align .ensures) ∙ c .before .before .aligned .given .1 in (align-fits (now (a .body)) (a .at .0) e (c .before .before .before .before .before .before .before .pre), align-clean (now (a .body)) (a .at .0) e .1)
+text-requires c κs = let a = c .before .before .before .before .before .before .before .args in let e = sym (c .before .before .before .before .align .ensures) ∙ c .before .before .aligned .given .1 in (align-fits (orderOf (a .order)) (now (a .body)) (a .at .0) e (c .before .before .before .before .before .before .before .pre), align-clean (orderOf (a .order)) (now (a .body)) (a .at .0) e .1)
 
 same-length : tie.Need-same-length
 same-length c = search needs
@@ -36,7 +36,7 @@ same-length c = search needs
 returns-2 : tie.Need-returns-2
 unfolding run readItem
 returns-2 c = let a = c .before .before .before .before .before .before .before .before .before .before .args in
-    then-none high (now (a .body)) (now (a .table)) (a .from) (item Item.align) (λ xs. item Item.string) (a .at .0) (align-none (now (a .body)) (a .at .0) (sym (c .before .before .before .before .before .before .before .align .ensures) ∙ c .before .before .before .before .before .aligned .given .1)) (c .before .before .text .ensures)
+    then-none (orderOf (a .order)) (now (a .body)) (now (a .table)) (a .from) (item Item.align) (λ xs. item Item.string) (a .at .0) (align-none (orderOf (a .order)) (now (a .body)) (a .at .0) (sym (c .before .before .before .before .before .before .before .align .ensures) ∙ c .before .before .before .before .before .aligned .given .1)) (c .before .before .text .ensures (orderOf (a .order)))
 
 pub read-string-spec : {M : Type 1} → statement M
 read-string-spec =

@@ -1,6 +1,6 @@
 use denote.Ref.{now}
 use mathlib.Core.Path.{sym, _∙_}
-use Rattle.format.specs.Bits.{high}
+use Rattle.bits.specs.Places.{orderOf}
 use Rattle.format.specs.Bodies.{aligned}
 use Rattle.values.specs.Parts.{scaled}
 use Rattle.table.proofs.EngineLaws.{then-none, then-never}
@@ -23,16 +23,16 @@ enum-told : tie.Need-enum-told
 enum-told c = search needs
 
 returns : tie.Need-returns
-returns c = let a = c .before .before .before .before .before .args in then-never high (now (a .body)) (now (a .table)) (a .from) aligned (λ xs. scaled (a .count)) (a .at .0) (align-never (now (a .body)) (a .at .0) (sym (c .before .before .align .ensures) ∙ c .enum-told .given .1))
+returns c = let a = c .before .before .before .before .before .args in then-never (orderOf (a .order)) (now (a .body)) (now (a .table)) (a .from) aligned (λ xs. scaled (a .count)) (a .at .0) (align-never (orderOf (a .order)) (now (a .body)) (a .at .0) (sym (c .before .before .align .ensures) ∙ c .enum-told .given .1))
 
 read-scaled-requires : tie.Need-read-scaled-requires
-read-scaled-requires c κs = let a = c .before .before .before .before .before .before .before .args in (align-fits (now (a .body)) (a .at .0) (sym (c .before .before .before .before .align .ensures) ∙ c .before .before .aligned .given .1) (c .before .before .before .before .before .before .before .pre .0), c .before .before .before .before .before .before .before .pre .1)
+read-scaled-requires c κs = let a = c .before .before .before .before .before .before .before .args in (align-fits (orderOf (a .order)) (now (a .body)) (a .at .0) (sym (c .before .before .before .before .align .ensures) ∙ c .before .before .aligned .given .1) (c .before .before .before .before .before .before .before .pre .0), c .before .before .before .before .before .before .before .pre .1)
 
 same-length : tie.Need-same-length
 same-length c = search needs
 
 returns-2 : tie.Need-returns-2
-returns-2 c = let a = c .before .before .before .before .before .before .before .before .before .before .args in then-none high (now (a .body)) (now (a .table)) (a .from) aligned (λ xs. scaled (a .count)) (a .at .0) (align-none (now (a .body)) (a .at .0) (sym (c .before .before .before .before .before .before .before .align .ensures) ∙ c .before .before .before .before .before .aligned .given .1)) (c .before .before .read-scaled .ensures)
+returns-2 c = let a = c .before .before .before .before .before .before .before .before .before .before .args in then-none (orderOf (a .order)) (now (a .body)) (now (a .table)) (a .from) aligned (λ xs. scaled (a .count)) (a .at .0) (align-none (orderOf (a .order)) (now (a .body)) (a .at .0) (sym (c .before .before .before .before .before .before .before .align .ensures) ∙ c .before .before .before .before .before .aligned .given .1)) (c .before .before .read-scaled .ensures)
 
 pub read-easing-spec : {M : Type 1} → statement M
 read-easing-spec =

@@ -1,6 +1,7 @@
 use Prim.Native.Nat.{_+_}
 use denote.Ref.{now}
 use native.Mathlib.Omega.{arith}
+use Rattle.bits.specs.Places.{orderOf}
 use Rattle.format.specs.Formats.{_▸_, times}
 use Rattle.format.specs.Items.{time}
 use Rattle.format.specs.Bodies.{aligned, values}
@@ -33,14 +34,14 @@ same-length : tie.Need-same-length
 same-length c = search needs
 
 returns : tie.Need-returns
-returns c = let a = c .before .before .before .before .before .before .before .before .args in frames-is (typeOf (a .what)) (now (a .body)) (now (a .table)) (a .from) (a .frames) (a .easing) (a .at .0)
-    (run-stop (now (a .body)) (now (a .table)) (a .from) (times (a .frames + 1) time) (a .at .0) (c .before .before .before .before .read-in-turn .ensures) (λ xs. (aligned ▸ values (typeOf (a .what)) (a .frames + 1)) ▸ (aligned ▸ scaled (a .easing))) (c .enum-told .given .1))
+returns c = let a = c .before .before .before .before .before .before .before .before .args in frames-is (orderOf (a .order)) (typeOf (a .what)) (now (a .body)) (now (a .table)) (a .from) (a .frames) (a .easing) (a .at .0)
+    (run-stop (orderOf (a .order)) (now (a .body)) (now (a .table)) (a .from) (times (a .frames + 1) time) (a .at .0) (c .before .before .before .before .read-in-turn .ensures) (λ xs. (aligned ▸ values (typeOf (a .what)) (a .frames + 1)) ▸ (aligned ▸ scaled (a .easing))) (c .enum-told .given .1))
 
 add-read-values-part : tie.Need-add-read-values-part
 add-read-values-part c = search needs
 
 read-values-part-requires : tie.Need-read-values-part-requires
-read-values-part-requires c κs = let a = c .before .before .before .before .before .before .before .before .before .before .args in (run-fits (now (a .body)) (now (a .table)) (a .from) (times (a .frames + 1) time) (a .at .0) (c .before .before .before .before .before .before .read-in-turn .ensures) (c .before .before .r .given .1) (fair-times-of (a .frames + 1)) (c .before .before .before .before .before .before .before .before .before .before .pre .0), omega (arith, c .before .before .before .before .before .before .before .before .before .before .pre .1))
+read-values-part-requires c κs = let a = c .before .before .before .before .before .before .before .before .before .before .args in (run-fits (orderOf (a .order)) (now (a .body)) (now (a .table)) (a .from) (times (a .frames + 1) time) (a .at .0) (c .before .before .before .before .before .before .read-in-turn .ensures) (c .before .before .r .given .1) (fair-times-of (orderOf (a .order)) (a .frames + 1)) (c .before .before .before .before .before .before .before .before .before .before .pre .0), omega (arith, c .before .before .before .before .before .before .before .before .before .before .pre .1))
 
 enum-known-r-2 : tie.Need-enum-known-r-2
 enum-known-r-2 c = search needs
@@ -52,14 +53,14 @@ same-length-2 : tie.Need-same-length-2
 same-length-2 c = search needs
 
 returns-2 : tie.Need-returns-2
-returns-2 c = let a = c .before .before .before .before .before .before .before .before .before .before .before .before .before .before .before .args in frames-is (typeOf (a .what)) (now (a .body)) (now (a .table)) (a .from) (a .frames) (a .easing) (a .at .0)
-    (run-done (now (a .body)) (now (a .table)) (a .from) (times (a .frames + 1) time) (a .at .0) (c .before .before .before .before .before .before .before .before .before .before .before .read-in-turn .ensures) (λ xs. (aligned ▸ values (typeOf (a .what)) (a .frames + 1)) ▸ (aligned ▸ scaled (a .easing))) (c .before .before .before .before .before .before .before .r .given .1)
-    (run-stop (now (a .body)) _ _ (aligned ▸ values (typeOf (a .what)) (a .frames + 1)) _ (c .before .before .before .before .read-values-part .ensures) (λ xs. aligned ▸ scaled (a .easing)) (c .enum-told2 .given .1)))
+returns-2 c = let a = c .before .before .before .before .before .before .before .before .before .before .before .before .before .before .before .args in frames-is (orderOf (a .order)) (typeOf (a .what)) (now (a .body)) (now (a .table)) (a .from) (a .frames) (a .easing) (a .at .0)
+    (run-done (orderOf (a .order)) (now (a .body)) (now (a .table)) (a .from) (times (a .frames + 1) time) (a .at .0) (c .before .before .before .before .before .before .before .before .before .before .before .read-in-turn .ensures) (λ xs. (aligned ▸ values (typeOf (a .what)) (a .frames + 1)) ▸ (aligned ▸ scaled (a .easing))) (c .before .before .before .before .before .before .before .r .given .1)
+    (run-stop (orderOf (a .order)) (now (a .body)) _ _ (aligned ▸ values (typeOf (a .what)) (a .frames + 1)) _ (c .before .before .before .before .read-values-part .ensures) (λ xs. aligned ▸ scaled (a .easing)) (c .enum-told2 .given .1)))
 
 read-easing-requires : tie.Need-read-easing-requires
 read-easing-requires c κs = let a = c .before .before .before .before .before .before .before .before .before .before .before .before .before .before .before .before .before .args in (
-  run-fits (now (a .body)) _ _ (aligned ▸ values (typeOf (a .what)) (a .frames + 1)) _ (c .before .before .before .before .before .before .read-values-part .ensures) (c .before .before .r2 .given .1) (fair-part (typeOf (a .what)) (a .frames + 1))
-      (run-fits (now (a .body)) (now (a .table)) (a .from) (times (a .frames + 1) time) (a .at .0) (c .before .before .before .before .before .before .before .before .before .before .before .before .before .read-in-turn .ensures) (c .before .before .before .before .before .before .before .before .before .r .given .1) (fair-times-of (a .frames + 1)) (c .before .before .before .before .before .before .before .before .before .before .before .before .before .before .before .before .before .pre .0)),
+  run-fits (orderOf (a .order)) (now (a .body)) _ _ (aligned ▸ values (typeOf (a .what)) (a .frames + 1)) _ (c .before .before .before .before .before .before .read-values-part .ensures) (c .before .before .r2 .given .1) (fair-part (orderOf (a .order)) (typeOf (a .what)) (a .frames + 1))
+      (run-fits (orderOf (a .order)) (now (a .body)) (now (a .table)) (a .from) (times (a .frames + 1) time) (a .at .0) (c .before .before .before .before .before .before .before .before .before .before .before .before .before .read-in-turn .ensures) (c .before .before .before .before .before .before .before .before .before .r .given .1) (fair-times-of (orderOf (a .order)) (a .frames + 1)) (c .before .before .before .before .before .before .before .before .before .before .before .before .before .before .before .before .before .pre .0)),
   c .before .before .before .before .before .before .before .before .before .before .before .before .before .before .before .before .before .pre .2,
 )
 
@@ -67,9 +68,9 @@ same-length-3 : tie.Need-same-length-3
 same-length-3 c = search needs
 
 returns-3 : tie.Need-returns-3
-returns-3 c = let a = c .before .before .before .before .before .before .before .before .before .before .before .before .before .before .before .before .before .before .before .before .args in frames-is (typeOf (a .what)) (now (a .body)) (now (a .table)) (a .from) (a .frames) (a .easing) (a .at .0)
-    (run-done (now (a .body)) (now (a .table)) (a .from) (times (a .frames + 1) time) (a .at .0) (c .before .before .before .before .before .before .before .before .before .before .before .before .before .before .before .before .read-in-turn .ensures) (λ xs. (aligned ▸ values (typeOf (a .what)) (a .frames + 1)) ▸ (aligned ▸ scaled (a .easing))) (c .before .before .before .before .before .before .before .before .before .before .before .before .r .given .1)
-    (run-done (now (a .body)) _ _ (aligned ▸ values (typeOf (a .what)) (a .frames + 1)) _ (c .before .before .before .before .before .before .before .before .before .read-values-part .ensures) (λ xs. aligned ▸ scaled (a .easing)) (c .before .before .before .before .before .r2 .given .1) (c .before .before .read-easing .ensures)))
+returns-3 c = let a = c .before .before .before .before .before .before .before .before .before .before .before .before .before .before .before .before .before .before .before .before .args in frames-is (orderOf (a .order)) (typeOf (a .what)) (now (a .body)) (now (a .table)) (a .from) (a .frames) (a .easing) (a .at .0)
+    (run-done (orderOf (a .order)) (now (a .body)) (now (a .table)) (a .from) (times (a .frames + 1) time) (a .at .0) (c .before .before .before .before .before .before .before .before .before .before .before .before .before .before .before .before .read-in-turn .ensures) (λ xs. (aligned ▸ values (typeOf (a .what)) (a .frames + 1)) ▸ (aligned ▸ scaled (a .easing))) (c .before .before .before .before .before .before .before .before .before .before .before .before .r .given .1)
+    (run-done (orderOf (a .order)) (now (a .body)) _ _ (aligned ▸ values (typeOf (a .what)) (a .frames + 1)) _ (c .before .before .before .before .before .before .before .before .before .read-values-part .ensures) (λ xs. aligned ▸ scaled (a .easing)) (c .before .before .before .before .before .r2 .given .1) (c .before .before .read-easing .ensures)))
 
 pub read-frames-spec : {M : Type 1} → statement M
 read-frames-spec =

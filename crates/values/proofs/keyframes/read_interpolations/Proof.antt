@@ -2,6 +2,7 @@ use denote.Ref.{now}
 use mathlib.Core.Path.{refl, sym, _∙_}
 use native.Mathlib.Omega.{arith}
 use lib.Dec.{lit≤}
+use Rattle.bits.specs.Places.{orderOf}
 use Rattle.attributes.specs.Rows.{kindOf}
 use Rattle.table.proofs.RunLaws.{align-none, align-never, align-fits}
 use Rattle.values.proofs.ValueLaws.{frames-of, frames-never, frames-none, frames-some}
@@ -23,13 +24,13 @@ enum-told : tie.Need-enum-told
 enum-told c = search needs
 
 returns : tie.Need-returns
-returns c = let a = c .before .before .before .before .before .args in frames-never (now (a .body)) (now (a .table)) (a .from) (a .frames) (a .at .0) (kindOf (a .kind)) (align-never (now (a .body)) (a .at .0) (sym (c .before .before .align .ensures) ∙ c .enum-told .given .1))
+returns c = let a = c .before .before .before .before .before .args in frames-never (orderOf (a .order)) (now (a .body)) (now (a .table)) (a .from) (a .frames) (a .at .0) (kindOf (a .kind)) (align-never (orderOf (a .order)) (now (a .body)) (a .at .0) (sym (c .before .before .align .ensures) ∙ c .enum-told .given .1))
 
 enum-told-2 : tie.Need-enum-told-2
 enum-told-2 c = search needs
 
 read-fields-requires : tie.Need-read-fields-requires
-read-fields-requires c κs = let a = c .before .before .before .before .before .before .before .before .before .args in (align-fits (now (a .body)) (a .at .0) (sym (c .before .before .before .before .before .before .align .ensures) ∙ c .before .before .before .before .aligned .given .1) (c .before .before .before .before .before .before .before .before .before .pre .0), lit≤ tt, lit≤ tt, omega (arith, c .before .before .before .before .before .before .before .before .before .pre .1))
+read-fields-requires c κs = let a = c .before .before .before .before .before .before .before .before .before .args in (align-fits (orderOf (a .order)) (now (a .body)) (a .at .0) (sym (c .before .before .before .before .before .before .align .ensures) ∙ c .before .before .before .before .aligned .given .1) (c .before .before .before .before .before .before .before .before .before .pre .0), lit≤ tt, lit≤ tt, omega (arith, c .before .before .before .before .before .before .before .before .before .pre .1))
 
 enum-told-3 : tie.Need-enum-told-3
 enum-told-3 c = search needs
@@ -47,20 +48,20 @@ same-length : tie.Need-same-length
 same-length c = search needs
 
 returns-2 : tie.Need-returns-2
-returns-2 c = let a = c .before .before .before .before .before .before .before .before .before .before .before .before .args in frames-of (now (a .body)) (now (a .table)) (a .from) (a .frames) (a .at .0) _ (c .before .before .before .before .enum-told2 .given .1)
-    (frames-some (now (a .body)) (now (a .table)) (a .from) (a .frames) (a .at .0) (align-none (now (a .body)) (a .at .0) (sym (c .before .before .before .before .before .before .before .before .before .align .ensures) ∙ c .before .before .before .before .before .before .before .aligned .given .1)) (c .before .before .read-fields .ensures .0) (c .before .before .read-fields .ensures .1))
+returns-2 c = let a = c .before .before .before .before .before .before .before .before .before .before .before .before .args in frames-of (orderOf (a .order)) (now (a .body)) (now (a .table)) (a .from) (a .frames) (a .at .0) _ (c .before .before .before .before .enum-told2 .given .1)
+    (frames-some (orderOf (a .order)) (now (a .body)) (now (a .table)) (a .from) (a .frames) (a .at .0) (align-none (orderOf (a .order)) (now (a .body)) (a .at .0) (sym (c .before .before .before .before .before .before .before .before .before .align .ensures) ∙ c .before .before .before .before .before .before .before .aligned .given .1)) (c .before .before .read-fields .ensures .0) (c .before .before .read-fields .ensures .1))
 
 returns-3 : tie.Need-returns-3
-returns-3 c = let a = c .before .before .before .before .before .before .before .before .args in frames-none (now (a .body)) (now (a .table)) (a .from) (a .frames) (a .at .0) (c .enum-told3 .given .1) refl (align-none (now (a .body)) (a .at .0) (sym (c .before .before .before .before .before .align .ensures) ∙ c .before .before .before .aligned .given .1))
+returns-3 c = let a = c .before .before .before .before .before .before .before .before .args in frames-none (orderOf (a .order)) (now (a .body)) (now (a .table)) (a .from) (a .frames) (a .at .0) (c .enum-told3 .given .1) refl (align-none (orderOf (a .order)) (now (a .body)) (a .at .0) (sym (c .before .before .before .before .before .align .ensures) ∙ c .before .before .before .aligned .given .1))
 
 returns-4 : tie.Need-returns-4
-returns-4 c = let a = c .before .before .before .before .before .before .before .before .args in frames-none (now (a .body)) (now (a .table)) (a .from) (a .frames) (a .at .0) (c .enum-told4 .given .1) refl (align-none (now (a .body)) (a .at .0) (sym (c .before .before .before .before .before .align .ensures) ∙ c .before .before .before .aligned .given .1))
+returns-4 c = let a = c .before .before .before .before .before .before .before .before .args in frames-none (orderOf (a .order)) (now (a .body)) (now (a .table)) (a .from) (a .frames) (a .at .0) (c .enum-told4 .given .1) refl (align-none (orderOf (a .order)) (now (a .body)) (a .at .0) (sym (c .before .before .before .before .before .align .ensures) ∙ c .before .before .before .aligned .given .1))
 
 returns-5 : tie.Need-returns-5
-returns-5 c = let a = c .before .before .before .before .before .before .before .before .args in frames-none (now (a .body)) (now (a .table)) (a .from) (a .frames) (a .at .0) (c .enum-told5 .given .1) refl (align-none (now (a .body)) (a .at .0) (sym (c .before .before .before .before .before .align .ensures) ∙ c .before .before .before .aligned .given .1))
+returns-5 c = let a = c .before .before .before .before .before .before .before .before .args in frames-none (orderOf (a .order)) (now (a .body)) (now (a .table)) (a .from) (a .frames) (a .at .0) (c .enum-told5 .given .1) refl (align-none (orderOf (a .order)) (now (a .body)) (a .at .0) (sym (c .before .before .before .before .before .align .ensures) ∙ c .before .before .before .aligned .given .1))
 
 returns-6 : tie.Need-returns-6
-returns-6 c = let a = c .before .before .before .before .before .before .before .before .args in frames-none (now (a .body)) (now (a .table)) (a .from) (a .frames) (a .at .0) (c .enum-told6 .given .1) refl (align-none (now (a .body)) (a .at .0) (sym (c .before .before .before .before .before .align .ensures) ∙ c .before .before .before .aligned .given .1))
+returns-6 c = let a = c .before .before .before .before .before .before .before .before .args in frames-none (orderOf (a .order)) (now (a .body)) (now (a .table)) (a .from) (a .frames) (a .at .0) (c .enum-told6 .given .1) refl (align-none (orderOf (a .order)) (now (a .body)) (a .at .0) (sym (c .before .before .before .before .before .align .ensures) ∙ c .before .before .before .aligned .given .1))
 
 pub read-interpolations-spec : {M : Type 1} → statement M
 read-interpolations-spec =

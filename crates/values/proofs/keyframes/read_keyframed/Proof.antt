@@ -1,5 +1,5 @@
 use denote.Ref.{now}
-use Rattle.format.specs.Bits.{high}
+use Rattle.bits.specs.Places.{orderOf}
 use Rattle.format.specs.Formats.{the}
 use Rattle.format.specs.Items.{count}
 use Rattle.items.proofs.ItemLaws.{got-value, got-fault, count-range}
@@ -30,7 +30,7 @@ add-read-keyframes : tie.Need-add-read-keyframes
 add-read-keyframes c = search needs
 
 read-keyframes-requires : tie.Need-read-keyframes-requires
-read-keyframes-requires c κs = let a = c .before .before .before .before .before .before .before .before .before .before .before .args in (one-fits (Count _) (now (a .body)) (a .at .0) (got-value (c .before .before .before .before .before .before .before .before .read-item .ensures) (c .before .before .before .before .before .before .counted .given .1)) (c .before .before .before .before .before .before .before .before .before .before .before .pre), count-range (now (a .body)) (a .at .0) _ (got-value (c .before .before .before .before .before .before .before .before .read-item .ensures) (c .before .before .before .before .before .before .counted .given .1)) .1)
+read-keyframes-requires c κs = let a = c .before .before .before .before .before .before .before .before .before .before .before .args in (one-fits (orderOf (a .order)) (Count _) (now (a .body)) (a .at .0) (got-value (c .before .before .before .before .before .before .before .before .read-item .ensures) (c .before .before .before .before .before .before .counted .given .1)) (c .before .before .before .before .before .before .before .before .before .before .before .pre), count-range (orderOf (a .order)) (now (a .body)) (a .at .0) _ (got-value (c .before .before .before .before .before .before .before .before .read-item .ensures) (c .before .before .before .before .before .before .counted .given .1)) .1)
 
 enum-known-counted-2 : tie.Need-enum-known-counted-2
 enum-known-counted-2 c = search needs
@@ -39,10 +39,10 @@ same-length : tie.Need-same-length
 same-length c = search needs
 
 returns : tie.Need-returns
-returns c = let a = c .before .before .before .before .before .before .before .before .before .before .before .before .before .before .args in then-one high (now (a .body)) (now (a .table)) (a .from) (count _ _) (λ n. keyframesOf (kindOf (a .kind)) (typeOf (a .what)) (the n)) (a .at .0) (got-value (c .before .before .before .before .before .before .before .before .before .before .before .read-item .ensures) (c .before .before .before .before .before .before .before .before .before .counted .given .1)) (c .before .before .before .before .before .before .put .ensures) (c .before .before .read-keyframes .ensures)
+returns c = let a = c .before .before .before .before .before .before .before .before .before .before .before .before .before .before .args in then-one (orderOf (a .order)) (now (a .body)) (now (a .table)) (a .from) (count _ _) (λ n. keyframesOf (kindOf (a .kind)) (typeOf (a .what)) (the n)) (a .at .0) (got-value (c .before .before .before .before .before .before .before .before .before .before .before .read-item .ensures) (c .before .before .before .before .before .before .before .before .before .counted .given .1)) (c .before .before .before .before .before .before .put .ensures) (c .before .before .read-keyframes .ensures)
 
 returns-2 : tie.Need-returns-2
-returns-2 c = let a = c .before .before .before .before .before .before .args in then-never high (now (a .body)) (now (a .table)) (a .from) (count _ _) (λ n. keyframesOf (kindOf (a .kind)) (typeOf (a .what)) (the n)) (a .at .0) (got-fault (c .before .before .before .read-item .ensures) (c .before .counted2 .given .1))
+returns-2 c = let a = c .before .before .before .before .before .before .args in then-never (orderOf (a .order)) (now (a .body)) (now (a .table)) (a .from) (count _ _) (λ n. keyframesOf (kindOf (a .kind)) (typeOf (a .what)) (the n)) (a .at .0) (got-fault (c .before .before .before .read-item .ensures) (c .before .counted2 .given .1))
 
 pub read-keyframed-spec : {M : Type 1} → statement M
 read-keyframed-spec =

@@ -1,6 +1,7 @@
 use Prim.Native.Nat.{_*_}
 use denote.Ref.{now}
 use native.Mathlib.Omega.{arith}
+use Rattle.bits.specs.Places.{orderOf}
 use Rattle.format.specs.Formats.{_▸_}
 use Rattle.format.specs.Bodies.{aligned, interpolations, beziers}
 use Rattle.attributes.specs.Rows.{kindOf, typeOf}
@@ -28,17 +29,17 @@ same-length : tie.Need-same-length
 same-length c = search needs
 
 returns : tie.Need-returns
-returns c = let a = c .before .before .before .before .before .before .before .before .args in run-stop (now (a .body)) (now (a .table)) (a .from) (aligned ▸ interpolations (kindOf (a .kind)) (a .frames)) (a .at .0) (c .before .before .before .before .read-interpolations .ensures .0) (λ kinds. framesOf (typeOf (a .what)) (a .frames) (beziers kinds * 4)) (c .enum-told .given .1)
+returns c = let a = c .before .before .before .before .before .before .before .before .args in run-stop (orderOf (a .order)) (now (a .body)) (now (a .table)) (a .from) (aligned ▸ interpolations (kindOf (a .kind)) (a .frames)) (a .at .0) (c .before .before .before .before .read-interpolations .ensures .0) (λ kinds. framesOf (typeOf (a .what)) (a .frames) (beziers kinds * 4)) (c .enum-told .given .1)
 
 read-frames-requires : tie.Need-read-frames-requires
-read-frames-requires c κs = let a = c .before .before .before .before .before .before .before .before .before .before .args in (run-fits (now (a .body)) (now (a .table)) (a .from) (aligned ▸ interpolations (kindOf (a .kind)) (a .frames)) (a .at .0) (c .before .before .before .before .before .before .read-interpolations .ensures .0) (c .before .before .r .given .1) (fair-frames (kindOf (a .kind)) (a .frames)) (c .before .before .before .before .before .before .before .before .before .before .pre .0), c .before .before .before .before .before .before .before .before .before .before .pre .1, omega (arith, c .before .before .before .before .before .before .read-interpolations .ensures .1 .1, c .before .before .before .before .before .before .before .before .before .before .pre .1))
+read-frames-requires c κs = let a = c .before .before .before .before .before .before .before .before .before .before .args in (run-fits (orderOf (a .order)) (now (a .body)) (now (a .table)) (a .from) (aligned ▸ interpolations (kindOf (a .kind)) (a .frames)) (a .at .0) (c .before .before .before .before .before .before .read-interpolations .ensures .0) (c .before .before .r .given .1) (fair-frames (orderOf (a .order)) (kindOf (a .kind)) (a .frames)) (c .before .before .before .before .before .before .before .before .before .before .pre .0), c .before .before .before .before .before .before .before .before .before .before .pre .1, omega (arith, c .before .before .before .before .before .before .read-interpolations .ensures .1 .1, c .before .before .before .before .before .before .before .before .before .before .pre .1))
 
 same-length-2 : tie.Need-same-length-2
 same-length-2 c = search needs
 
 returns-2 : tie.Need-returns-2
-returns-2 c = let a = c .before .before .before .before .before .before .before .before .before .before .before .before .before .args in run-done (now (a .body)) (now (a .table)) (a .from) (aligned ▸ interpolations (kindOf (a .kind)) (a .frames)) (a .at .0) (c .before .before .before .before .before .before .before .before .before .read-interpolations .ensures .0) (λ kinds. framesOf (typeOf (a .what)) (a .frames) (beziers kinds * 4)) (c .before .before .before .before .before .r .given .1)
-    (easing-of (typeOf (a .what)) (kindOf (a .kind)) (now (a .body)) _ _ (a .frames) (a .at .0) _ (c .before .before .before .before .before .before .before .before .before .read-interpolations .ensures .1 .0) (c .before .before .read-frames .ensures))
+returns-2 c = let a = c .before .before .before .before .before .before .before .before .before .before .before .before .before .args in run-done (orderOf (a .order)) (now (a .body)) (now (a .table)) (a .from) (aligned ▸ interpolations (kindOf (a .kind)) (a .frames)) (a .at .0) (c .before .before .before .before .before .before .before .before .before .read-interpolations .ensures .0) (λ kinds. framesOf (typeOf (a .what)) (a .frames) (beziers kinds * 4)) (c .before .before .before .before .before .r .given .1)
+    (easing-of (orderOf (a .order)) (typeOf (a .what)) (kindOf (a .kind)) (now (a .body)) _ _ (a .frames) (a .at .0) _ (c .before .before .before .before .before .before .before .before .before .read-interpolations .ensures .1 .0) (c .before .before .read-frames .ensures))
 
 pub read-keyframes-spec : {M : Type 1} → statement M
 read-keyframes-spec =

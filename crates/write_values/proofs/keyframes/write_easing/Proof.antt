@@ -1,5 +1,6 @@
 -- `write_values::keyframes::write_easing` meets its contract.
 use denote.Ref.{now}
+use Rattle.bits.specs.Places.{orderOf}
 use Rattle.sink.specs.Laying.{at}
 use Rattle.values.specs.Parts.{scaled}
 use Rattle.spelling.proofs.RunLaws.{align-on}
@@ -17,7 +18,7 @@ same-length : tie.Need-same-length
 same-length c = search needs
 
 returns : tie.Need-returns
-returns c = let a = c .before .before .before .before .before .before .before .before .before .before .args in align-on (now (a .values)) (at (now (a .out)) (a .sink)) (a .from) (c .before .before .before .before .before .before .before .before .before .before .pre .0 .1) (c .before .before .before .before .before .before .skip .ensures .0) (λ xs. scaled (a .count)) (c .before .before .write-scaled .ensures)
+returns c = let a = c .before .before .before .before .before .before .before .before .before .before .args in align-on (orderOf (a .order)) (now (a .values)) (at (now (a .out)) (a .sink)) (a .from) (c .before .before .before .before .before .before .before .before .before .before .pre .0 .1) (c .before .before .before .before .before .before .skip .ensures .0) (λ xs. scaled (a .count)) (c .before .before .write-scaled .ensures)
 
 pub write-easing-spec : {M : Type 1} → statement M
 write-easing-spec = tie.close (tie.spec skip-requires write-scaled-requires same-length returns)

@@ -1,5 +1,6 @@
 -- `write_values::keyframes::write_frames` meets its contract.
 use denote.Ref.{now}
+use Rattle.bits.specs.Places.{orderOf}
 use Rattle.sink.specs.Laying.{at}
 use Prim.Native.Nat.{_+_}
 use native.Mathlib.Omega.{arith}
@@ -30,13 +31,13 @@ same-length : tie.Need-same-length
 same-length c = search needs
 
 returns : tie.Need-returns
-returns c = let a = c .before .before .before .before .before .before .before .before .args in frames-is (now (a .values)) (at (now (a .out)) (a .sink)) (a .from) (typeOf (a .what)) (a .frames) (a .easing) (then-off (now (a .values)) (at (now (a .out)) (a .sink)) (a .from) (times (a .frames + 1) time) (λ xs. (aligned ▸ values (typeOf (a .what)) (a .frames + 1)) ▸ (aligned ▸ scaled (a .easing))) (c .before .before .before .before .write-in-turn .last .1 .1 .0) (c .before .before .before .before .write-in-turn .result) (c .before .before .before .before .write-in-turn .ensures) (c .enum-told .given .1))
+returns c = let a = c .before .before .before .before .before .before .before .before .args in frames-is (orderOf (a .order)) (now (a .values)) (at (now (a .out)) (a .sink)) (a .from) (typeOf (a .what)) (a .frames) (a .easing) (then-off (orderOf (a .order)) (now (a .values)) (at (now (a .out)) (a .sink)) (a .from) (times (a .frames + 1) time) (λ xs. (aligned ▸ values (typeOf (a .what)) (a .frames + 1)) ▸ (aligned ▸ scaled (a .easing))) (c .before .before .before .before .write-in-turn .last .1 .1 .1 .0) (c .before .before .before .before .write-in-turn .result) (c .before .before .before .before .write-in-turn .ensures) (c .enum-told .given .1))
 
 add-write-values-part : tie.Need-add-write-values-part
 add-write-values-part c = search needs
 
 write-values-part-requires : tie.Need-write-values-part-requires
-write-values-part-requires c κs = let a = c .before .before .before .before .before .before .before .before .before .before .args in (ran-fine (now (a .values)) (now (a .out)) (a .sink) (a .from) (times (a .frames + 1) time) (c .before .before .before .before .before .before .write-in-turn .last .1 .1 .0) (c .before .before .before .before .before .before .write-in-turn .result) (c .before .before .before .before .before .before .before .before .before .before .pre .0) (c .before .before .before .before .before .before .write-in-turn .ensures) (c .before .before .r .given .0 .0) (c .before .before .r .given .0 .1 .0) (c .before .before .r .given .1), omega (arith, c .before .before .before .before .before .before .before .before .before .before .pre .1))
+write-values-part-requires c κs = let a = c .before .before .before .before .before .before .before .before .before .before .args in (ran-fine (orderOf (a .order)) (now (a .values)) (now (a .out)) (a .sink) (a .from) (times (a .frames + 1) time) (c .before .before .before .before .before .before .write-in-turn .last .1 .1 .1 .0) (c .before .before .before .before .before .before .write-in-turn .result) (c .before .before .before .before .before .before .before .before .before .before .pre .0) (c .before .before .before .before .before .before .write-in-turn .ensures) (c .before .before .r .given .0 .0) (c .before .before .r .given .0 .1 .0) (c .before .before .r .given .1), omega (arith, c .before .before .before .before .before .before .before .before .before .before .pre .1))
 
 enum-known-r-2 : tie.Need-enum-known-r-2
 enum-known-r-2 c = search needs
@@ -48,16 +49,16 @@ same-length-2 : tie.Need-same-length-2
 same-length-2 c = search needs
 
 returns-2 : tie.Need-returns-2
-returns-2 c = let a = c .before .before .before .before .before .before .before .before .before .before .before .before .before .before .before .args in frames-is (now (a .values)) (at (now (a .out)) (a .sink)) (a .from) (typeOf (a .what)) (a .frames) (a .easing) (then-on (now (a .values)) (at (now (a .out)) (a .sink)) (a .from) (times (a .frames + 1) time) (λ xs. (aligned ▸ values (typeOf (a .what)) (a .frames + 1)) ▸ (aligned ▸ scaled (a .easing))) (c .before .before .before .before .before .before .before .before .before .before .before .write-in-turn .last .1 .1 .0) (c .before .before .before .before .before .before .before .before .before .before .before .write-in-turn .result) (c .before .before .before .before .before .before .before .before .before .before .before .write-in-turn .ensures) (c .before .before .before .before .before .before .before .r .given .0 .0) (c .before .before .before .before .before .before .before .r .given .0 .1 .0) (c .before .before .before .before .before .before .before .r .given .1) (then-off (now (a .values)) (at (c .before .before .before .before .before .before .before .before .before .before .before .write-in-turn .last .1 .1 .0) (c .before .before .before .before .before .before .before .r .given .0 .0)) (c .before .before .before .before .before .before .before .r .given .0 .1 .0) (aligned ▸ values (typeOf (a .what)) (a .frames + 1)) (λ xs. (aligned ▸ scaled (a .easing))) (c .before .before .before .before .write-values-part .last .1 .1 .0) (c .before .before .before .before .write-values-part .result) (c .before .before .before .before .write-values-part .ensures) (c .enum-told2 .given .1)))
+returns-2 c = let a = c .before .before .before .before .before .before .before .before .before .before .before .before .before .before .before .args in frames-is (orderOf (a .order)) (now (a .values)) (at (now (a .out)) (a .sink)) (a .from) (typeOf (a .what)) (a .frames) (a .easing) (then-on (orderOf (a .order)) (now (a .values)) (at (now (a .out)) (a .sink)) (a .from) (times (a .frames + 1) time) (λ xs. (aligned ▸ values (typeOf (a .what)) (a .frames + 1)) ▸ (aligned ▸ scaled (a .easing))) (c .before .before .before .before .before .before .before .before .before .before .before .write-in-turn .last .1 .1 .1 .0) (c .before .before .before .before .before .before .before .before .before .before .before .write-in-turn .result) (c .before .before .before .before .before .before .before .before .before .before .before .write-in-turn .ensures) (c .before .before .before .before .before .before .before .r .given .0 .0) (c .before .before .before .before .before .before .before .r .given .0 .1 .0) (c .before .before .before .before .before .before .before .r .given .1) (then-off (orderOf (a .order)) (now (a .values)) (at (c .before .before .before .before .before .before .before .before .before .before .before .write-in-turn .last .1 .1 .1 .0) (c .before .before .before .before .before .before .before .r .given .0 .0)) (c .before .before .before .before .before .before .before .r .given .0 .1 .0) (aligned ▸ values (typeOf (a .what)) (a .frames + 1)) (λ xs. (aligned ▸ scaled (a .easing))) (c .before .before .before .before .write-values-part .last .1 .1 .1 .0) (c .before .before .before .before .write-values-part .result) (c .before .before .before .before .write-values-part .ensures) (c .enum-told2 .given .1)))
 
 write-easing-requires : tie.Need-write-easing-requires
-write-easing-requires c κs = let a = c .before .before .before .before .before .before .before .before .before .before .before .before .before .before .before .before .before .args in (ran-fine (now (a .values)) (c .before .before .before .before .before .before .before .before .before .before .before .before .before .write-in-turn .last .1 .1 .0) (c .before .before .before .before .before .before .before .before .before .r .given .0 .0) (c .before .before .before .before .before .before .before .before .before .r .given .0 .1 .0) (aligned ▸ values (typeOf (a .what)) (a .frames + 1)) (c .before .before .before .before .before .before .write-values-part .last .1 .1 .0) (c .before .before .before .before .before .before .write-values-part .result) (ran-fine (now (a .values)) (now (a .out)) (a .sink) (a .from) (times (a .frames + 1) time) (c .before .before .before .before .before .before .before .before .before .before .before .before .before .write-in-turn .last .1 .1 .0) (c .before .before .before .before .before .before .before .before .before .before .before .before .before .write-in-turn .result) (c .before .before .before .before .before .before .before .before .before .before .before .before .before .before .before .before .before .pre .0) (c .before .before .before .before .before .before .before .before .before .before .before .before .before .write-in-turn .ensures) (c .before .before .before .before .before .before .before .before .before .r .given .0 .0) (c .before .before .before .before .before .before .before .before .before .r .given .0 .1 .0) (c .before .before .before .before .before .before .before .before .before .r .given .1)) (c .before .before .before .before .before .before .write-values-part .ensures) (c .before .before .r2 .given .0 .0) (c .before .before .r2 .given .0 .1 .0) (c .before .before .r2 .given .1), c .before .before .before .before .before .before .before .before .before .before .before .before .before .before .before .before .before .pre .2)
+write-easing-requires c κs = let a = c .before .before .before .before .before .before .before .before .before .before .before .before .before .before .before .before .before .args in (ran-fine (orderOf (a .order)) (now (a .values)) (c .before .before .before .before .before .before .before .before .before .before .before .before .before .write-in-turn .last .1 .1 .1 .0) (c .before .before .before .before .before .before .before .before .before .r .given .0 .0) (c .before .before .before .before .before .before .before .before .before .r .given .0 .1 .0) (aligned ▸ values (typeOf (a .what)) (a .frames + 1)) (c .before .before .before .before .before .before .write-values-part .last .1 .1 .1 .0) (c .before .before .before .before .before .before .write-values-part .result) (ran-fine (orderOf (a .order)) (now (a .values)) (now (a .out)) (a .sink) (a .from) (times (a .frames + 1) time) (c .before .before .before .before .before .before .before .before .before .before .before .before .before .write-in-turn .last .1 .1 .1 .0) (c .before .before .before .before .before .before .before .before .before .before .before .before .before .write-in-turn .result) (c .before .before .before .before .before .before .before .before .before .before .before .before .before .before .before .before .before .pre .0) (c .before .before .before .before .before .before .before .before .before .before .before .before .before .write-in-turn .ensures) (c .before .before .before .before .before .before .before .before .before .r .given .0 .0) (c .before .before .before .before .before .before .before .before .before .r .given .0 .1 .0) (c .before .before .before .before .before .before .before .before .before .r .given .1)) (c .before .before .before .before .before .before .write-values-part .ensures) (c .before .before .r2 .given .0 .0) (c .before .before .r2 .given .0 .1 .0) (c .before .before .r2 .given .1), c .before .before .before .before .before .before .before .before .before .before .before .before .before .before .before .before .before .pre .2)
 
 same-length-3 : tie.Need-same-length-3
 same-length-3 c = search needs
 
 returns-3 : tie.Need-returns-3
-returns-3 c = let a = c .before .before .before .before .before .before .before .before .before .before .before .before .before .before .before .before .before .before .before .before .args in frames-is (now (a .values)) (at (now (a .out)) (a .sink)) (a .from) (typeOf (a .what)) (a .frames) (a .easing) (then-on (now (a .values)) (at (now (a .out)) (a .sink)) (a .from) (times (a .frames + 1) time) (λ xs. (aligned ▸ values (typeOf (a .what)) (a .frames + 1)) ▸ (aligned ▸ scaled (a .easing))) (c .before .before .before .before .before .before .before .before .before .before .before .before .before .before .before .before .write-in-turn .last .1 .1 .0) (c .before .before .before .before .before .before .before .before .before .before .before .before .before .before .before .before .write-in-turn .result) (c .before .before .before .before .before .before .before .before .before .before .before .before .before .before .before .before .write-in-turn .ensures) (c .before .before .before .before .before .before .before .before .before .before .before .before .r .given .0 .0) (c .before .before .before .before .before .before .before .before .before .before .before .before .r .given .0 .1 .0) (c .before .before .before .before .before .before .before .before .before .before .before .before .r .given .1) (then-on (now (a .values)) (at (c .before .before .before .before .before .before .before .before .before .before .before .before .before .before .before .before .write-in-turn .last .1 .1 .0) (c .before .before .before .before .before .before .before .before .before .before .before .before .r .given .0 .0)) (c .before .before .before .before .before .before .before .before .before .before .before .before .r .given .0 .1 .0) (aligned ▸ values (typeOf (a .what)) (a .frames + 1)) (λ xs. (aligned ▸ scaled (a .easing))) (c .before .before .before .before .before .before .before .before .before .write-values-part .last .1 .1 .0) (c .before .before .before .before .before .before .before .before .before .write-values-part .result) (c .before .before .before .before .before .before .before .before .before .write-values-part .ensures) (c .before .before .before .before .before .r2 .given .0 .0) (c .before .before .before .before .before .r2 .given .0 .1 .0) (c .before .before .before .before .before .r2 .given .1) (c .before .before .write-easing .ensures)))
+returns-3 c = let a = c .before .before .before .before .before .before .before .before .before .before .before .before .before .before .before .before .before .before .before .before .args in frames-is (orderOf (a .order)) (now (a .values)) (at (now (a .out)) (a .sink)) (a .from) (typeOf (a .what)) (a .frames) (a .easing) (then-on (orderOf (a .order)) (now (a .values)) (at (now (a .out)) (a .sink)) (a .from) (times (a .frames + 1) time) (λ xs. (aligned ▸ values (typeOf (a .what)) (a .frames + 1)) ▸ (aligned ▸ scaled (a .easing))) (c .before .before .before .before .before .before .before .before .before .before .before .before .before .before .before .before .write-in-turn .last .1 .1 .1 .0) (c .before .before .before .before .before .before .before .before .before .before .before .before .before .before .before .before .write-in-turn .result) (c .before .before .before .before .before .before .before .before .before .before .before .before .before .before .before .before .write-in-turn .ensures) (c .before .before .before .before .before .before .before .before .before .before .before .before .r .given .0 .0) (c .before .before .before .before .before .before .before .before .before .before .before .before .r .given .0 .1 .0) (c .before .before .before .before .before .before .before .before .before .before .before .before .r .given .1) (then-on (orderOf (a .order)) (now (a .values)) (at (c .before .before .before .before .before .before .before .before .before .before .before .before .before .before .before .before .write-in-turn .last .1 .1 .1 .0) (c .before .before .before .before .before .before .before .before .before .before .before .before .r .given .0 .0)) (c .before .before .before .before .before .before .before .before .before .before .before .before .r .given .0 .1 .0) (aligned ▸ values (typeOf (a .what)) (a .frames + 1)) (λ xs. (aligned ▸ scaled (a .easing))) (c .before .before .before .before .before .before .before .before .before .write-values-part .last .1 .1 .1 .0) (c .before .before .before .before .before .before .before .before .before .write-values-part .result) (c .before .before .before .before .before .before .before .before .before .write-values-part .ensures) (c .before .before .before .before .before .r2 .given .0 .0) (c .before .before .before .before .before .r2 .given .0 .1 .0) (c .before .before .before .before .before .r2 .given .1) (c .before .before .write-easing .ensures)))
 
 pub write-frames-spec : {M : Type 1} → statement M
 write-frames-spec =

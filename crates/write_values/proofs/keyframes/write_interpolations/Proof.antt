@@ -1,5 +1,6 @@
 -- `write_values::keyframes::write_interpolations` meets its contract.
 use denote.Ref.{now}
+use Rattle.bits.specs.Places.{orderOf}
 use Rattle.sink.specs.Laying.{at}
 use mathlib.Core.Path.{refl}
 use Rattle.attributes.specs.Rows.{kindOf}
@@ -35,31 +36,31 @@ same-length : tie.Need-same-length
 same-length c = search needs
 
 returns : tie.Need-returns
-returns c = let a = c .before .before .before .before .before .before .before .before .before .before .before .before .args in let u = c .before .before .write-fields .last .1 .1 .1 .0 in told (now (a .values)) (at (now (a .out)) (a .sink)) (a .from) (a .frames) u (c .before .before .before .before .before .before .before .before .before .before .before .before .pre .0 .1) (c .before .before .before .before .before .before .before .before .skip .ensures .0) (c .before .before .write-fields .result .put) (c .before .before .write-fields .result .count) Simple (c .before .before .before .before .enum-told .given .1) (some-left (now (a .values)) (at (now (a .out)) (a .sink)) (a .from) (a .frames) u (c .before .before .before .before .before .before .before .before .before .before .before .before .pre .0 .1) (c .before .before .before .before .before .before .before .before .skip .ensures .0) (c .before .before .write-fields .result .put) (c .before .before .write-fields .result .count) (c .before .before .write-fields .ensures .0) (c .before .before .write-fields .ensures .1))
+returns c = let a = c .before .before .before .before .before .before .before .before .before .before .before .before .args in let u = c .before .before .write-fields .last .1 .1 .1 .1 .0 in told (orderOf (a .order)) (now (a .values)) (at (now (a .out)) (a .sink)) (a .from) (a .frames) u (c .before .before .before .before .before .before .before .before .before .before .before .before .pre .0 .1) (c .before .before .before .before .before .before .before .before .skip .ensures .0) (c .before .before .write-fields .result .put) (c .before .before .write-fields .result .count) Simple (c .before .before .before .before .enum-told .given .1) (some-left (orderOf (a .order)) (now (a .values)) (at (now (a .out)) (a .sink)) (a .from) (a .frames) u (c .before .before .before .before .before .before .before .before .before .before .before .before .pre .0 .1) (c .before .before .before .before .before .before .before .before .skip .ensures .0) (c .before .before .write-fields .result .put) (c .before .before .write-fields .result .count) (c .before .before .write-fields .ensures .0) (c .before .before .write-fields .ensures .1))
 
 same-length-2 : tie.Need-same-length-2
 same-length-2 c = search needs
 
 returns-2 : tie.Need-returns-2
-returns-2 c = let a = c .before .before .before .before .before .before .before .before .args in let u = c .before .before .before .before .skip .last .0 in told (now (a .values)) (at (now (a .out)) (a .sink)) (a .from) (a .frames) u (c .before .before .before .before .before .before .before .before .pre .0 .1) (c .before .before .before .before .skip .ensures .0) (Done (c .before .before .before .before .skip .result) (a .from)) 0 Value (c .enum-told2 .given .1) (none-left (now (a .values)) (at (now (a .out)) (a .sink)) (a .from) (a .frames) u (c .before .before .before .before .before .before .before .before .pre .0 .1) (c .before .before .before .before .skip .ensures .0) (kindOf Value) (c .before .before .before .before .skip .result) refl refl (c .before .before .before .before .skip .ensures .1 .1))
+returns-2 c = let a = c .before .before .before .before .before .before .before .before .args in let u = c .before .before .before .before .skip .last .1 .0 in told (orderOf (a .order)) (now (a .values)) (at (now (a .out)) (a .sink)) (a .from) (a .frames) u (c .before .before .before .before .before .before .before .before .pre .0 .1) (c .before .before .before .before .skip .ensures .0) (Done (c .before .before .before .before .skip .result) (a .from)) 0 Value (c .enum-told2 .given .1) (none-left (orderOf (a .order)) (now (a .values)) (at (now (a .out)) (a .sink)) (a .from) (a .frames) u (c .before .before .before .before .before .before .before .before .pre .0 .1) (c .before .before .before .before .skip .ensures .0) (kindOf Value) (c .before .before .before .before .skip .result) refl refl (c .before .before .before .before .skip .ensures .1 .1))
 
 same-length-3 : tie.Need-same-length-3
 same-length-3 c = search needs
 
 returns-3 : tie.Need-returns-3
-returns-3 c = let a = c .before .before .before .before .before .before .before .before .args in let u = c .before .before .before .before .skip .last .0 in told (now (a .values)) (at (now (a .out)) (a .sink)) (a .from) (a .frames) u (c .before .before .before .before .before .before .before .before .pre .0 .1) (c .before .before .before .before .skip .ensures .0) (Done (c .before .before .before .before .skip .result) (a .from)) 0 Fixed (c .enum-told3 .given .1) (none-left (now (a .values)) (at (now (a .out)) (a .sink)) (a .from) (a .frames) u (c .before .before .before .before .before .before .before .before .pre .0 .1) (c .before .before .before .before .skip .ensures .0) (kindOf Fixed) (c .before .before .before .before .skip .result) refl refl (c .before .before .before .before .skip .ensures .1 .1))
+returns-3 c = let a = c .before .before .before .before .before .before .before .before .args in let u = c .before .before .before .before .skip .last .1 .0 in told (orderOf (a .order)) (now (a .values)) (at (now (a .out)) (a .sink)) (a .from) (a .frames) u (c .before .before .before .before .before .before .before .before .pre .0 .1) (c .before .before .before .before .skip .ensures .0) (Done (c .before .before .before .before .skip .result) (a .from)) 0 Fixed (c .enum-told3 .given .1) (none-left (orderOf (a .order)) (now (a .values)) (at (now (a .out)) (a .sink)) (a .from) (a .frames) u (c .before .before .before .before .before .before .before .before .pre .0 .1) (c .before .before .before .before .skip .ensures .0) (kindOf Fixed) (c .before .before .before .before .skip .result) refl refl (c .before .before .before .before .skip .ensures .1 .1))
 
 same-length-4 : tie.Need-same-length-4
 same-length-4 c = search needs
 
 returns-4 : tie.Need-returns-4
-returns-4 c = let a = c .before .before .before .before .before .before .before .before .args in let u = c .before .before .before .before .skip .last .0 in told (now (a .values)) (at (now (a .out)) (a .sink)) (a .from) (a .frames) u (c .before .before .before .before .before .before .before .before .pre .0 .1) (c .before .before .before .before .skip .ensures .0) (Done (c .before .before .before .before .skip .result) (a .from)) 0 BitFlag (c .enum-told4 .given .1) (none-left (now (a .values)) (at (now (a .out)) (a .sink)) (a .from) (a .frames) u (c .before .before .before .before .before .before .before .before .pre .0 .1) (c .before .before .before .before .skip .ensures .0) (kindOf BitFlag) (c .before .before .before .before .skip .result) refl refl (c .before .before .before .before .skip .ensures .1 .1))
+returns-4 c = let a = c .before .before .before .before .before .before .before .before .args in let u = c .before .before .before .before .skip .last .1 .0 in told (orderOf (a .order)) (now (a .values)) (at (now (a .out)) (a .sink)) (a .from) (a .frames) u (c .before .before .before .before .before .before .before .before .pre .0 .1) (c .before .before .before .before .skip .ensures .0) (Done (c .before .before .before .before .skip .result) (a .from)) 0 BitFlag (c .enum-told4 .given .1) (none-left (orderOf (a .order)) (now (a .values)) (at (now (a .out)) (a .sink)) (a .from) (a .frames) u (c .before .before .before .before .before .before .before .before .pre .0 .1) (c .before .before .before .before .skip .ensures .0) (kindOf BitFlag) (c .before .before .before .before .skip .result) refl refl (c .before .before .before .before .skip .ensures .1 .1))
 
 same-length-5 : tie.Need-same-length-5
 same-length-5 c = search needs
 
 returns-5 : tie.Need-returns-5
-returns-5 c = let a = c .before .before .before .before .before .before .before .before .args in let u = c .before .before .before .before .skip .last .0 in told (now (a .values)) (at (now (a .out)) (a .sink)) (a .from) (a .frames) u (c .before .before .before .before .before .before .before .before .pre .0 .1) (c .before .before .before .before .skip .ensures .0) (Done (c .before .before .before .before .skip .result) (a .from)) 0 Discrete (c .enum-told5 .given .1) (none-left (now (a .values)) (at (now (a .out)) (a .sink)) (a .from) (a .frames) u (c .before .before .before .before .before .before .before .before .pre .0 .1) (c .before .before .before .before .skip .ensures .0) (kindOf Discrete) (c .before .before .before .before .skip .result) refl refl (c .before .before .before .before .skip .ensures .1 .1))
+returns-5 c = let a = c .before .before .before .before .before .before .before .before .args in let u = c .before .before .before .before .skip .last .1 .0 in told (orderOf (a .order)) (now (a .values)) (at (now (a .out)) (a .sink)) (a .from) (a .frames) u (c .before .before .before .before .before .before .before .before .pre .0 .1) (c .before .before .before .before .skip .ensures .0) (Done (c .before .before .before .before .skip .result) (a .from)) 0 Discrete (c .enum-told5 .given .1) (none-left (orderOf (a .order)) (now (a .values)) (at (now (a .out)) (a .sink)) (a .from) (a .frames) u (c .before .before .before .before .before .before .before .before .pre .0 .1) (c .before .before .before .before .skip .ensures .0) (kindOf Discrete) (c .before .before .before .before .skip .result) refl refl (c .before .before .before .before .skip .ensures .1 .1))
 
 pub write-interpolations-spec : {M : Type 1} → statement M
 write-interpolations-spec =

@@ -1,5 +1,6 @@
 -- `write_values::keyframes::write_keyframes` meets its contract.
 use denote.Ref.{now}
+use Rattle.bits.specs.Places.{orderOf}
 use Rattle.sink.specs.Laying.{at}
 use Prim.Native.Nat.{_*_}
 use native.Mathlib.Omega.{arith}
@@ -26,17 +27,17 @@ same-length : tie.Need-same-length
 same-length c = search needs
 
 returns : tie.Need-returns
-returns c = let a = c .before .before .before .before .before .before .before .before .args in then-off (now (a .values)) (at (now (a .out)) (a .sink)) (a .from) (aligned ▸ interpolations (kindOf (a .kind)) (a .frames)) (λ kinds. framesOf (typeOf (a .what)) (a .frames) (beziers kinds * 4)) (c .before .before .before .before .write-interpolations .last .1 .1 .0) (c .before .before .before .before .write-interpolations .result .put) (c .before .before .before .before .write-interpolations .ensures .0) (c .enum-told .given .1)
+returns c = let a = c .before .before .before .before .before .before .before .before .args in then-off (orderOf (a .order)) (now (a .values)) (at (now (a .out)) (a .sink)) (a .from) (aligned ▸ interpolations (kindOf (a .kind)) (a .frames)) (λ kinds. framesOf (typeOf (a .what)) (a .frames) (beziers kinds * 4)) (c .before .before .before .before .write-interpolations .last .1 .1 .1 .0) (c .before .before .before .before .write-interpolations .result .put) (c .before .before .before .before .write-interpolations .ensures .0) (c .enum-told .given .1)
 
 write-frames-requires : tie.Need-write-frames-requires
 write-frames-requires c κs = let a = c .before .before .before .before .before .before .before .before .before .before .args in let h = eases-few (now (a .values)) (a .from) (a .frames) (c .before .before .before .before .before .before .write-interpolations .result .count) (c .before .before .before .before .before .before .write-interpolations .ensures .1) (c .before .before .r .given .1) in
-    (ran-fine (now (a .values)) (now (a .out)) (a .sink) (a .from) (aligned ▸ interpolations (kindOf (a .kind)) (a .frames)) (c .before .before .before .before .before .before .write-interpolations .last .1 .1 .0) (c .before .before .before .before .before .before .write-interpolations .result .put) (c .before .before .before .before .before .before .before .before .before .before .pre .0) (c .before .before .before .before .before .before .write-interpolations .ensures .0) (c .before .before .r .given .0 .0) (c .before .before .r .given .0 .1 .0) (c .before .before .r .given .1), c .before .before .before .before .before .before .before .before .before .before .pre .1, omega (arith, h, c .before .before .before .before .before .before .before .before .before .before .pre .1))
+    (ran-fine (orderOf (a .order)) (now (a .values)) (now (a .out)) (a .sink) (a .from) (aligned ▸ interpolations (kindOf (a .kind)) (a .frames)) (c .before .before .before .before .before .before .write-interpolations .last .1 .1 .1 .0) (c .before .before .before .before .before .before .write-interpolations .result .put) (c .before .before .before .before .before .before .before .before .before .before .pre .0) (c .before .before .before .before .before .before .write-interpolations .ensures .0) (c .before .before .r .given .0 .0) (c .before .before .r .given .0 .1 .0) (c .before .before .r .given .1), c .before .before .before .before .before .before .before .before .before .before .pre .1, omega (arith, h, c .before .before .before .before .before .before .before .before .before .before .pre .1))
 
 same-length-2 : tie.Need-same-length-2
 same-length-2 c = search needs
 
 returns-2 : tie.Need-returns-2
-returns-2 c = let a = c .before .before .before .before .before .before .before .before .before .before .before .before .before .args in keyframes-done (now (a .values)) (at (now (a .out)) (a .sink)) (a .from) (kindOf (a .kind)) (typeOf (a .what)) (a .frames) (c .before .before .before .before .before .before .before .before .before .write-interpolations .result .count) (c .before .before .before .before .before .before .before .before .before .write-interpolations .last .1 .1 .0) (c .before .before .before .before .before .before .before .before .before .write-interpolations .result .put) (c .before .before .before .before .before .before .before .before .before .write-interpolations .ensures .0) (c .before .before .before .before .before .before .before .before .before .write-interpolations .ensures .1) (c .before .before .before .before .before .r .given .0 .0) (c .before .before .before .before .before .r .given .0 .1 .0) (c .before .before .before .before .before .r .given .1) (c .before .before .write-frames .ensures)
+returns-2 c = let a = c .before .before .before .before .before .before .before .before .before .before .before .before .before .args in keyframes-done (orderOf (a .order)) (now (a .values)) (at (now (a .out)) (a .sink)) (a .from) (kindOf (a .kind)) (typeOf (a .what)) (a .frames) (c .before .before .before .before .before .before .before .before .before .write-interpolations .result .count) (c .before .before .before .before .before .before .before .before .before .write-interpolations .last .1 .1 .1 .0) (c .before .before .before .before .before .before .before .before .before .write-interpolations .result .put) (c .before .before .before .before .before .before .before .before .before .write-interpolations .ensures .0) (c .before .before .before .before .before .before .before .before .before .write-interpolations .ensures .1) (c .before .before .before .before .before .r .given .0 .0) (c .before .before .before .before .before .r .given .0 .1 .0) (c .before .before .before .before .before .r .given .1) (c .before .before .write-frames .ensures)
 
 pub write-keyframes-spec : {M : Type 1} → statement M
 write-keyframes-spec =
