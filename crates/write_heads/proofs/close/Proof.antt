@@ -11,67 +11,51 @@ use Rattle.write_heads.proofs.move_up.Reads as move-up-reads
 use Rattle.write_heads.proofs.put16.Reads as put16-reads
 use Rattle.write_heads.proofs.put_long.Reads as put-long-reads
 
--- src/lib.rt:77:26
 kept-requires : tie.Need-kept-requires
 kept-requires c κs = search needs
 
--- src/lib.rt:77:16
 add-from : tie.Need-add-from
 add-from c = search needs
 
--- src/lib.rt:78:18
 sub-length : tie.Need-sub-length
 sub-length c = search needs
 
--- src/lib.rt:80:9
 put-long-requires : tie.Need-put-long-requires
 put-long-requires c κs = search needs
 
--- src/lib.rt:81:9
 same-length : tie.Need-same-length
 same-length c = search needs
 
--- src/lib.rt:81:9
 returns : tie.Need-returns
 returns c = close-claimed (now (c .before .before .before .before .before .before .before .before .before .args .out)) (c .before .before .before .before .before .before .before .before .before .args .place .0) (c .before .before .before .before .before .before .before .before .before .args .code) (c .before .before .before .before .before .before .before .before .before .args .stop .0) (c .before .before .before .before .before .before .before .kept .result) (c .before .before .before .before .before .before .before .before .before .args .claimed) (c .before .before .before .before .before .before .before .kept .ensures) (c .before .before .before .before .before .before .before .before .before .pre .0) (c .before .before .before .before .if1 .taken) (c .before .before .put-long .ensures)
 
--- src/lib.rt:84:27
 mul-put16 : tie.Need-mul-put16
 mul-put16 c = search needs
 
--- src/lib.rt:84:27
 add-put16 : tie.Need-add-put16
 add-put16 c = search needs
 
--- src/lib.rt:84:9
 put16-requires : tie.Need-put16-requires
 put16-requires c κs = search needs
 
--- src/lib.rt:85:9
 same-length-2 : tie.Need-same-length-2
 same-length-2 c = search needs
 
--- src/lib.rt:85:9
 returns-2 : tie.Need-returns-2
 returns-2 c = close-short (now (c .before .before .before .before .before .before .before .before .before .before .args .out)) (c .before .before .before .before .before .before .before .before .before .before .args .place .0) (c .before .before .before .before .before .before .before .before .before .before .args .code) (c .before .before .before .before .before .before .before .before .before .before .args .stop .0) (c .before .before .before .before .before .before .before .before .kept .result) (c .before .before .before .before .before .before .before .before .before .before .args .claimed) (c .before .before .before .before .before .before .before .before .kept .ensures) (c .before .before .before .before .before .before .before .before .before .before .pre .0) (c .before .before .before .before .before .if1 .left) (c .before .before .before .before .if2 .taken) (c .before .before .put16 .ensures)
 
--- src/lib.rt:87:5
 move-up-requires : tie.Need-move-up-requires
 move-up-requires c κs = search needs
 
--- src/lib.rt:88:5
 put-long-requires-2 : tie.Need-put-long-requires-2
 put-long-requires-2 c κs = search needs
 
--- src/lib.rt:89:16
 add-next : tie.Need-add-next
 add-next c = search needs
 
--- src/lib.rt:67:1
 same-length-3 : tie.Need-same-length-3
 same-length-3 c = search needs
 
--- src/lib.rt:67:1
 returns-3 : tie.Need-returns-3
 returns-3 c = close-long (now (c .before .before .before .before .before .before .before .before .before .before .before .before .before .before .before .args .out)) (c .before .before .before .before .before .before .before .before .before .before .before .before .before .before .before .args .place .0) (c .before .before .before .before .before .before .before .before .before .before .before .before .before .before .before .args .code) (c .before .before .before .before .before .before .before .before .before .before .before .before .before .before .before .args .stop .0) (c .before .before .before .before .before .before .before .before .before .before .before .before .before .kept .result) (c .before .before .before .before .before .before .before .before .before .before .before .before .before .before .before .args .claimed) (c .before .before .before .before .before .before .before .before .before .before .before .before .before .kept .ensures) (c .before .before .before .before .before .before .before .before .before .before .before .before .before .before .before .pre .0) (c .before .before .before .before .before .before .before .before .before .before .if1 .left) (omega (arith, c .before .before .before .before .before .before .before .before .before .if2 .left)) (omega arith) (c .before .before .before .before .before .before .before .move-up .ensures) (c .before .before .before .put-long2 .ensures)
 

@@ -8,31 +8,24 @@ use Rattle.write_heads.proofs.put_long.Lts as lts
 use Rattle.write_heads.proofs.put16.Reads as put16-reads
 use Rattle.write_heads.proofs.put32.Reads as put32-reads
 
--- src/lib.rt:61:23
 mul-put16 : tie.Need-mul-put16
 mul-put16 c = search needs
 
--- src/lib.rt:61:23
 add-put16 : tie.Need-add-put16
 add-put16 c = search needs
 
--- src/lib.rt:61:5
 put16-requires : tie.Need-put16-requires
 put16-requires c κs = search needs
 
--- src/lib.rt:62:26
 add-t13 : tie.Need-add-t13
 add-t13 c = search needs
 
--- src/lib.rt:62:5
 put32-requires : tie.Need-put32-requires
 put32-requires c κs = search needs
 
--- src/lib.rt:57:1
 same-length : tie.Need-same-length
 same-length c = search needs
 
--- src/lib.rt:57:1
 returns : tie.Need-returns
 returns c = long-stored (now (c .before .before .before .before .before .before .before .before .before .before .args .out)) (c .before .before .before .before .before .before .before .before .before .before .args .place .0) (c .before .before .before .before .before .before .before .before .before .before .args .code) (c .before .before .before .before .before .before .before .before .before .before .args .length) (c .before .before .before .before .before .before .before .put16 .ensures) (c .before .before .put32 .ensures)
 
