@@ -1,4 +1,4 @@
-/* Generated PAG files, made item by item from document 01: bits are put one after the other, and a tag's header when its length is known. */
+/* Generated PAG files, made item by item from document 01 and document 02's C-11: bits are put one after the other, and a tag's header when its length is known. */
 #include "files.h"
 
 #include <string.h>
@@ -196,9 +196,10 @@ static size_t open_tag(struct maker *m)
 static void close_tag(struct maker *m, size_t place, uint32_t code)
 {
     size_t len = m->len - place - 2;
+    int is_long = len >= 63 || (m->any_headers && random_below(m, 4) == 0);
     uint8_t *at = m->bytes + place;
-    uint32_t number = code * 64 + (len < 63 ? (uint32_t)len : 63);
-    if (len >= 63) {
+    uint32_t number = code * 64 + (is_long ? 63 : (uint32_t)len);
+    if (is_long) {
         memmove(at + 6, at + 2, len);
         for (unsigned i = 0; i < 4; i++) at[2 + i] = (uint8_t)(len >> (8 * i));
         m->len += 4;
@@ -262,8 +263,7 @@ static void put_leaf(struct maker *m)
 
 static void put_end(struct maker *m)
 {
-    put_byte(m, 0);
-    put_byte(m, 0);
+    close_tag(m, open_tag(m), 0);
 }
 
 /* Opens a container and puts what stands before its list; *code is its code. */
@@ -311,6 +311,7 @@ static void close_file(struct maker *m)
 
 void make_random_file(struct maker *m)
 {
+    m->any_headers = 1;
     open_file(m);
     if (random_below(m, 3)) {
         put_random_list(m, 0);
@@ -319,6 +320,7 @@ void make_random_file(struct maker *m)
         put_end(m);
     }
     close_file(m);
+    m->any_headers = 0;
 }
 
 /* Containers inside each other down to the deepest, with a few leaves in each. */

@@ -13,6 +13,7 @@ struct maker {
     unsigned begun_bits;
     uint64_t seed;
     int low; /* bytes are filled from their lowest bit */
+    int any_headers; /* a body below 63 bytes may come by a long header: in random files, and in no long one */
 };
 
 enum kind { OPAQUE_BYTES, LONG_PATHS, SMALL_TAGS, NESTED, FONT_TABLES, KINDS };

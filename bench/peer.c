@@ -1,6 +1,7 @@
 /*
- * The peer of bench/run: a plain reader and writer of PAG files, made from document 01 ("What is to be built"), document 02's C-18 (bit order) and the open points of
- * docs/DECISIONS.md, with bounds checks and without proofs. Its author had seen the library and the reference, so it is no independent reading of the paper.
+ * The peer of bench/run: a plain reader and writer of PAG files, made from document 01 ("What is to be built"), document 02's C-18 (bit order) and C-11 (long
+ * headers on short bodies), and the open points of docs/DECISIONS.md, with bounds checks and without proofs. Its author had seen the library and the reference,
+ * so it is no independent reading of the paper.
  *
  * A refusal may change nothing lent, so each call walks twice: once to judge and to count, and once to fill. One function serves both walks:
  * where there is no memory to fill (a null pointer), it only counts, and skips what it need not look at.
@@ -487,23 +488,27 @@ static uint32_t le32(const uint8_t *p)
     return le16(p) | le16(p + 2) << 16;
 }
 
-/* 6 and 8 to 10, then 12, in this order. */
+/* 9 and 10, then 12, in this order. */
+static inline int judge_header(const struct walk *w, size_t rest, unsigned depth, const struct header *h)
+{
+    if (h->len > rest - h->size) return PAG_BODY_LONGER_THAN_LIST;
+    if (h->code == 0 && h->len > 0) return PAG_END_WITH_A_BODY;
+    if (depth == TOP_DEPTH && class_of(w->level, h->code) == CONTAINER) return PAG_CONTAINER_AT_DEPTH_8;
+    return 0;
+}
+
+/* 6, and then these. A short header is judged apart, so that nothing asks for its size. */
 static int read_header(const struct walk *w, size_t place, size_t end, unsigned depth, struct header *h)
 {
     size_t rest = end - place;
     if (rest < 2) return PAG_HEADER_CUT;
     uint32_t number = le16(w->file + place);
     *h = (struct header){number / 64, 2, number % 64};
-    if (h->len == LONG_LENGTH) {
-        if (rest < 6) return PAG_HEADER_CUT;
-        h->size = 6;
-        h->len = le32(w->file + place + 2);
-        if (h->len < LONG_LENGTH) return PAG_LONG_HEADER_BELOW_63;
-    }
-    if (h->len > rest - h->size) return PAG_BODY_LONGER_THAN_LIST;
-    if (h->code == 0 && h->len > 0) return PAG_END_WITH_A_BODY;
-    if (depth == TOP_DEPTH && class_of(w->level, h->code) == CONTAINER) return PAG_CONTAINER_AT_DEPTH_8;
-    return 0;
+    if (h->len < LONG_LENGTH) return judge_header(w, rest, depth, h);
+    if (rest < 6) return PAG_HEADER_CUT;
+    h->size = 6;
+    h->len = le32(w->file + place + 2);
+    return judge_header(w, rest, depth, h);
 }
 
 static void show_row(struct walk *w, unsigned depth, size_t place, const struct header *h)
@@ -519,20 +524,26 @@ static void show_row(struct walk *w, unsigned depth, size_t place, const struct 
     w->row_numbers += 5;
 }
 
+/* 1 for a tag that is read; 2 more for a long header on a body below 63. */
+static uint64_t state_of(enum tag_class class, const struct header *h)
+{
+    return (class != OPAQUE) + 2 * (h->size == 6 && h->len < LONG_LENGTH);
+}
+
 /* A tag's own numbers. *inside is how many bytes of its body they took. */
 static int show_tag(struct walk *w, enum tag_class class, size_t start, const struct header *h, size_t *inside)
 {
     uint64_t *head = w->table ? w->table + w->numbers : NULL;
     struct body b = {w->file + start, h->len, 0, head ? head + 3 : NULL, 0, w->low};
     int why = 0;
+    if (head) {
+        head[0] = h->code;
+        head[1] = state_of(class, h);
+    }
     if (class == OPAQUE) show_bytes(&b, b.bytes, b.len);
     else if (class == CONTAINER) why = read_items(&b, h->code);
     else if (class != END && !w->leaves_judged) why = read_leaf(&b, class, h->code);
-    if (head) {
-        head[0] = h->code;
-        head[1] = class != OPAQUE;
-        head[2] = b.count;
-    }
+    if (head) head[2] = b.count;
     w->numbers += 3 + b.count;
     *inside = b.at / 8;
     return why;
@@ -965,13 +976,16 @@ static void put_flags(uint8_t *to, size_t bytes, struct flags flags, int low)
 }
 
 /*
- * A tag's header and flags are known after its contents. So the contents are written as near to the tag's place as they can come, behind a short header
- * and one byte of flags, and are moved on where the header is long or the flags take two bytes: never past where the tag ends.
+ * A tag's header and flags are known after its contents. So the contents are written as near to the tag's place as they can come, behind the header that
+ * the state claims, long or short, and one byte of flags, and are moved on where no claim is made and the header is long, or the flags take two bytes: never
+ * past where the tag ends. A long header that is claimed for 63 bytes or more is in no file.
  */
-static void close_tag(struct output *o, size_t place, uint32_t code, size_t contents, struct flags flags)
+static int close_tag(struct output *o, size_t place, uint32_t code, int claimed, size_t contents, struct flags flags)
 {
     size_t flag_bytes = (flags.count + 7) / 8, n = o->len - contents, len = flag_bytes + n;
-    size_t size = len < LONG_LENGTH ? 2 : 6;
+    int is_long = len >= LONG_LENGTH;
+    if (claimed && is_long) return 0;
+    size_t size = claimed || is_long ? 6 : 2;
     if (o->bytes) {
         uint8_t *to = o->bytes + place;
         if (place + size + flag_bytes != contents) memmove(to + size + flag_bytes, o->bytes + contents, n);
@@ -980,6 +994,7 @@ static void close_tag(struct output *o, size_t place, uint32_t code, size_t cont
         if (flag_bytes > 0) put_flags(to + size, flag_bytes, flags, o->low);
     }
     o->len = place + size + len;
+    return 1;
 }
 
 /* A tag's own values: all of them. */
@@ -1016,13 +1031,14 @@ static int write_list(struct numbers *from, struct output *o, uint32_t level, un
         struct flags flags = {0, 0};
         if (!take(from, 0, PAG_LEVEL_MAX, &code)) return 0;
         enum tag_class class = class_of(level, (uint32_t)code);
-        if (!take(from, class != OPAQUE, class != OPAQUE, &state) || !take_values(from, &values)) return 0;
+        if (!take(from, 0, 3, &state) || (state & 1) != (class != OPAQUE) || !take_values(from, &values)) return 0;
         if (class == CONTAINER && depth == TOP_DEPTH) return 0;
-        size_t place = o->len, contents = place + (class == BLOCK ? 3 : 2);
+        int claimed = state >= 2;
+        size_t place = o->len, contents = place + (claimed ? 6 : 2) + (class == BLOCK);
         o->len = contents;
         if (!write_own(&values, o, class, (uint32_t)code, &flags)) return 0;
         if (class == CONTAINER && !write_list(from, o, level, depth + 1)) return 0;
-        close_tag(o, place, (uint32_t)code, contents, flags);
+        if (!close_tag(o, place, (uint32_t)code, claimed, contents, flags)) return 0;
         if (o->len > PAG_FILE_MAX) return 0;
         if (class == END) return 1;
     }

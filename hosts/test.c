@@ -167,7 +167,16 @@ static uint32_t other_order(uint32_t order)
     return order == PAG_HIGH_FIRST ? PAG_LOW_FIRST : PAG_HIGH_FIRST;
 }
 
-/* A file's table written back, in its order, in the other and in one that is neither; and damaged tables. */
+/* Where the state of some tag stands in a table. */
+static size_t random_state(struct maker *m, const uint64_t *table, size_t count)
+{
+    size_t chosen = 0;
+    for (size_t place = 2, tags = 1; place < count; place += 3 + (size_t)table[place + 1], tags++)
+        if (random_below(m, tags) == 0) chosen = place;
+    return chosen;
+}
+
+/* A file's table written back, in its order, in the other and in one that is neither; and damaged tables: any number changed, and the 2 of a state put or taken. */
 static void write_table(struct maker *m, struct how how, const uint8_t *file, size_t len, size_t count)
 {
     size_t bytes = count * 8;
@@ -178,10 +187,11 @@ static void write_table(struct maker *m, struct how how, const uint8_t *file, si
     call_rooms(&WRITE, (struct how){how.level, other_order(how.order)}, table, count);
     call(&WRITE, (struct how){how.level, NEITHER[random_below(m, NEITHER_COUNT)]}, table, count, 0);
     call(&WRITE, (struct how){how.level, NEITHER[random_below(m, NEITHER_COUNT)]}, table, count, bytes);
-    for (int i = 0; i < 4; i++) {
-        size_t place = random_below(m, count);
+    for (int i = 0; i < 6; i++) {
+        size_t place = i < 4 ? random_below(m, count) : random_state(m, table, count);
         uint64_t kept = table[place];
-        table[place] = random_below(m, 2) ? random_below(m, 300) : kept + 1 - 2 * random_below(m, 2);
+        if (i < 4) table[place] = random_below(m, 2) ? random_below(m, 300) : kept + 1 - 2 * random_below(m, 2);
+        else table[place] = kept ^ 2;
         call_rooms(&WRITE, how, table, count);
         table[place] = kept;
     }
@@ -267,25 +277,32 @@ static void try_random_bytes(struct maker *m)
 
 static const struct how HIGH = {PAG_LEVEL_MAX, PAG_HIGH_FIRST};
 
-/* P2 of document 01, cut at every length and read at every level that changes something. */
-static void try_small_file(struct maker *m)
+/* A small file cut at every length and read at every level that changes something. */
+static void try_small_file(struct maker *m, const uint8_t *file, size_t file_len)
 {
-    static const uint8_t P2[] = {0x50, 0x41, 0x47, 1, 0x13, 0, 0, 0, 0, 0xC6, 1, 0xFF, 0x80, 0, 0x80, 0x0A, 3, 0, 0};
-    for (size_t i = 0; i < LEVEL_COUNT; i++) read_in_orders(m, (struct how){LEVELS[i], PAG_HIGH_FIRST}, P2, sizeof P2);
-    for (size_t len = 0; len < sizeof P2; len++) call_rooms(&READ, HIGH, P2, len);
+    for (size_t i = 0; i < LEVEL_COUNT; i++) read_in_orders(m, (struct how){LEVELS[i], PAG_HIGH_FIRST}, file, file_len);
+    for (size_t len = 0; len < file_len; len++) call_rooms(&READ, HIGH, file, len);
 }
 
-/* Two faults that damage seldom makes: a long header with length 62, and a container at depth 8. */
-static void try_rare_faults(struct maker *m)
+/* P2 of document 01; and tag 2 holding tag 5 holding tag 11, all of them and their Ends by long headers. */
+static void try_small_files(struct maker *m)
 {
-    static const uint8_t LONG_62[] = {0x50, 0x41, 0x47, 1, 0x0F, 0, 0, 0, 0, 0x3F, 2, 0x3E, 0, 0, 0};
+    static const uint8_t P2[] = {0x50, 0x41, 0x47, 1, 0x13, 0, 0, 0, 0, 0xC6, 1, 0xFF, 0x80, 0, 0x80, 0x0A, 3, 0, 0};
+    static const uint8_t LONG[] = {0x50, 0x41, 0x47, 1, 0x31, 0, 0, 0, 0, 0xBF, 0, 0x1C, 0, 0, 0, 5, 0x7F, 1, 0x0F, 0, 0, 0, 2, 3, 0xFF,
+                                   2, 1, 0, 0, 0, 7, 0x3F, 0, 0, 0, 0, 0, 0x3F, 0, 0, 0, 0, 0, 0x3F, 0, 0, 0, 0, 0};
+    try_small_file(m, P2, sizeof P2);
+    try_small_file(m, LONG, sizeof LONG);
+}
+
+/* A fault that damage seldom makes: a container at depth 8. */
+static void try_depth_8(struct maker *m)
+{
     uint8_t deep[9 + 9 * 3 + 10 * 2] = {0x50, 0x41, 0x47, 1, sizeof deep};
     for (size_t depth = 0; depth < 9; depth++) {
         size_t place = 9 + 3 * depth, body = sizeof deep - place - 2 - 2 * (depth + 1);
         deep[place] = (uint8_t)(2 * 64 + body);
         deep[place + 1] = (2 * 64) >> 8;
     }
-    read_in_orders(m, HIGH, LONG_62, sizeof LONG_62);
     read_in_orders(m, HIGH, deep, sizeof deep);
 }
 
@@ -525,6 +542,12 @@ static void try_bits(size_t tries)
     }
 }
 
+/* 8 is not given: a long header is taken with any length. 22 and 23 are no reasons of these calls. */
+static int is_given(size_t reason)
+{
+    return (reason <= PAG_OUTPUT_TOO_SHORT && reason != 8) || reason == PAG_ORDER_UNKNOWN;
+}
+
 int main(int argc, char **argv)
 {
     int checked = argc == 3 && strcmp(argv[1], "--checked") == 0, cases_alone = argc == 3 && strcmp(argv[1], "--cases") == 0;
@@ -539,16 +562,16 @@ int main(int argc, char **argv)
     try_cases(argv[argc - 1]);
     if (cases_alone) return 0;
     try_null();
-    try_small_file(&m);
-    try_rare_faults(&m);
+    try_small_files(&m);
+    try_depth_8(&m);
     try_random_bytes(&m);
     try_random_files(&m, checked ? CHECKED_FILES : RANDOM_FILES);
     try_bits(checked ? 20000 : 200000);
     if (!checked) measure_stack(&m);
     for (size_t reason = 0; reason <= PAG_ORDER_UNKNOWN; reason++) {
-        int is_given = reason <= PAG_OUTPUT_TOO_SHORT || reason == PAG_ORDER_UNKNOWN;
-        if (!is_given || (answers[0][reason] && (answers[1][reason] || reason == PAG_ORDER_UNKNOWN))) continue;
-        printf("no input was answered by %zu in each order\n", reason);
+        size_t high = answers[0][reason], low = answers[1][reason];
+        if (is_given(reason) ? high && (low || reason == PAG_ORDER_UNKNOWN) : !high && !low) continue;
+        printf(is_given(reason) ? "no input was answered by %zu in each order\n" : "an input was answered by %zu, which is not given\n", reason);
         return 1;
     }
     printf("%zu calls, each as the peer's\n", calls);

@@ -15,6 +15,8 @@
  * - Level: 0 to 1023. Listed tags with a code above the level are carried as plain bytes. 1023 hides none.
  * - Bit order: PAG_HIGH_FIRST or PAG_LOW_FIRST. High first: the first bit is the top bit of its byte, and the highest of its field. Low first: the lowest of
  *   both; the bits that are skipped up to a whole byte are then the high ones. Items of whole bytes are the same in both. Any other order is refused by 24.
+ * - State: the second number of a tag in the table. 1: the tag is read; 0: it is carried as plain bytes; and 2 more where a long header (6 bytes) carries a
+ *   body below 63 bytes, so that pag_write gives back the same file. So an odd state is a tag that is read. The 2 on a body of 63 or more is refused by 20.
  * - Room. A file of n bytes needs at most 8 * n numbers and 5 * n tag numbers, and n is at most 16,777,216. To know the room, call
  *   with length 0: the answer is PAG_TABLE_TOO_SHORT with the numbers needed, if nothing else is wrong.
  * - Stack: at most PAG_STACK_BYTES. hosts/test.c measures it: it runs the calls on a stack that it has painted and looks how far the paint is gone.
@@ -45,7 +47,7 @@ enum pag_reason {
     PAG_LENGTH_FIELD_WRONG = 5,        /* or over the limit: 0 */
     PAG_HEADER_CUT = 6,                /* a header has begun and the end of its list's room cuts it: its place */
     PAG_LIST_WITHOUT_END = 7,          /* list room is used up without End: container's place; file length at depth 0 */
-    PAG_LONG_HEADER_BELOW_63 = 8,      /* long header, length below 63: tag's place */
+                                       /* 8 is not given: a long header is taken with any length */
     PAG_BODY_LONGER_THAN_LIST = 9,     /* body longer than the list's rest: tag's place */
     PAG_END_WITH_A_BODY = 10,          /* tag's place */
     PAG_BYTES_AFTER_END = 11,          /* container's place; first such byte at depth 0 */
@@ -68,7 +70,7 @@ typedef struct pag_answer {
     uint64_t number;
 } pag_answer;
 
-/* Reads a file into its table of numbers. Refusals: 1, 24, 2 to 19; 1, 24 and 2 to 5 are tried in this order. */
+/* Reads a file into its table of numbers. Refusals: 1, 24, 2 to 7, 9 to 19; 1, 24 and 2 to 5 are tried in this order. */
 pag_answer pag_read(uint32_t level, uint32_t order, const uint8_t *file, size_t file_len, uint64_t *table, size_t table_len);
 
 /* Reads a file's tags into the tag table. Refusals: those of pag_read, with 19 for this room. */

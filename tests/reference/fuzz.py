@@ -192,24 +192,48 @@ def leaf_body(rng, order, code):
 
 # ------------------------------------------------------------ tags and files
 
+def long_tag(code, length, body):
+    """A tag by a long header, which may say another length than its body's."""
+    return (code * 64 + 63).to_bytes(2, 'little') + length.to_bytes(4, 'little') + body
+
+
 def tag(code, body):
+    """A tag by a short header where its body has less than 63 bytes."""
     if len(body) < 63:
         return (code * 64 + len(body)).to_bytes(2, 'little') + body
-    return ((code * 64 + 63).to_bytes(2, 'little')
-            + len(body).to_bytes(4, 'little') + body)
+    return long_tag(code, len(body), body)
+
+
+def any_tag(rng, code, body):
+    """A tag by a short header or by a long one, which any body may have."""
+    return long_tag(code, len(body), body) if rng.random() < 0.3 else tag(code, body)
+
+
+def end_tag(rng):
+    return any_tag(rng, 0, b'')
 
 
 def opaque_tag(rng):
     code = rng.randint(1, 1023) if rng.getrandbits(1) else rng.choice((4, 8, 10, 13, 15))
     if code in COVERED:
         code = 1023
-    return tag(code, rng.randbytes(rng.choice((0, 1, 2, 5, 61, 62, 63, 64, 100))))
+    return any_tag(rng, code, rng.randbytes(rng.choice((0, 1, 2, 5, 61, 62, 63, 64, 100))))
+
+
+def filling_list(rng, room):
+    """A list of about so many bytes: one opaque tag and End."""
+    end = end_tag(rng)
+    return any_tag(rng, 8, rng.randbytes(max(0, room - 2 - len(end)))) + end
 
 
 def container(rng, order, depth):
+    """A container, now and then with a body near 63 bytes."""
     head = b'' if rng.getrandbits(1) else rng.randbytes(1)
     code = 5 if head else 2
-    return tag(code, head + as_bytes(order, u32(rng)) + tag_list(rng, order, depth + 1))
+    head += as_bytes(order, u32(rng))
+    if rng.random() < 0.15:
+        return any_tag(rng, code, head + filling_list(rng, rng.randint(57, 65) - len(head)))
+    return any_tag(rng, code, head + tag_list(rng, order, depth + 1))
 
 
 def tag_list(rng, order, depth):
@@ -223,8 +247,8 @@ def tag_list(rng, order, depth):
             out += opaque_tag(rng)
         else:
             code = rng.choice(LEAVES)
-            out += tag(code, leaf_body(rng, order, code))
-    return out + b'\0\0'
+            out += any_tag(rng, code, leaf_body(rng, order, code))
+    return out + end_tag(rng)
 
 
 def file_of(tags, compression=0):
@@ -236,7 +260,7 @@ def random_file(rng, order=pag.HIGH_FIRST):
     """A random file that is good at every level in this order."""
     if rng.random() < 0.3:      # one tag alone, so that damage hits its body
         code = rng.choice(LEAVES)
-        return file_of(tag(code, leaf_body(rng, order, code)) + b'\0\0', rng.getrandbits(8))
+        return file_of(any_tag(rng, code, leaf_body(rng, order, code)) + end_tag(rng), rng.getrandbits(8))
     return file_of(tag_list(rng, order, 0), rng.getrandbits(8))
 
 
@@ -273,16 +297,31 @@ def wrap(rng, data):
     """The whole list put into one to nine containers inside each other."""
     tags = data[9:]
     for _ in range(rng.randint(1, 9)):
-        tags = tag(2, b'\x01' + tags) + b'\0\0'
+        tags = any_tag(rng, 2, b'\x01' + tags) + end_tag(rng)
     return file_of(tags)
+
+
+def first_tag(data):
+    """The first tag's code and body, and what follows it."""
+    number, size = int.from_bytes(data[9:11], 'little'), 2
+    length = number % 64
+    if length == 63:
+        length, size = int.from_bytes(data[11:15], 'little'), 6
+    start = 9 + size
+    return number // 64, data[start:start + length], data[start + length:]
+
+
+def other_length(rng, data):
+    """The first tag by a long header that says some length, seldom its body's."""
+    code, body, rest = first_tag(data)
+    near = max(0, len(body) + rng.choice((-1, 0, 1)))
+    length = rng.choice((near, near, 0, 62, 63, len(body + rest), len(body + rest) + 1, rng.getrandbits(32)))
+    return file_of(long_tag(code, length, body) + rest)
 
 
 def damage_body(rng, data):
     """The first tag's body changed and its header made to fit."""
-    size = 6 if data[9] % 64 == 63 else 2
-    number = int.from_bytes(data[9:11], 'little')
-    length = int.from_bytes(data[11:15], 'little') if size == 6 else number % 64
-    body, rest = data[9 + size:9 + size + length], data[9 + size + length:]
+    code, body, rest = first_tag(data)
     place = rng.randint(0, len(body))
     way = rng.randrange(3)
     if way == 0:
@@ -291,16 +330,35 @@ def damage_body(rng, data):
         body = body[:place] + rng.randbytes(rng.randint(1, 3)) + body[place:]
     else:
         body = body[:place] + rng.choice((b'\0', b'\x80', b'\xff')) + body[place + 1:]
-    return file_of(tag(number // 64, body) + rest)
+    return file_of(any_tag(rng, code, body) + rest)
 
 
 def damage(rng, data):
     """A damaged variant of a good file; it may still be good."""
-    ways = (flip, flip, flip, cut, insert, raw_cut, wrap, damage_body, damage_body)
+    ways = (flip, flip, flip, cut, insert, raw_cut, wrap, other_length, damage_body, damage_body)
     return rng.choice(ways)(rng, data)
 
 
+def state_places(table):
+    """Where the states of the tags stand in a table."""
+    places, place = [], 1
+    while place < len(table):
+        places.append(place + 1)
+        place += 3 + table[place + 2]
+    return places
+
+
+def damaged_states(rng, table):
+    """The table with the 2 put to some tags, or taken from them; or with a state that a tag seldom has."""
+    out, places = list(table), state_places(table)
+    for place in rng.sample(places, min(len(places), rng.choice((1, 1, 2, 5)))):
+        out[place] = out[place] ^ 2 if rng.random() < 0.8 else rng.choice((0, 1, 2, 3, 4, 5, 6, 7, 256, sized(rng, 64)))
+    return out
+
+
 def damaged_table(rng, table):
+    if rng.random() < 0.4:
+        return damaged_states(rng, table)
     out = list(table)
     place = rng.randrange(len(out))
     way = rng.randrange(4)
@@ -326,14 +384,29 @@ def any_order(rng):
 
 
 def check_rows(data, table, rows):
-    """The tag table agrees with the bytes and the headers of the table."""
+    """The tag table agrees with the bytes and the headers of the table: the
+    state has the 2 where a long header carries a body below 63."""
     place = 1
     for depth, code, start, size, length in rows:
         number = int.from_bytes(data[start:start + 2], 'little')
         assert table[place] == code == number // 64 and 0 <= depth <= 8
-        assert size == (6 if length >= 63 else 2)
+        assert size == (6 if number % 64 == 63 else 2)
+        assert table[place + 1] // 2 == (size == 6 and length < 63)
         place += 3 + table[place + 2]
     assert place == len(table)
+
+
+def claims(answer):
+    """By place, whether a tag's state has the 2."""
+    _, table, rows = answer
+    return {row[2]: table[place] // 2 for row, place in zip(rows, state_places(table))}
+
+
+def check_levels(order, data, answer):
+    """"the added 2 kept at every level": what a level shows of a good file has
+    the 2 where the top level shows it."""
+    top = claims(pag.read(pag.TOP_LEVEL, order, data))
+    assert claims(answer).items() <= top.items(), (order, data.hex())
 
 
 def check_neither(rng, level, data):
@@ -356,6 +429,7 @@ def check_good(rng):
         assert answer[0] == 'table', (level, order, data.hex(), answer)
         assert pag.write(level, order, answer[1]) == ('file', data), (level, order, data.hex())
         check_rows(data, answer[1], answer[2])
+        check_levels(order, data, answer)
         assert pag.listing(data).endswith('\n')
         tables.append(answer[1])
     if level == pag.TOP_LEVEL:
@@ -372,7 +446,7 @@ def check_damaged(rng, tally):
         check_rows(data, answer[1], answer[2])
         tally['taken'] = tally.get('taken', 0) + 1
     else:
-        assert 2 <= answer[1] <= 18 and 0 <= answer[2] <= len(data)
+        assert 2 <= answer[1] <= 18 and answer[1] != 8 and 0 <= answer[2] <= len(data)
         tally[answer[1]] = tally.get(answer[1], 0) + 1
     assert pag.listing(data).endswith('\n')
 

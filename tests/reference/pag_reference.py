@@ -1,5 +1,6 @@
 """An independent reference of the PAG reader and writer, made from document 01
-and from document 02's C-18 (bit order).
+and from document 02's C-18 (bit order) and C-11 (long headers on short
+bodies).
 
 Lines in quotation marks in the comments are their sentences.
 Decision n is point n of docs/DECISIONS.md.
@@ -7,6 +8,7 @@ Decision n is point n of docs/DECISIONS.md.
 
 FILE_LIMIT = 16777216       # "A file has at most 16,777,216 bytes."
 TOP_LEVEL = 1023            # "A level from 0 to 1023 goes with each call"
+LONG_LENGTH = 63            # "Length 63 means that a .. 32-bit body length follows"
 TOP_DEPTH = 8               # "A container at depth 8 is refused."
 TOP_COUNT = 4096            # "Frames are 1 to 4,096; verbs and fonts 0 to 4,096."
 WORD = 1 << 64              # "A negative number is kept modulo 2^64"
@@ -82,6 +84,12 @@ class Fault(Exception):
 def tag_is_read(level, code):
     """"listed tags with a code above it are opaque too" """
     return code in COVERED and code <= level
+
+
+def tag_state(is_read, size, length):
+    """"its state (1 read, 0 opaque)"; C-11: it "gains 2 when a long header
+    carries a body below 63". The body is all of it, a list included."""
+    return int(is_read) + 2 * (size == 6 and length < LONG_LENGTH)
 
 
 def check_call(order, level=0):
@@ -418,18 +426,17 @@ class FileReader:
         self.rows = []
 
     def header(self, place, end, depth):
-        """"at one tag header 6 to 10 and then 12 in this order" """
+        """"at one tag header 6 to 10 and then 12 in this order"; C-11: "8 is no
+        longer given; the order of the others stays" """
         if end - place < 2:
             raise Refusal(6, place)
         number = little_endian(self.data, place, 2)
         code, length, size = number // 64, number % 64, 2
-        if length == 63:
+        if length == LONG_LENGTH:
             size = 6
             if end - place < size:
                 raise Refusal(6, place)
             length = little_endian(self.data, place + 2, 4)
-            if length < 63:
-                raise Refusal(8, place)
         if length > end - place - size:
             raise Refusal(9, place)
         if code == 0 and length > 0:
@@ -449,26 +456,27 @@ class FileReader:
                 raise Refusal(7, end if container is None else container)
             code, size, length = self.header(place, end, depth)
             self.rows.append([depth, code, place, size, length])
-            start = place + size
-            self.tag(code, place, start, start + length, depth)
-            place = start + length
+            self.tag(code, place, size, length, depth)
+            place += size + length
             if code == 0:
                 break
         if place != end:
             raise Refusal(11, place if container is None else container)
 
-    def tag(self, code, place, start, end, depth):
+    def tag(self, code, place, size, length, depth):
         """The numbers of one tag; "a container's children follow it"."""
+        start, end = place + size, place + size + length
         body = self.data[start:end]
+        state = tag_state(tag_is_read(self.level, code), size, length)
         try:
             if not tag_is_read(self.level, code):
-                self.put_tag(code, 0, body)
+                self.put_tag(code, state, body)
             elif code in CONTAINERS:
                 items = read_container_items(code, body)
-                self.put_tag(code, 1, items.values)
+                self.put_tag(code, state, items.values)
                 self.tag_list(start + items.bit // 8, end, depth + 1, place)
             else:
-                self.put_tag(code, 1, read_leaf(self.order, code, body))
+                self.put_tag(code, state, read_leaf(self.order, code, body))
         except Fault as fault:
             raise Refusal(fault.reason, place) from None
 
@@ -768,12 +776,14 @@ def write_opaque(values):
     return bytes(values)
 
 
-def write_tag_header(code, length):
-    if length < 63:
-        return (code * 64 + length).to_bytes(2, 'little')
-    if length > FILE_LIMIT:
+def write_tag_header(code, length, claimed):
+    """C-11: a table that claims the 2 gets the long header, but "for a body of
+    63 or more" it "is impossible (20)"; without it the length decides."""
+    if (claimed and length >= LONG_LENGTH) or length > FILE_LIMIT:
         raise no_file()
-    return (code * 64 + 63).to_bytes(2, 'little') + length.to_bytes(4, 'little')
+    if length < LONG_LENGTH and not claimed:
+        return (code * 64 + length).to_bytes(2, 'little')
+    return (code * 64 + LONG_LENGTH).to_bytes(2, 'little') + length.to_bytes(4, 'little')
 
 
 def write_list(level, order, numbers, depth):
@@ -782,7 +792,9 @@ def write_list(level, order, numbers, depth):
     while True:
         code = numbers.take(most=1023)
         is_read = tag_is_read(level, code)
-        numbers.take(int(is_read), int(is_read))
+        claimed, read_state = divmod(numbers.take(most=3), 2)
+        if read_state != is_read:
+            raise no_file()
         values = numbers.take_slice(numbers.take())
         if not is_read:
             body = write_opaque(values)
@@ -792,7 +804,7 @@ def write_list(level, order, numbers, depth):
             if depth == TOP_DEPTH:
                 raise no_file()
             body += write_list(level, order, numbers, depth + 1)
-        out += write_tag_header(code, len(body)) + body
+        out += write_tag_header(code, len(body), claimed) + body
         if code == 0:
             return bytes(out)
 

@@ -12,13 +12,13 @@ use Rattle.format.specs.Bits.{Order}
 use Rattle.format.specs.Formats.{Format}
 use Rattle.format.specs.Bodies.{Body, fixed, attributes}
 use Rattle.format.specs.FileAndTags as paper
-use Rattle.format.specs.FileAndTags.{opaque, end, container, known, codes, classOf, isEnd, isContainer}
+use Rattle.format.specs.FileAndTags.{opaque, end, container, known, codes, classOf, isEnd, isContainer, isRead}
 use Rattle.format.proofs.RoomLaws.{FairClass, fair-class}
 use Rattle.classes.specs.declared.Class.{Class}
 use Rattle.classes.specs.declared.Class.the-variants.{Opaque, End, Container, Fixed, Attributes}
 use Rattle.classes.specs.declared.Scope.{Scope}
 use Rattle.classes.specs.declared.Scope.the-variants.{All, Lists}
-use Rattle.classes.specs.Classes.{named, allClasses, ends, contains, classAt, takenAs, skimmed, classBy}
+use Rattle.classes.specs.Classes.{named, allClasses, bare, ends, contains, classAt, takenAs, skimmed, classBy}
 use Rattle.classes.specs.Tables.{tab, grid}
 use Rattle.classes.proofs.Table.{at, at-grid}
 
@@ -38,19 +38,22 @@ is-opaque (container f) e = cc
 is-opaque (known (fixed f)) e = cc
 is-opaque (known (attributes rows)) e = cc
 
+-- the rules that look at the name alone
+rules-named : (c : paper.Class) → (isEnd c ≡ ends (named c)) × (isContainer c ≡ contains (named c)) × (isRead c ≡ isRead (bare (named c)))
+rules-named opaque = (refl, refl, refl)
+rules-named end = (refl, refl, refl)
+rules-named (container f) = (refl, refl, refl)
+rules-named (known (fixed f)) = (refl, refl, refl)
+rules-named (known (attributes rows)) = (refl, refl, refl)
+
 pub ends-named : (c : paper.Class) → isEnd c ≡ ends (named c)
-ends-named opaque = refl
-ends-named end = refl
-ends-named (container f) = refl
-ends-named (known (fixed f)) = refl
-ends-named (known (attributes rows)) = refl
+ends-named c = rules-named c .0
 
 pub contains-named : (c : paper.Class) → isContainer c ≡ contains (named c)
-contains-named opaque = refl
-contains-named end = refl
-contains-named (container f) = refl
-contains-named (known (fixed f)) = refl
-contains-named (known (attributes rows)) = refl
+contains-named c = rules-named c .1
+
+pub read-named : (c : paper.Class) → isRead c ≡ isRead (bare (named c))
+read-named c = rules-named c .2
 
 pub is-container : (c : paper.Class) → named c ≡ Container → isContainer c ≡ true
 is-container c e = contains-named c ∙ ap contains e

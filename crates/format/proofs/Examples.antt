@@ -1,7 +1,7 @@
--- Document 01's worked files and items P1 to P11, as one table that the definitions compute; files and items in low order (C-18), and files in an
--- order that is neither, alike.
-use Prim.Native.Nat.{ℕ}
-use mathlib.Core.List.{List, [], _∷_, map}
+-- Document 01's worked files and items P1 to P11, as one table that the definitions compute; files and items in low order (C-18), files in an order
+-- that is neither, and long headers on short bodies (C-11), alike.
+use Prim.Native.Nat.{ℕ, zero, suc}
+use mathlib.Core.List.{List, [], _∷_, _++_, map}
 use mathlib.Core.Path.{_≡_, refl}
 use Rattle.format.specs.Bits.{orderNamed, bitAt, ub}
 use Rattle.format.specs.Reading.{Ending, At, Fault}
@@ -180,6 +180,69 @@ neitherExamples =
 pub neither-examples : map (λ (x : Example). read 2 (x .given)) neitherExamples ≡ map (λ (x : Example). x .gives) neitherExamples
 unfolding readFile walkFile startFault classOf walk
 neither-examples = refl
+
+-- ---- Long headers on short bodies (C-11). "The state of a tag gains 2 when a long header carries a body below 63 …; End may come this way with
+-- length 0." A long header is code × 64 + 63 in two bytes, and the length in four.
+
+abbrev zeros : ℕ → List ℕ
+zeros zero = []
+zeros (suc n) = 0 ∷ zeros n
+
+-- P1, its End by a long header
+abbrev longEnd : List ℕ
+longEnd = 0x50 ∷ 0x41 ∷ 0x47 ∷ 0x01 ∷ 0x0F ∷ 0x00 ∷ 0x00 ∷ 0x00 ∷ 0x00 ∷ 0x3F ∷ 0x00 ∷ 0x00 ∷ 0x00 ∷ 0x00 ∷ 0x00 ∷ []
+
+-- P2, its Solid by a long header: 7 × 64 + 63 is 01FF, and the length 6
+abbrev longSolid : List ℕ
+longSolid = 0x50 ∷ 0x41 ∷ 0x47 ∷ 0x01 ∷ 0x17 ∷ 0x00 ∷ 0x00 ∷ 0x00 ∷ 0x00 ∷ 0xFF ∷ 0x01 ∷ 0x06 ∷ 0x00 ∷ 0x00 ∷ 0x00 ∷ 0xFF ∷ 0x80 ∷ 0x00 ∷ 0x80 ∷ 0x0A ∷ 0x03 ∷ 0x00 ∷ 0x00 ∷ []
+
+-- a container by a long header: 2 × 64 + 63 is 00BF. Its whole body counts, 7 bytes: the id 5, and a list that is an End by a long header
+abbrev longContainer : List ℕ
+longContainer = 0x50 ∷ 0x41 ∷ 0x47 ∷ 0x01 ∷ 0x18 ∷ 0x00 ∷ 0x00 ∷ 0x00 ∷ 0x00 ∷ 0xBF ∷ 0x00 ∷ 0x07 ∷ 0x00 ∷ 0x00 ∷ 0x00 ∷ 0x05 ∷ 0x3F ∷ 0x00 ∷ 0x00 ∷ 0x00 ∷ 0x00 ∷ 0x00 ∷ 0x00 ∷ 0x00 ∷ []
+
+abbrev pub longExamples : List Example
+longExamples =
+    record { given = file 1023 longEnd; gives = gives (0 ∷ 0 ∷ 3 ∷ 0 ∷ []) }
+    -- read, and at level 6 opaque: the 2 stays
+    ∷ record {
+      given = file 1023 longSolid;
+      gives = gives (0 ∷ 7 ∷ 3 ∷ 5 ∷ 255 ∷ 128 ∷ 0 ∷ 640 ∷ 18446744073709551615 ∷ 0 ∷ 1 ∷ 0 ∷ []);
+    }
+    ∷ record {
+      given = file 6 longSolid;
+      gives = gives (0 ∷ 7 ∷ 2 ∷ 6 ∷ 255 ∷ 128 ∷ 0 ∷ 128 ∷ 10 ∷ 3 ∷ 0 ∷ 1 ∷ 0 ∷ []);
+    }
+    ∷ record {
+      given = file 1023 longContainer;
+      gives = gives (0 ∷ 2 ∷ 3 ∷ 1 ∷ 5 ∷ 0 ∷ 3 ∷ 0 ∷ 0 ∷ 1 ∷ 0 ∷ []);
+    }
+    ∷ record {
+      given = file 1 longContainer;
+      gives = gives (0 ∷ 2 ∷ 2 ∷ 7 ∷ 5 ∷ 63 ∷ 0 ∷ 0 ∷ 0 ∷ 0 ∷ 0 ∷ 0 ∷ 1 ∷ 0 ∷ []);
+    }
+    -- the opaque tag 8 with 62 bytes and with 63
+    ∷ record {
+      given = file 1023 (0x50 ∷ 0x41 ∷ 0x47 ∷ 0x01 ∷ 0x4F ∷ 0x00 ∷ 0x00 ∷ 0x00 ∷ 0x00 ∷ 0x3F ∷ 0x02 ∷ 0x3E ∷ 0x00 ∷ 0x00 ∷ 0x00 ∷ (zeros 62 ++ 0 ∷ 0 ∷ []));
+      gives = gives (0 ∷ 8 ∷ 2 ∷ 62 ∷ (zeros 62 ++ 0 ∷ 1 ∷ 0 ∷ []));
+    }
+    ∷ record {
+      given = file 1023 (0x50 ∷ 0x41 ∷ 0x47 ∷ 0x01 ∷ 0x50 ∷ 0x00 ∷ 0x00 ∷ 0x00 ∷ 0x00 ∷ 0x3F ∷ 0x02 ∷ 0x3F ∷ 0x00 ∷ 0x00 ∷ 0x00 ∷ (zeros 63 ++ 0 ∷ 0 ∷ []));
+      gives = gives (0 ∷ 8 ∷ 0 ∷ 63 ∷ (zeros 63 ++ 0 ∷ 1 ∷ 0 ∷ []));
+    }
+    -- refusals: a long header that is cut, one with 62 and no body, End by one with 1
+    ∷ record { given = file 1023 (0x50 ∷ 0x41 ∷ 0x47 ∷ 0x01 ∷ 0x0E ∷ 0x00 ∷ 0x00 ∷ 0x00 ∷ 0x00 ∷ 0x3F ∷ 0x02 ∷ 0x3E ∷ 0x00 ∷ 0x00 ∷ []); gives = refuses 6 9 }
+    ∷ record { given = file 1023 (0x50 ∷ 0x41 ∷ 0x47 ∷ 0x01 ∷ 0x0F ∷ 0x00 ∷ 0x00 ∷ 0x00 ∷ 0x00 ∷ 0x3F ∷ 0x02 ∷ 0x3E ∷ 0x00 ∷ 0x00 ∷ 0x00 ∷ []); gives = refuses 9 9 }
+    ∷ record { given = file 1023 (0x50 ∷ 0x41 ∷ 0x47 ∷ 0x01 ∷ 0x10 ∷ 0x00 ∷ 0x00 ∷ 0x00 ∷ 0x00 ∷ 0x3F ∷ 0x00 ∷ 0x01 ∷ 0x00 ∷ 0x00 ∷ 0x00 ∷ 0x00 ∷ []); gives = refuses 10 9 }
+    ∷ []
+
+pub long-examples : map (λ (x : Example). read 0 (x .given)) longExamples ≡ map (λ (x : Example). x .gives) longExamples
+unfolding readFile walkFile startFault classOf walk readBody readPart run times readItem readVar ub bitAt
+long-examples = refl
+
+-- its row has header size 6
+pub long-row : readTags 0 1023 longEnd ≡ gives (0 ∷ 0 ∷ 9 ∷ 6 ∷ 0 ∷ [])
+unfolding readTags walkFile startFault classOf walk
+long-row = refl
 
 -- the room: P1 needs four numbers, and its tag table five; what is lent past these stays, and a refusal changes nothing
 pub record RoomExample : Type 0 where

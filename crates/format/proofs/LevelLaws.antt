@@ -1,7 +1,7 @@
 -- Two levels of one file (demand 3): the theorem `levels`, at the end.
 use Prim.Native.Nat.{ℕ, zero, suc, pred, _+_, _-_, _*_, _/_, _≤_, _<_}
 use mathlib.Core.List.{List, [], _∷_, _++_, append-assoc, append-nil}
-use mathlib.Core.Path.{_≡_, refl, ap, sym, _∙_, subst}
+use mathlib.Core.Path.{_≡_, refl, ap, sym, _∙_, subst, subst₂}
 use mathlib.Core.Bool.{Bool, true, false}
 use mathlib.Core.Logic.{_⊎_, inl, inr}
 use lib.ListN.{length, getD, take, drop, length-append, length-drop, take-append-drop}
@@ -16,10 +16,11 @@ use Rattle.format.specs.Reading.{Ending, At, Fault}
 use Rattle.format.specs.Formats.{Format}
 use Rattle.format.specs.Items.{run}
 use Rattle.format.specs.Bodies.{readBody}
-use Rattle.format.specs.FileAndTags.{Class, opaque, end, container, known, codes, classOf, isEnd, isContainer, Tag, Outcome, whole, fault, Walk, broken, chain, Head, head, noHead, rawHead, passes, readHead, Owner, file, inside, TagInside, endAt, noTags, front, opened, within, afterTag, tagThen, oneTag, walk, walkList}
+use Rattle.format.specs.FileAndTags.{Class, opaque, end, container, known, codes, classOf, isEnd, isContainer, longOnShort, stateOf, Tag, Outcome, whole, fault, Walk, broken, chain, Head, head, noHead, rawHead, passes, readHead, Owner, file, inside, TagInside, endAt, noTags, front, opened, within, afterTag, tagThen, oneTag, walk, walkList}
 use Rattle.format.specs.Reasons.{startFault, walkFile}
 use Rattle.format.specs.Levels.{endOf, veil, hideFrom, hide, InHidden, here, later, Refuses, alike, apart, Levels}
 use Rattle.format.proofs.WalkLaws.{run-le, RawFits, raw-fits, Between, between-wider, FaultIn, Before, before-later, Placed, placed-within, placed-after, placed}
+use Rattle.format.proofs.StateLaws.{state-veiled}
 use Rattle.format.proofs.StartLaws.{good-start}
 use Rattle.format.proofs.Absurd.{clash}
 
@@ -208,28 +209,28 @@ module _ (ch cl : ℕ → Class) (lo : ℕ)
 
     module _ (RH RL : ℕ → Owner → ℕ → List ℕ → Walk) (kins : KinLists RH RL) (puts : PlacedLists RH) where
       -- a tag that both levels read by the class C
-      kin-class : (left B : ℕ) (C : Class) (d code a size : ℕ) (body : List ℕ) (Hw Lw : Walk) → code ≤ lo → 1 ≤ size → Part f (a + size) body
+      kin-class : (left B : ℕ) (C : Class) (d code a size st : ℕ) (body : List ℕ) (Hw Lw : Walk) → code ≤ lo → 1 ≤ size → Part f (a + size) body
           → Between (a + size + length body) B (Hw .tags) → Kin lo f (a + size + length body) Hw Lw (Hw .ended)
-          → Kin lo f a (tagThen d code a size (length body) (within o (RH left) C a (a + size) body) Hw) (tagThen d code a size (length body) (within o (RL left) C a (a + size) body) Lw)
-          (tagThen d code a size (length body) (within o (RH left) C a (a + size) body) Hw .ended)
-      kin-class left B C d code a size body Hw Lw small pos p v y = by C
+          → Kin lo f a (tagThen d code a size (length body) st (within o (RH left) C a (a + size) body) Hw) (tagThen d code a size (length body) st (within o (RL left) C a (a + size) body) Lw)
+          (tagThen d code a size (length body) st (within o (RH left) C a (a + size) body) Hw .ended)
+      kin-class left B C d code a size st body Hw Lw small pos p v y = by C
         where
-          sure : (s : ℕ) (vs : List ℕ) (Hi Li : Walk) → Between (a + size) (a + size + length body) (Hi .tags) → Kin lo f (a + size) Hi Li (Hi .ended)
-              → Kin lo f a (tagThen d code a size (length body) (record { state = s; values = vs; walk = Hi }) Hw) (tagThen d code a size (length body) (record { state = s; values = vs; walk = Li }) Lw)
-              (tagThen d code a size (length body) (record { state = s; values = vs; walk = Hi }) Hw .ended)
-          sure s vs Hi Li u x = kin-shown lo f (record { depth = d; code = code; place = a; headerSize = size; bodyLength = length body; state = s; values = vs }) (a + size) (a + size + length body) B Hi Li Hw Lw
+          sure : (vs : List ℕ) (Hi Li : Walk) → Between (a + size) (a + size + length body) (Hi .tags) → Kin lo f (a + size) Hi Li (Hi .ended)
+              → Kin lo f a (tagThen d code a size (length body) st (record { values = vs; walk = Hi }) Hw) (tagThen d code a size (length body) st (record { values = vs; walk = Li }) Lw)
+              (tagThen d code a size (length body) st (record { values = vs; walk = Hi }) Hw .ended)
+          sure vs Hi Li u x = kin-shown lo f (record { depth = d; code = code; place = a; headerSize = size; bodyLength = length body; state = st; values = vs }) (a + size) (a + size + length body) B Hi Li Hw Lw
               small (omega arith) refl (omega arith) u x v y
 
           nest : (xs : List ℕ) (k : ℕ) (Hi Li : Walk) → Between (a + size + k) (a + size + length body) (Hi .tags) → Kin lo f (a + size + k) Hi Li (Hi .ended)
-              → Kin lo f a (tagThen d code a size (length body) (record { state = 1; values = xs; walk = Hi }) Hw) (tagThen d code a size (length body) (record { state = 1; values = xs; walk = Li }) Lw)
-              (tagThen d code a size (length body) (record { state = 1; values = xs; walk = Hi }) Hw .ended)
-          nest xs k Hi Li u x = sure 1 xs Hi Li (between-wider (a + size + k) (a + size + length body) (a + size) (a + size + length body) (Hi .tags) (omega arith) (omega arith) u)
+              → Kin lo f a (tagThen d code a size (length body) st (record { values = xs; walk = Hi }) Hw) (tagThen d code a size (length body) st (record { values = xs; walk = Li }) Lw)
+              (tagThen d code a size (length body) st (record { values = xs; walk = Hi }) Hw .ended)
+          nest xs k Hi Li u x = sure xs Hi Li (between-wider (a + size + k) (a + size + length body) (a + size) (a + size + length body) (Hi .tags) (omega arith) (omega arith) u)
               (kin-start lo f (a + size) (a + size + k) (a + size + length body) Hi Li (Hi .ended) (omega arith) u x)
 
           deep : (g : Format) (xs : List ℕ) (z : Ending) → run o body (front g) 0 .ended ≡ z
-              → Kin lo f a (tagThen d code a size (length body) (opened (RH left) a (a + size) body xs z) Hw) (tagThen d code a size (length body) (opened (RL left) a (a + size) body xs z) Lw)
-              (tagThen d code a size (length body) (opened (RH left) a (a + size) body xs z) Hw .ended)
-          deep g xs (Fault e) eq = sure 1 xs (broken e a) (broken e a) tt (inl refl)
+              → Kin lo f a (tagThen d code a size (length body) st (opened (RH left) a (a + size) body xs z) Hw) (tagThen d code a size (length body) st (opened (RL left) a (a + size) body xs z) Lw)
+              (tagThen d code a size (length body) st (opened (RH left) a (a + size) body xs z) Hw .ended)
+          deep g xs (Fault e) eq = sure xs (broken e a) (broken e a) tt (inl refl)
           deep g xs (At q) eq =
               let l : (0 ≤ q) × (q ≤ 8 * length body) = run-le o body (front g) 0 q (omega arith) eq in
               let m : q / 8 ≤ length body = omega (arith, l .1) in
@@ -238,11 +239,11 @@ module _ (ch cl : ℕ → Class) (lo : ℕ)
               (rw n at (puts left (inside a) (a + size + q / 8) (drop (q / 8) body) (omega arith) .tags))
               (kins left (inside a) (a + size + q / 8) (drop (q / 8) body) (omega arith) (part-drop f (a + size) (q / 8) body m p))
 
-          by : (C : Class) → Kin lo f a (tagThen d code a size (length body) (within o (RH left) C a (a + size) body) Hw) (tagThen d code a size (length body) (within o (RL left) C a (a + size) body) Lw)
-              (tagThen d code a size (length body) (within o (RH left) C a (a + size) body) Hw .ended)
-          by opaque = sure 0 body (noTags whole) (noTags whole) tt (refl, refl)
-          by end = sure 1 [] (noTags whole) (noTags whole) tt (refl, refl)
-          by (known y) = sure 1 (readBody o y body .shown) (noTags (endAt a (readBody o y body .ended))) (noTags (endAt a (readBody o y body .ended))) tt (kin-none lo f (a + size) (endAt a (readBody o y body .ended)))
+          by : (C : Class) → Kin lo f a (tagThen d code a size (length body) st (within o (RH left) C a (a + size) body) Hw) (tagThen d code a size (length body) st (within o (RL left) C a (a + size) body) Lw)
+              (tagThen d code a size (length body) st (within o (RH left) C a (a + size) body) Hw .ended)
+          by opaque = sure body (noTags whole) (noTags whole) tt (refl, refl)
+          by end = sure [] (noTags whole) (noTags whole) tt (refl, refl)
+          by (known y) = sure (readBody o y body .shown) (noTags (endAt a (readBody o y body .ended))) (noTags (endAt a (readBody o y body .ended))) tt (kin-none lo f (a + size) (endAt a (readBody o y body .ended)))
           by (container g) = deep g (run o body (front g) 0 .shown) (run o body (front g) 0 .ended) refl
 
       module _ (left : ℕ) (c : Owner) (a : ℕ) (r : List ℕ) (h : Before c a) (p : Part f a r) where
@@ -278,11 +279,11 @@ module _ (ch cl : ℕ → Class) (lo : ℕ)
 
           one-shown : code ≤ lo → Goal (head code len size) (head code len size)
           one-shown small = rw (← same code small) (subst
-              (λ (n : ℕ). Kin lo f a (tagThen (8 - left) code a size n (within o (RH (pred left)) (ch code) a (a + size) body) (afterTag (isEnd (ch code)) c (a + size + len) left-over (RH left c)))
-              (tagThen (8 - left) code a size n (within o (RL (pred left)) (ch code) a (a + size) body) (afterTag (isEnd (ch code)) c (a + size + len) left-over (RL left c)))
-              (tagThen (8 - left) code a size n (within o (RH (pred left)) (ch code) a (a + size) body) (afterTag (isEnd (ch code)) c (a + size + len) left-over (RH left c)) .ended))
+              (λ (n : ℕ). Kin lo f a (tagThen (8 - left) code a size n (stateOf (ch code) size len) (within o (RH (pred left)) (ch code) a (a + size) body) (afterTag (isEnd (ch code)) c (a + size + len) left-over (RH left c)))
+              (tagThen (8 - left) code a size n (stateOf (ch code) size len) (within o (RL (pred left)) (ch code) a (a + size) body) (afterTag (isEnd (ch code)) c (a + size + len) left-over (RL left c)))
+              (tagThen (8 - left) code a size n (stateOf (ch code) size len) (within o (RH (pred left)) (ch code) a (a + size) body) (afterTag (isEnd (ch code)) c (a + size + len) left-over (RH left c)) .ended))
               body-length
-              (kin-class (pred left) (a + size + len + length left-over) (ch code) (8 - left) code a size body _ _ small (omega arith) body-part
+              (kin-class (pred left) (a + size + len + length left-over) (ch code) (8 - left) code a size (stateOf (ch code) size len) body _ _ small (omega arith) body-part
               (rw body-length (over-between (isEnd (ch code)))) (rw body-length (over-kin (isEnd (ch code))))))
 
           one-veiled : lo < code → (b : Bool) → Goal (pick b (noHead 12) (head code len size)) (head code len size)
@@ -290,16 +291,20 @@ module _ (ch cl : ℕ → Class) (lo : ℕ)
               let x : a ≤ a = omega arith in
               let y : a < a + size + len = omega arith in
               rw (veils code big) (inr (here big x y))
-          one-veiled big false = rw (veils code big, going code big) (subst
-              (λ (vs : List ℕ). Kin lo f a (tagThen (8 - left) code a size len i (RH left c (a + size + len) left-over))
-              (chain (record { depth = 8 - left; code = code; place = a; headerSize = size; bodyLength = len; state = 0; values = vs } ∷ []) whole (RL left c (a + size + len) left-over))
-              (tagThen (8 - left) code a size len i (RH left c (a + size + len) left-over) .ended))
+          one-veiled big false = rw (veils code big, going code big) (subst₂
+              (λ (s : ℕ) (vs : List ℕ). Kin lo f a (tagThen (8 - left) code a size len st i (RH left c (a + size + len) left-over))
+              (chain (record { depth = 8 - left; code = code; place = a; headerSize = size; bodyLength = len; state = s; values = vs } ∷ []) whole (RL left c (a + size + len) left-over))
+              (tagThen (8 - left) code a size len st i (RH left c (a + size + len) left-over) .ended))
+              (state-veiled (ch code) (longOnShort size len))
               (rw body-length at (part-plain f (a + size) body body-part))
-              (kin-veiled lo f (record { depth = 8 - left; code = code; place = a; headerSize = size; bodyLength = len; state = i .state; values = i .values })
+              (kin-veiled lo f (record { depth = 8 - left; code = code; place = a; headerSize = size; bodyLength = len; state = st; values = i .values })
               (a + size + len + length left-over) (i .walk) (RH left c (a + size + len) left-over) (RL left c (a + size + len) left-over) big (omega arith)
               (rw body-length at (placed-within o ch (RH (pred left)) (puts (pred left)) (ch code) a (a + size) body (omega arith)))
               (over-between false) (over-kin false)))
             where
+              st : ℕ
+              st = stateOf (ch code) size len
+
               i : TagInside
               i = within o (RH (pred left)) (ch code) a (a + size) body
 

@@ -14,7 +14,7 @@ pub mod ListLaws
 pub mod WalkLaws
 pub mod SizeLaws
 pub mod OneLaws
--- What these rest on: the absurd step, bits, bytes, and the round trips of items, formats, blocks, bodies, headers and lists.
+-- What these rest on: the absurd step, bits, bytes, and the round trips of items, formats, blocks, bodies, headers, states and lists.
 pub mod Absurd
 pub mod BitLaws
 pub mod ByteLaws
@@ -23,4 +23,5 @@ pub mod ItemLaws
 pub mod BlockLaws
 pub mod BodyLaws
 pub mod HeadLaws
+pub mod StateLaws
 pub mod ListTrip

@@ -10,12 +10,13 @@ use native.Mathlib.Omega.{arith}
 use Rattle.format.specs.Tests.{pick}
 use Rattle.format.specs.Bits.{Order}
 use Rattle.format.specs.Reading.{Ending, At, Fault}
+use Rattle.format.specs.Formats.{the}
 use Rattle.format.specs.Items.{run}
-use Rattle.format.specs.FileAndTags.{Class, opaque, end, container, known, isEnd, Walk, broken, Head, head, noHead, readHead, Owner, inside, blame, TagInside, front, opened, within, afterTag, tagThen, oneTag, walk, walkList}
+use Rattle.format.specs.FileAndTags.{Class, opaque, end, container, known, isEnd, Walk, broken, Head, head, noHead, stateOf, readHead, Owner, inside, blame, TagInside, front, opened, within, afterTag, tagThen, oneTag, walk, walkList}
 use Rattle.format.specs.WritingFormats.{unrun}
 use Rattle.format.specs.Possible.{Possible, this, cannot}
 use Rattle.format.specs.WritingBodies.{packed, writeBody}
-use Rattle.format.specs.WritingFiles.{Made, made, spellHead, fitsHead, allBytes, bodyOf, joined, fronted, fill, outTag, headed, outOne, unwalk, unwalkList}
+use Rattle.format.specs.WritingFiles.{Made, made, claims, fitsState, spellHead, fitsHead, allBytes, bodyOf, joined, fronted, fill, outTag, headed, outOne, unwalk, unwalkList}
 use Rattle.format.proofs.WalkLaws.{Fits, head-fits}
 
 -- ---- reading
@@ -31,7 +32,7 @@ module _ (o : Order) (class : ℕ → Class) where
       where
         go : (xs : List ℕ) (z : Ending) → opened (R left) a s body xs z ≡ opened (R′ left) a s body xs z
         go xs (Fault e) = refl
-        go xs (At p) = ap (λ (w : Walk). record { state = 1; values = xs; walk = w }) (alike left (inside a) (s + p / 8) (drop (p / 8) body) (rw length-drop (omega arith)))
+        go xs (At p) = ap (λ (w : Walk). record { values = xs; walk = w }) (alike left (inside a) (s + p / 8) (drop (p / 8) body) (rw length-drop (omega arith)))
 
     after-alike : (left : ℕ) (e : Bool) (c : Owner) (a : ℕ) (q : List ℕ) → length q < length r → afterTag e c a q (R left c) ≡ afterTag e c a q (R′ left c)
     after-alike left true c a q l = refl
@@ -40,7 +41,7 @@ module _ (o : Order) (class : ℕ → Class) where
     one-alike : (left : ℕ) (c : Owner) (a : ℕ) (g : Head) → Fits class left r g → oneTag o class R left c a r g ≡ oneTag o class R′ left c a r g
     one-alike left c a (noHead e) h = refl
     one-alike left c a (head code len size) h =
-        ap₂ (λ (i : TagInside) (w : Walk). tagThen (8 - left) code a size len i w)
+        ap₂ (λ (i : TagInside) (w : Walk). tagThen (8 - left) code a size len (stateOf (class code) size len) i w)
         (within-alike (pred left) (class code) a (a + size) (take len (drop size r))
         (omega (arith, h .0, h .1, length-take-le len (drop size r) (rw length-drop (omega (arith, h .1))))))
         (after-alike left (isEnd (class code)) c (a + size + len) (drop (size + len) r) (rw length-drop (omega (arith, h .0, h .1))))
@@ -74,7 +75,7 @@ module _ (o : Order) (class : ℕ → Class) where
   list-fault left c a r e h q = list-one left c a r h ∙ ap (oneTag o class (walkList o class) left c a r) q
 
   pub list-tag : (left : ℕ) (c : Owner) (a : ℕ) (r : List ℕ) (code len size : ℕ) → 0 < length r → readHead class left r ≡ head code len size
-      → walkList o class left c a r ≡ tagThen (8 - left) code a size len (within o (walkList o class (pred left)) (class code) a (a + size) (take len (drop size r)))
+      → walkList o class left c a r ≡ tagThen (8 - left) code a size len (stateOf (class code) size len) (within o (walkList o class (pred left)) (class code) a (a + size) (take len (drop size r)))
       (afterTag (isEnd (class code)) c (a + size + len) (drop (size + len) r) (walkList o class left c))
   list-tag left c a r code len size h q = list-one left c a r h ∙ ap (oneTag o class (walkList o class) left c a r) q
 
@@ -99,35 +100,38 @@ module _ (o : Order) (class : ℕ → Class) where
   -- what is left is no longer than what was given
   module _ (U : ℕ → List ℕ → Possible Made) (short : (left : ℕ) (ns : List ℕ) → Short (length ns) (U left ns)) where
     short-fill : (left : ℕ) (cl : Class) (s n : ℕ) (vs ys : List ℕ) → Short (length ys) (fill o (U (pred left)) left cl s n vs ys)
-    short-fill left opaque s n vs ys = short-pick _ (eqb s 0) _ (short-pick _ (allBytes vs) (this (made (s ∷ n ∷ vs) vs ys)) (omega arith))
-    short-fill left end s n vs ys = short-pick _ (eqb s 1) _ (short-pick _ (eqb n 0) (this (made (s ∷ n ∷ vs) [] ys)) (omega arith))
-    short-fill left (known y) s n vs ys = short-pick _ (eqb s 1) _ (go (writeBody o y vs))
+    short-fill left opaque s n vs ys = short-pick _ (allBytes vs) (this (made (s ∷ n ∷ vs) vs ys)) (omega arith)
+    short-fill left end s n vs ys = short-pick _ (eqb n 0) (this (made (s ∷ n ∷ vs) [] ys)) (omega arith)
+    short-fill left (known y) s n vs ys = go (writeBody o y vs)
       where
         go : (b : Possible (List ℕ)) → Short (length ys) (bodyOf (s ∷ n ∷ vs) b ys)
         go (this b) = omega arith
         go cannot = tt
     short-fill left (container f) s n vs ys = go (eqb left 0) (packed o (unrun o (front f) vs 0))
       where
-        go : (c : Bool) (b : Possible (List ℕ)) → Short (length ys) (pick c cannot (pick (eqb s 1) (fronted (s ∷ n ∷ vs) b (U (pred left) ys)) cannot))
+        go : (c : Bool) (b : Possible (List ℕ)) → Short (length ys) (pick c cannot (fronted (s ∷ n ∷ vs) b (U (pred left) ys)))
         go true b = tt
-        go false cannot = short-pick (length ys) (eqb s 1) cannot tt
-        go false (this b) = short-pick (length ys) (eqb s 1) _ (short-joined (length ys) (s ∷ n ∷ vs) b (U (pred left) ys) (short (pred left) ys))
+        go false cannot = tt
+        go false (this b) = short-joined (length ys) (s ∷ n ∷ vs) b (U (pred left) ys) (short (pred left) ys)
 
     short-tag : (left : ℕ) (cl : Class) (ns : List ℕ) → Short (length ns) (outTag o (U (pred left)) left cl ns)
     short-tag left cl [] = tt
     short-tag left cl (s ∷ []) = tt
-    short-tag left cl (s ∷ n ∷ ns) = short-pick (suc (suc (length ns))) (leb n (length ns)) (fill o (U (pred left)) left cl s n (take n ns) (drop n ns))
-        (short-wider (length (drop n ns)) (suc (suc (length ns))) (fill o (U (pred left)) left cl s n (take n ns) (drop n ns)) (rw length-drop (omega arith)) (short-fill left cl s n (take n ns) (drop n ns)))
+    short-tag left cl (s ∷ n ∷ ns) = short-pick (suc (suc (length ns))) (leb n (length ns)) _ (short-pick (suc (suc (length ns))) (fitsState cl s) (fill o (U (pred left)) left cl s n (take n ns) (drop n ns))
+        (short-wider (length (drop n ns)) (suc (suc (length ns))) (fill o (U (pred left)) left cl s n (take n ns) (drop n ns)) (rw length-drop (omega arith)) (short-fill left cl s n (take n ns) (drop n ns))))
 
     short-one : (left : ℕ) (ns : List ℕ) → Short (length ns) (outOne o class U left ns)
     short-one left [] = tt
     short-one left (code ∷ ns) = go (isEnd (class code)) (outTag o (U (pred left)) left (class code) ns) (short-tag left (class code) ns)
       where
-        go : (e : Bool) (x : Possible Made) → Short (length ns) x → Short (suc (length ns)) (headed code e x (U left))
+        claim : Bool
+        claim = claims (the ns)
+
+        go : (e : Bool) (x : Possible Made) → Short (length ns) x → Short (suc (length ns)) (headed claim code e x (U left))
         go e cannot h = tt
-        go true (this (made xs b ys)) h = short-pick (suc (length ns)) (fitsHead code (length b)) (this (made (code ∷ xs) (spellHead code (length b) ++ b) ys)) (omega arith)
-        go false (this (made xs b ys)) h = short-pick (suc (length ns)) (fitsHead code (length b)) (joined (code ∷ xs) (spellHead code (length b) ++ b) (U left ys))
-            (short-joined (suc (length ns)) (code ∷ xs) (spellHead code (length b) ++ b) (U left ys) (short-wider (length ys) (suc (length ns)) (U left ys) (omega arith) (short left ys)))
+        go true (this (made xs b ys)) h = short-pick (suc (length ns)) (fitsHead claim code (length b)) (this (made (code ∷ xs) (spellHead claim code (length b) ++ b) ys)) (omega arith)
+        go false (this (made xs b ys)) h = short-pick (suc (length ns)) (fitsHead claim code (length b)) (joined (code ∷ xs) (spellHead claim code (length b) ++ b) (U left ys))
+            (short-joined (suc (length ns)) (code ∷ xs) (spellHead claim code (length b) ++ b) (U left ys) (short-wider (length ys) (suc (length ns)) (U left ys) (omega arith) (short left ys)))
 
   short-walk : (k left : ℕ) (ns : List ℕ) → Short (length ns) (unwalk o class k left ns)
   unfolding unwalk
@@ -142,23 +146,26 @@ module _ (o : Order) (class : ℕ → Class) where
     fill-alike left end s n vs ys l = refl
     fill-alike left (known y) s n vs ys l = refl
     fill-alike left (container f) s n vs ys l =
-        ap (λ (x : Possible Made). pick (eqb left 0) cannot (pick (eqb s 1) (fronted (s ∷ n ∷ vs) (packed o (unrun o (front f) vs 0)) x) cannot)) (alike (pred left) ys l)
+        ap (λ (x : Possible Made). pick (eqb left 0) cannot (fronted (s ∷ n ∷ vs) (packed o (unrun o (front f) vs 0)) x)) (alike (pred left) ys l)
 
     tag-alike : (left : ℕ) (cl : Class) (ns : List ℕ) → length ns ≤ m → outTag o (U (pred left)) left cl ns ≡ outTag o (U′ (pred left)) left cl ns
     tag-alike left cl [] l = refl
     tag-alike left cl (s ∷ []) l = refl
-    tag-alike left cl (s ∷ n ∷ ns) l = ap (λ (x : Possible Made). pick (leb n (length ns)) x cannot) (fill-alike left cl s n (take n ns) (drop n ns) (rw length-drop (omega arith)))
+    tag-alike left cl (s ∷ n ∷ ns) l = ap (λ (x : Possible Made). pick (leb n (length ns)) (pick (fitsState cl s) x cannot) cannot) (fill-alike left cl s n (take n ns) (drop n ns) (rw length-drop (omega arith)))
 
     out-alike : (left code : ℕ) (ns : List ℕ) → length ns ≤ m → outOne o class U left (code ∷ ns) ≡ outOne o class U′ left (code ∷ ns)
     out-alike left code ns l =
         rest (isEnd (class code)) (outTag o (U (pred left)) left (class code) ns) (short-tag U short left (class code) ns)
-        ∙ ap (λ (x : Possible Made). headed code (isEnd (class code)) x (U′ left)) (tag-alike left (class code) ns l)
+        ∙ ap (λ (x : Possible Made). headed claim code (isEnd (class code)) x (U′ left)) (tag-alike left (class code) ns l)
       where
-        rest : (e : Bool) (x : Possible Made) → Short (length ns) x → headed code e x (U left) ≡ headed code e x (U′ left)
+        claim : Bool
+        claim = claims (the ns)
+
+        rest : (e : Bool) (x : Possible Made) → Short (length ns) x → headed claim code e x (U left) ≡ headed claim code e x (U′ left)
         rest e cannot h = refl
         rest true (this (made xs b ys)) h = refl
         rest false (this (made xs b ys)) h =
-            ap (λ (x : Possible Made). pick (fitsHead code (length b)) (joined (code ∷ xs) (spellHead code (length b) ++ b) x) cannot) (alike left ys (omega arith))
+            ap (λ (x : Possible Made). pick (fitsHead claim code (length b)) (joined (code ∷ xs) (spellHead claim code (length b) ++ b) x) cannot) (alike left ys (omega arith))
 
   unwalk-bound : (k m left : ℕ) (ns : List ℕ) → length ns ≤ k → length ns ≤ m → unwalk o class k left ns ≡ unwalk o class m left ns
   unfolding unwalk

@@ -11,22 +11,23 @@ use native.Mathlib.Omega.{arith}
 use Rattle.format.specs.Tests.{pick}
 use Rattle.format.specs.Bits.{AllBytes, Order, ub}
 use Rattle.format.specs.Reading.{Ending, At, Fault, shows, stop}
-use Rattle.format.specs.Formats.{Format}
+use Rattle.format.specs.Formats.{Format, the}
 use Rattle.format.specs.Items.{skipped, readItem, run}
 use Rattle.format.specs.Bodies.{readBody}
-use Rattle.format.specs.FileAndTags.{Class, opaque, end, container, known, isEnd, isContainer, Tag, Outcome, whole, fault, Walk, chain, Head, head, noHead, rawHead, passes, readHead, Owner, inside, TagInside, front, opened, within, atEnd, afterTag, tagThen, oneTag, walkList}
+use Rattle.format.specs.FileAndTags.{Class, opaque, end, container, known, isEnd, isContainer, isRead, longOnShort, stateOf, Tag, Outcome, whole, fault, Walk, chain, Head, head, noHead, rawHead, passes, readHead, Owner, inside, TagInside, front, opened, within, atEnd, afterTag, tagThen, oneTag, walkList}
 use Rattle.format.specs.TableOfNumbers.{numbers}
 use Rattle.format.specs.Possible.{Possible, this, cannot}
 use Rattle.format.specs.WritingItems.{Written, wrote, writeItem}
 use Rattle.format.specs.WritingFormats.{unrun}
 use Rattle.format.specs.WritingBodies.{pack, writeBody}
-use Rattle.format.specs.WritingFiles.{Made, made, spell16, spell32, spellHead, fitsHead, allBytes, joined, fill, outTag, headed, outOne, unwalkList}
+use Rattle.format.specs.WritingFiles.{Made, made, claims, fitsState, spellHead, fitsHead, allBytes, joined, fill, outTag, headed, outOne, unwalkList}
 use Rattle.format.proofs.BitLaws.{length-dig}
 use Rattle.format.proofs.BodyLaws.{body-there, body-back, ReadIf}
 use Rattle.format.proofs.ByteLaws.{has-pack, pack-bytes, length-pack, bytes-append, bytes-take, bytes-drop, has-more, pack-front}
 use Rattle.format.proofs.EngineLaws.{numbers-append}
-use Rattle.format.proofs.HeadLaws.{head-back, HeadIf, head-there, spell-bytes}
+use Rattle.format.proofs.HeadLaws.{Lengths, head-back, claim-back, HeadIf, head-there, spell-two, spell-bytes}
 use Rattle.format.proofs.ItemLaws.{round-trip}
+use Rattle.format.proofs.StateLaws.{state-fits, state-claims}
 use Rattle.format.proofs.ListLaws.{list-nil, list-one, unlist-nil, unlist-one}
 use Rattle.format.proofs.Trip.{There, Back, has-le}
 use Rattle.format.proofs.WalkLaws.{Fits, head-fits}
@@ -57,9 +58,9 @@ cut-back : (n : ℕ) (vs ys : List ℕ) → length vs ≡ n → (take n (vs ++ y
 cut-back n vs ys e =
     (rw (← e) (take-append-seam vs ys), rw (← e) (drop-append-seam vs ys), le-leb n (length (vs ++ ys)) (rw length-append (omega arith)))
 
--- the numbers of what stands in a tag
-abbrev pub inNumbers : TagInside → List ℕ
-inNumbers i = i .state ∷ length (i .values) ∷ (i .values ++ numbers (i .walk .tags))
+-- the numbers of a tag with the state s, but for its code
+abbrev pub inNumbers : ℕ → TagInside → List ℕ
+inNumbers s i = s ∷ length (i .values) ∷ (i .values ++ numbers (i .walk .tags))
 
 abbrev pub WholeIf : Outcome → Type 0 → Type 0
 WholeIf whole A = A
@@ -100,11 +101,11 @@ module _ (o : Order) where
       go (this (wrote xs bs ys)) eq = rw eq (rw (length-append, length-dig) (omega arith))
 
   -- values, and the numbers of the list inside
-  again-fill : (W : List ℕ → Possible Made) (left : ℕ) (cl : Class) (s : ℕ) (vs cs body : List ℕ)
+  again-fill : (W : List ℕ → Possible Made) (left : ℕ) (cl : Class) (s : ℕ) (vs cs body : List ℕ) → fitsState cl s ≡ true
       → ((ys : List ℕ) → fill o W left cl s (length vs) vs (cs ++ ys) ≡ this (made (s ∷ length vs ∷ (vs ++ cs)) body ys)) → Again (outTag o W left cl) (s ∷ length vs ∷ (vs ++ cs)) body
-  again-fill W left cl s vs cs body f ys =
+  again-fill W left cl s vs cs body k f ys =
       let c : (take (length vs) (vs ++ (cs ++ ys)) ≡ vs) × (drop (length vs) (vs ++ (cs ++ ys)) ≡ cs ++ ys) × (leb (length vs) (length (vs ++ (cs ++ ys))) ≡ true) = cut-back (length vs) vs (cs ++ ys) refl in
-      rw (append-assoc vs cs ys, c .2, c .0, c .1) (f ys)
+      rw (append-assoc vs cs ys, c .2, c .0, c .1, k) (f ys)
 
 -- ---- what is read is written again
 module _ (o : Order) (class : ℕ → Class) where
@@ -113,25 +114,25 @@ module _ (o : Order) (class : ℕ → Class) where
       → WholeIf (walkList o class left c a r .ended) (Again (unwalkList o class left) (numbers (walkList o class left c a r .tags)) r)
 
   module _ (n : ℕ) (lists : ListThere n) where
-    tag-there : (left : ℕ) (cl : Class) (a s : ℕ) (body : List ℕ) → length body ≤ n → AllBytes body
+    tag-there : (left : ℕ) (cl : Class) (st a s : ℕ) (body : List ℕ) → fitsState cl st ≡ true → length body ≤ n → AllBytes body
         → pick (isEnd cl) (ltb 0 (length body)) false ≡ false → pick (isContainer cl) (eqb left 0) false ≡ false
         → WholeIf (within o (walkList o class (pred left)) cl a s body .walk .ended)
-        (Again (outTag o (unwalkList o class (pred left)) left cl) (inNumbers (within o (walkList o class (pred left)) cl a s body)) body)
-    tag-there left opaque a s body l h he hc =
-        again-fill o (unwalkList o class (pred left)) left opaque 0 body [] body (λ ys. rw (all-bytes body h, append-nil body))
-    tag-there left end a s [] l h he hc = again-fill o (unwalkList o class (pred left)) left end 1 [] [] [] (λ ys. refl)
-    tag-there left end a s (x ∷ body) l h he hc =
+        (Again (outTag o (unwalkList o class (pred left)) left cl) (inNumbers st (within o (walkList o class (pred left)) cl a s body)) body)
+    tag-there left opaque st a s body k l h he hc =
+        again-fill o (unwalkList o class (pred left)) left opaque st body [] body k (λ ys. rw (all-bytes body h, append-nil body))
+    tag-there left end st a s [] k l h he hc = again-fill o (unwalkList o class (pred left)) left end st [] [] [] k (λ ys. refl)
+    tag-there left end st a s (x ∷ body) k l h he hc =
         absurd (let t : ltb 0 (suc (length body)) ≡ true = lt-ltb 0 (suc (length body)) (omega arith) in clash cc)
-    tag-there left (known y) a s body l h he hc = go (readBody o y body .ended) refl (body-there o y body h)
+    tag-there left (known y) st a s body k l h he hc = go (readBody o y body .ended) refl (body-there o y body h)
       where
         go : (z : Ending) → readBody o y body .ended ≡ z → ReadIf o y body (readBody o y body .shown) (readBody o y body .ended)
             → WholeIf (within o (walkList o class (pred left)) (known y) a s body .walk .ended)
-            (Again (outTag o (unwalkList o class (pred left)) left (known y)) (inNumbers (within o (walkList o class (pred left)) (known y) a s body)) body)
+            (Again (outTag o (unwalkList o class (pred left)) left (known y)) (inNumbers st (within o (walkList o class (pred left)) (known y) a s body)) body)
         go (Fault e) eq u = rw eq tt
         go (At q) eq u =
             let v : writeBody o y (readBody o y body .shown) ≡ this body = rw eq at u in
-            rw eq (again-fill o (unwalkList o class (pred left)) left (known y) 1 (readBody o y body .shown) [] body (λ ys. rw (v, append-nil)))
-    tag-there left (container f) a s body l h he hc = go (run o body (front f) 0 .ended) refl
+            rw eq (again-fill o (unwalkList o class (pred left)) left (known y) st (readBody o y body .shown) [] body k (λ ys. rw (v, append-nil)))
+    tag-there left (container f) st a s body k l h he hc = go (run o body (front f) 0 .ended) refl
       where
         R : Owner → ℕ → List ℕ → Walk
         R = walkList o class (pred left)
@@ -140,21 +141,21 @@ module _ (o : Order) (class : ℕ → Class) where
         W = unwalkList o class (pred left)
 
         goal : TagInside → Type 0
-        goal i = WholeIf (i .walk .ended) (Again (outTag o W left (container f)) (inNumbers i) body)
+        goal i = WholeIf (i .walk .ended) (Again (outTag o W left (container f)) (inNumbers st i) body)
 
         inner : (p : ℕ) (xs cs : List ℕ) → 8 * (p / 8) ≡ p → There o body 0 p xs (λ ns p. unrun o (front f) ns p) → Again W cs (drop (p / 8) body)
-            → Again (outTag o W left (container f)) (1 ∷ length xs ∷ (xs ++ cs)) body
-        inner p xs cs v u i = again-fill o W left (container f) 1 xs cs body (λ ys.
+            → Again (outTag o W left (container f)) (st ∷ length xs ∷ (xs ++ cs)) body
+        inner p xs cs v u i = again-fill o W left (container f) st xs cs body k (λ ys.
             let q : unrun o (front f) xs 0 ≡ this (wrote xs (u .bits) []) = rw append-nil at (u .again []) in
             let n : length (u .bits) / 8 ≡ p / 8 = omega (arith, u .ends) in
-            let k : pack o (p / 8) (u .bits) ≡ take (p / 8) body = pack-front o (p / 8) body (u .bits) h (omega (arith, u .ends, has-le o body 0 (u .bits) (u .has))) (omega (arith, u .ends)) (u .has) in
-            rw (hc, q, n, k, i ys, take-append-drop (p / 8) body))
+            let z : pack o (p / 8) (u .bits) ≡ take (p / 8) body = pack-front o (p / 8) body (u .bits) h (omega (arith, u .ends, has-le o body 0 (u .bits) (u .has))) (omega (arith, u .ends)) (u .has) in
+            rw (hc, q, n, z, i ys, take-append-drop (p / 8) body))
 
         deep : (p : ℕ) (xs : List ℕ) → There o body 0 p xs (λ ns p. unrun o (front f) ns p) → 8 * (p / 8) ≡ p → (w : Walk)
-            → WholeIf (w .ended) (Again W (numbers (w .tags)) (drop (p / 8) body)) → goal (record { state = 1; values = xs; walk = w })
+            → WholeIf (w .ended) (Again W (numbers (w .tags)) (drop (p / 8) body)) → goal (record { values = xs; walk = w })
         deep p xs u v w = at (w .ended)
           where
-            at : (z : Outcome) → WholeIf z (Again W (numbers (w .tags)) (drop (p / 8) body)) → WholeIf z (Again (outTag o W left (container f)) (1 ∷ length xs ∷ (xs ++ numbers (w .tags))) body)
+            at : (z : Outcome) → WholeIf z (Again W (numbers (w .tags)) (drop (p / 8) body)) → WholeIf z (Again (outTag o W left (container f)) (st ∷ length xs ∷ (xs ++ numbers (w .tags))) body)
             at (fault e y) i = tt
             at whole i = inner p xs (numbers (w .tags)) v u i
 
@@ -167,7 +168,7 @@ module _ (o : Order) (class : ℕ → Class) where
     one-there : (left : ℕ) (c : Owner) (a : ℕ) (r : List ℕ) → length r ≤ suc n → AllBytes r → (g : Head) → Fits class left r g → HeadIf r g
         → WholeIf (oneTag o class (walkList o class) left c a r g .ended) (Again (unwalkList o class left) (numbers (oneTag o class (walkList o class) left c a r g .tags)) r)
     one-there left c a r l b (noHead e) h u = tt
-    one-there left c a r l b (head code len size) h u = content (i .walk .ended) (tag-there left (class code) a (a + size) body (omega (arith, h .0, h .1, body-length))
+    one-there left c a r l b (head code len size) h u = content (i .walk .ended) (tag-there left (class code) st a (a + size) body (state-fits (class code) claim) (omega (arith, h .0, h .1, body-length))
         (bytes-take len (drop size r) (bytes-drop size r b)) (rw body-length (h .2)) (h .3))
       where
         R : ℕ → Owner → ℕ → List ℕ → Walk
@@ -175,6 +176,12 @@ module _ (o : Order) (class : ℕ → Class) where
 
         U : ℕ → List ℕ → Possible Made
         U = unwalkList o class
+
+        claim : Bool
+        claim = longOnShort size len
+
+        st : ℕ
+        st = stateOf (class code) size len
 
         body : List ℕ
         body = take len (drop size r)
@@ -188,45 +195,45 @@ module _ (o : Order) (class : ℕ → Class) where
         body-length : length body ≡ len
         body-length = length-take-le len (drop size r) (rw length-drop (omega (arith, h .1)))
 
-        room : spellHead code len ++ (body ++ over) ≡ r
-        room = rw (← drop-drop len size r, take-append-drop len (drop size r)) (sym (u .2))
+        room : spellHead claim code len ++ (body ++ over) ≡ r
+        room = rw (← drop-drop len size r, take-append-drop len (drop size r)) (sym (u .room))
 
-        fits : (k : ℕ) → k ≡ len → fitsHead code k ≡ true
-        fits k e = rw (lt-ltb code 1024 (u .0), lt-ltb k (2 ^ 32) (omega (arith, u .1)))
+        fits : (k : ℕ) → k ≡ len → fitsHead claim code k ≡ true
+        fits k e = rw (lt-ltb code 1024 (u .coded), e) (lt-ltb len (pick claim 63 (2 ^ 32)) (u .lengths))
 
-        split : (w : Walk) → numbers (record { depth = 8 - left; code = code; place = a; headerSize = size; bodyLength = len; state = i .state; values = i .values } ∷ (i .walk .tags ++ w .tags)) ≡ code ∷ (inNumbers i ++ numbers (w .tags))
-        split w = ap (λ (l : List ℕ). code ∷ i .state ∷ length (i .values) ∷ l)
+        split : (w : Walk) → numbers (record { depth = 8 - left; code = code; place = a; headerSize = size; bodyLength = len; state = st; values = i .values } ∷ (i .walk .tags ++ w .tags)) ≡ code ∷ (inNumbers st i ++ numbers (w .tags))
+        split w = ap (λ (l : List ℕ). code ∷ st ∷ length (i .values) ∷ l)
             (ap (λ (l : List ℕ). i .values ++ l) (numbers-append (i .walk .tags) (w .tags)) ∙ sym (append-assoc (i .values) (numbers (i .walk .tags)) (numbers (w .tags))))
 
-        last : (zs : List ℕ) → isEnd (class code) ≡ true → over ≡ [] → Again (outTag o (U (pred left)) left (class code)) zs body → Again (U left) (code ∷ (zs ++ [])) r
+        last : (zs : List ℕ) → isEnd (class code) ≡ true → over ≡ [] → Again (outTag o (U (pred left)) left (class code)) (st ∷ zs) body → Again (U left) (code ∷ st ∷ (zs ++ [])) r
         last zs e q f ys =
-            let v : spellHead code len ++ body ≡ r = rw (q, append-nil) at room in
-            unlist-one o class left code ((zs ++ []) ++ ys) ∙ subst (λ (k : List ℕ). outOne o class U left (code ∷ (k ++ ys)) ≡ this (made (code ∷ k) r ys)) (sym (append-nil zs))
-            (rw (e, f ys, fits (length body) body-length, body-length, v))
+            let v : spellHead claim code len ++ body ≡ r = rw (q, append-nil) at room in
+            unlist-one o class left code (st ∷ ((zs ++ []) ++ ys)) ∙ subst (λ (k : List ℕ). outOne o class U left (code ∷ st ∷ (k ++ ys)) ≡ this (made (code ∷ st ∷ k) r ys)) (sym (append-nil zs))
+            (rw (e, f ys, state-claims (class code) claim, fits (length body) body-length, body-length, v))
 
-        more : (zs cs : List ℕ) → isEnd (class code) ≡ false → Again (U left) cs over → Again (outTag o (U (pred left)) left (class code)) zs body → Again (U left) (code ∷ (zs ++ cs)) r
-        more zs cs e k f ys = unlist-one o class left code ((zs ++ cs) ++ ys)
-            ∙ rw (append-assoc zs cs ys, e, f (cs ++ ys), fits (length body) body-length, body-length, k ys, append-assoc (spellHead code len) body over, room)
+        more : (zs cs : List ℕ) → isEnd (class code) ≡ false → Again (U left) cs over → Again (outTag o (U (pred left)) left (class code)) (st ∷ zs) body → Again (U left) (code ∷ st ∷ (zs ++ cs)) r
+        more zs cs e k f ys = unlist-one o class left code (st ∷ ((zs ++ cs) ++ ys))
+            ∙ rw (append-assoc zs cs ys, e, f (cs ++ ys), state-claims (class code) claim, fits (length body) body-length, body-length, k ys, append-assoc (spellHead claim code len) body over, room)
 
-        after : (e : Bool) → isEnd (class code) ≡ e → Again (outTag o (U (pred left)) left (class code)) (inNumbers i) body
-            → WholeIf (afterTag e c (a + size + len) over (R left c) .ended) (Again (U left) (code ∷ (inNumbers i ++ numbers (afterTag e c (a + size + len) over (R left c) .tags))) r)
+        after : (e : Bool) → isEnd (class code) ≡ e → Again (outTag o (U (pred left)) left (class code)) (inNumbers st i) body
+            → WholeIf (afterTag e c (a + size + len) over (R left c) .ended) (Again (U left) (code ∷ (inNumbers st i ++ numbers (afterTag e c (a + size + len) over (R left c) .tags))) r)
         after true e f = at over refl
           where
-            at : (q : List ℕ) → over ≡ q → WholeIf (atEnd c (a + size + len) q .ended) (Again (U left) (code ∷ (inNumbers i ++ numbers (atEnd c (a + size + len) q .tags))) r)
-            at [] q = last (inNumbers i) e q f
+            at : (q : List ℕ) → over ≡ q → WholeIf (atEnd c (a + size + len) q .ended) (Again (U left) (code ∷ (inNumbers st i ++ numbers (atEnd c (a + size + len) q .tags))) r)
+            at [] q = last (length (i .values) ∷ (i .values ++ numbers (i .walk .tags))) e q f
             at (x ∷ q) p = tt
         after false e f = at (R left c (a + size + len) over .ended) (lists left c (a + size + len) over (rw length-drop (omega (arith, h .0, h .1))) (bytes-drop (size + len) r b))
           where
             cs : List ℕ
             cs = numbers (R left c (a + size + len) over .tags)
 
-            at : (z : Outcome) → WholeIf z (Again (U left) cs over) → WholeIf z (Again (U left) (code ∷ (inNumbers i ++ cs)) r)
+            at : (z : Outcome) → WholeIf z (Again (U left) cs over) → WholeIf z (Again (U left) (code ∷ (inNumbers st i ++ cs)) r)
             at (fault e n) k = tt
-            at whole k = more (inNumbers i) cs e k f
+            at whole k = more (length (i .values) ∷ (i .values ++ numbers (i .walk .tags))) cs e k f
 
-        content : (z : Outcome) → WholeIf z (Again (outTag o (U (pred left)) left (class code)) (inNumbers i) body)
-            → WholeIf (chain (record { depth = 8 - left; code = code; place = a; headerSize = size; bodyLength = len; state = i .state; values = i .values } ∷ i .walk .tags) z (afterTag (isEnd (class code)) c (a + size + len) over (R left c)) .ended)
-            (Again (U left) (numbers (chain (record { depth = 8 - left; code = code; place = a; headerSize = size; bodyLength = len; state = i .state; values = i .values } ∷ i .walk .tags) z (afterTag (isEnd (class code)) c (a + size + len) over (R left c)) .tags)) r)
+        content : (z : Outcome) → WholeIf z (Again (outTag o (U (pred left)) left (class code)) (inNumbers st i) body)
+            → WholeIf (chain (record { depth = 8 - left; code = code; place = a; headerSize = size; bodyLength = len; state = st; values = i .values } ∷ i .walk .tags) z (afterTag (isEnd (class code)) c (a + size + len) over (R left c)) .ended)
+            (Again (U left) (numbers (chain (record { depth = 8 - left; code = code; place = a; headerSize = size; bodyLength = len; state = st; values = i .values } ∷ i .walk .tags) z (afterTag (isEnd (class code)) c (a + size + len) over (R left c)) .tags)) r)
         content (fault e y) f = tt
         content whole f = subst (λ (xs : List ℕ). WholeIf (afterTag (isEnd (class code)) c (a + size + len) over (R left c) .ended) (Again (U left) xs r))
             (sym (split (afterTag (isEnd (class code)) c (a + size + len) over (R left c)))) (after (isEnd (class code)) refl f)
@@ -265,33 +272,31 @@ module _ (o : Order) (class : ℕ → Class) where
   abbrev TagIf : ℕ → Class → List ℕ → Possible Made → Type 0
   TagIf left cl ns (this (made xs body ys)) =
       (ns ≡ xs ++ ys) × AllBytes body × (pick (isEnd cl) (ltb 0 (length body)) false ≡ false) × (pick (isContainer cl) (eqb left 0) false ≡ false)
-      × ((a s : ℕ) → (within o (walkList o class (pred left)) cl a s body .walk .ended ≡ whole) × (inNumbers (within o (walkList o class (pred left)) cl a s body) ≡ xs))
+      × ((a s : ℕ) → (within o (walkList o class (pred left)) cl a s body .walk .ended ≡ whole) × (inNumbers (the ns) (within o (walkList o class (pred left)) cl a s body) ≡ xs))
+      × (fitsState cl (the ns) ≡ true)
   TagIf left cl ns cannot = Unit {0}
 
-  fill-back : (left : ℕ) (cl : Class) (s k : ℕ) (vs ys : List ℕ) → length vs ≡ k → ListIf (pred left) ys (unwalkList o class (pred left) ys)
+  fill-back : (left : ℕ) (cl : Class) (s k : ℕ) (vs ys : List ℕ) → fitsState cl s ≡ true → length vs ≡ k → ListIf (pred left) ys (unwalkList o class (pred left) ys)
       → TagIf left cl (s ∷ k ∷ (vs ++ ys)) (fill o (unwalkList o class (pred left)) left cl s k vs ys)
-  fill-back left opaque s k vs ys l i = go (eqb s 0) refl (allBytes vs) refl (bytes-all vs)
+  fill-back left opaque s k vs ys e l i = go (allBytes vs) refl (bytes-all vs)
     where
-      go : (c : Bool) → eqb s 0 ≡ c → (d : Bool) → allBytes vs ≡ d → If d (AllBytes vs) → TagIf left opaque (s ∷ k ∷ (vs ++ ys)) (fill o (unwalkList o class (pred left)) left opaque s k vs ys)
-      go false e d e′ h = rw e tt
-      go true e false e′ h = rw (e, e′) tt
-      go true e true e′ h = rw (e, e′) (refl, h, refl, refl, λ a s′. (refl, rw (eqb-true s 0 e, l, append-nil)))
-  fill-back left end s k vs ys l i = go (eqb s 1) refl (eqb k 0) refl vs l
+      go : (d : Bool) → allBytes vs ≡ d → If d (AllBytes vs) → TagIf left opaque (s ∷ k ∷ (vs ++ ys)) (fill o (unwalkList o class (pred left)) left opaque s k vs ys)
+      go false e′ h = rw e′ tt
+      go true e′ h = rw e′ (refl, h, refl, refl, λ a s′. (refl, rw (l, append-nil)), e)
+  fill-back left end s k vs ys e l i = go (eqb k 0) refl vs l
     where
-      go : (c : Bool) → eqb s 1 ≡ c → (d : Bool) → eqb k 0 ≡ d → (vs : List ℕ) → length vs ≡ k → TagIf left end (s ∷ k ∷ (vs ++ ys)) (fill o (unwalkList o class (pred left)) left end s k vs ys)
-      go false e d e′ vs l = rw e tt
-      go true e false e′ vs l = rw (e, e′) tt
-      go true e true e′ [] l = rw (e, e′) (refl, tt, refl, refl, λ a s′. (refl, rw (eqb-true s 1 e, eqb-true k 0 e′)))
-      go true e true e′ (x ∷ vs) l = absurd (omega (arith, eqb-true k 0 e′))
-  fill-back left (known y) s k vs ys l i = go (eqb s 1) refl (writeBody o y vs) refl
+      go : (d : Bool) → eqb k 0 ≡ d → (vs : List ℕ) → length vs ≡ k → TagIf left end (s ∷ k ∷ (vs ++ ys)) (fill o (unwalkList o class (pred left)) left end s k vs ys)
+      go false e′ vs l = rw e′ tt
+      go true e′ [] l = rw e′ (refl, tt, refl, refl, λ a s′. (refl, rw (eqb-true k 0 e′)), e)
+      go true e′ (x ∷ vs) l = absurd (omega (arith, eqb-true k 0 e′))
+  fill-back left (known y) s k vs ys e l i = go (writeBody o y vs) refl
     where
-      go : (c : Bool) → eqb s 1 ≡ c → (d : Possible (List ℕ)) → writeBody o y vs ≡ d → TagIf left (known y) (s ∷ k ∷ (vs ++ ys)) (fill o (unwalkList o class (pred left)) left (known y) s k vs ys)
-      go false e d e′ = rw e tt
-      go true e cannot e′ = rw (e, e′) tt
-      go true e (this b) e′ =
+      go : (d : Possible (List ℕ)) → writeBody o y vs ≡ d → TagIf left (known y) (s ∷ k ∷ (vs ++ ys)) (fill o (unwalkList o class (pred left)) left (known y) s k vs ys)
+      go cannot e′ = rw e′ tt
+      go (this b) e′ =
           let u : AllBytes b × (readBody o y b ≡ shows vs (8 * length b)) = body-back o y b vs e′ in
-          rw (e, e′) (refl, u .0, refl, refl, λ a s′. rw (u .1) (refl, rw (eqb-true s 1 e, l, append-nil)))
-  fill-back left (container f) s k vs ys l i = go (eqb left 0) refl (eqb s 1) refl (unrun o (front f) vs 0) refl (unwalkList o class (pred left) ys) refl
+          rw e′ (refl, u .0, refl, refl, λ a s′. rw (u .1) (refl, rw (l, append-nil)), e)
+  fill-back left (container f) s k vs ys e l i = go (eqb left 0) refl (unrun o (front f) vs 0) refl (unwalkList o class (pred left) ys) refl
     where
       R : Owner → ℕ → List ℕ → Walk
       R = walkList o class (pred left)
@@ -299,10 +304,10 @@ module _ (o : Order) (class : ℕ → Class) where
       W : List ℕ → Possible Made
       W = unwalkList o class (pred left)
 
-      join : (xs cs body ys′ : List ℕ) (bs : List Bool) → eqb left 0 ≡ false → s ≡ 1 → 8 * (length bs / 8) ≡ length bs → Back o vs xs bs [] 0 (λ b p. run o b (front f) p)
+      join : (xs cs body ys′ : List ℕ) (bs : List Bool) → eqb left 0 ≡ false → 8 * (length bs / 8) ≡ length bs → Back o vs xs bs [] 0 (λ b p. run o b (front f) p)
           → (ys ≡ cs ++ ys′) × AllBytes body × ((c : Owner) (a : ℕ) → Spelt cs (R c a body))
           → TagIf left (container f) (s ∷ k ∷ (vs ++ ys)) (this (made (s ∷ k ∷ (vs ++ cs)) (pack o (length bs / 8) bs ++ body) ys′))
-      join xs cs body ys′ bs h e m u i =
+      join xs cs body ys′ bs h m u i =
           let b : List ℕ = pack o (length bs / 8) bs in
           let r : run o (b ++ body) (front f) 0 ≡ shows xs (0 + length bs) = u .reads (b ++ body) (has-more o b body 0 bs (has-pack o (length bs / 8) bs (sym m))) in
           let d : drop (length bs / 8) (b ++ body) ≡ body = rw length-pack at (drop-append-seam b body) in
@@ -312,59 +317,62 @@ module _ (o : Order) (class : ℕ → Class) where
             bytes-append b body (pack-bytes o (length bs / 8) bs) (i .1),
             refl,
             h,
-            λ a s′. rw (r, z, d, x, e, ← l) (i .2 (inside a) (s′ + length bs / 8) .0, ap (λ (q : List ℕ). 1 ∷ length vs ∷ (vs ++ q)) (i .2 (inside a) (s′ + length bs / 8) .1)),
+            λ a s′. rw (r, z, d, x, ← l) (i .2 (inside a) (s′ + length bs / 8) .0, ap (λ (q : List ℕ). s ∷ length vs ∷ (vs ++ q)) (i .2 (inside a) (s′ + length bs / 8) .1)),
+            e,
           )
 
-      go : (b : Bool) → eqb left 0 ≡ b → (c : Bool) → eqb s 1 ≡ c → (q : Possible Written) → unrun o (front f) vs 0 ≡ q → (m : Possible Made) → W ys ≡ m
+      go : (b : Bool) → eqb left 0 ≡ b → (q : Possible Written) → unrun o (front f) vs 0 ≡ q → (m : Possible Made) → W ys ≡ m
           → TagIf left (container f) (s ∷ k ∷ (vs ++ ys)) (fill o W left (container f) s k vs ys)
-      go true h c e q e′ m e″ = rw h tt
-      go false h false e q e′ m e″ = rw (h, e) tt
-      go false h true e cannot e′ m e″ = rw (h, e, e′) tt
-      go false h true e (this (wrote xs bs (y ∷ zs))) e′ m e″ = rw (h, e, e′) tt
-      go false h true e (this (wrote xs bs [])) e′ cannot e″ = rw (h, e, e′, e″) tt
-      go false h true e (this (wrote xs bs [])) e′ (this (made cs body ys′)) e″ = rw (h, e, e′, e″)
-          (join xs cs body ys′ bs h (eqb-true s 1 e) (rw e′ at (front-bits o f vs)) (rw e′ at (round-trip o (front f) .back vs 0)) (rw e″ at i))
+      go true h q e′ m e″ = rw h tt
+      go false h cannot e′ m e″ = rw (h, e′) tt
+      go false h (this (wrote xs bs (y ∷ zs))) e′ m e″ = rw (h, e′) tt
+      go false h (this (wrote xs bs [])) e′ cannot e″ = rw (h, e′, e″) tt
+      go false h (this (wrote xs bs [])) e′ (this (made cs body ys′)) e″ = rw (h, e′, e″)
+          (join xs cs body ys′ bs h (rw e′ at (front-bits o f vs)) (rw e′ at (round-trip o (front f) .back vs 0)) (rw e″ at i))
 
   tag-back : (left : ℕ) (cl : Class) (ns : List ℕ) → ((ys : List ℕ) → length ys ≤ length ns → ListIf (pred left) ys (unwalkList o class (pred left) ys))
       → TagIf left cl ns (outTag o (unwalkList o class (pred left)) left cl ns)
   tag-back left cl [] i = tt
   tag-back left cl (s ∷ []) i = tt
-  tag-back left cl (s ∷ k ∷ ns) i = go (leb k (length ns)) refl
+  tag-back left cl (s ∷ k ∷ ns) i = go (leb k (length ns)) refl (fitsState cl s) refl
     where
       W : List ℕ → Possible Made
       W = unwalkList o class (pred left)
 
-      go : (c : Bool) → leb k (length ns) ≡ c → TagIf left cl (s ∷ k ∷ ns) (pick (leb k (length ns)) (fill o W left cl s k (take k ns) (drop k ns)) cannot)
-      go false e = rw e tt
-      go true e = rw e (rw (take-append-drop k ns) at
-          (fill-back left cl s k (take k ns) (drop k ns) (length-take-le k ns (leb-true k (length ns) e)) (i (drop k ns) (rw length-drop (omega arith)))))
+      go : (c : Bool) → leb k (length ns) ≡ c → (d : Bool) → fitsState cl s ≡ d
+          → TagIf left cl (s ∷ k ∷ ns) (pick (leb k (length ns)) (pick d (fill o W left cl s k (take k ns) (drop k ns)) cannot) cannot)
+      go false e d f = rw e tt
+      go true e false f = rw e tt
+      go true e true f = rw e (rw (take-append-drop k ns) at
+          (fill-back left cl s k (take k ns) (drop k ns) f (length-take-le k ns (leb-true k (length ns) e)) (i (drop k ns) (rw length-drop (omega arith)))))
 
   -- a tag that was put together is read as it was
-  one-read : (left : ℕ) (c : Owner) (a code : ℕ) (body rest : List ℕ) → code < 1024 → length body < 2 ^ 32
+  one-read : (left : ℕ) (c : Owner) (a code s : ℕ) (body rest : List ℕ) → code < 1024 → Lengths (claims s) (length body) → fitsState (class code) s ≡ true
       → pick (isEnd (class code)) (ltb 0 (length body)) false ≡ false → pick (isContainer (class code)) (eqb left 0) false ≡ false
-      → walkList o class left c a (spellHead code (length body) ++ (body ++ rest))
-      ≡ tagThen (8 - left) code a (length (spellHead code (length body))) (length body) (within o (walkList o class (pred left)) (class code) a (a + length (spellHead code (length body))) body)
-      (afterTag (isEnd (class code)) c (a + length (spellHead code (length body)) + length body) rest (walkList o class left c))
-  one-read left c a code body rest h l he hc =
-      let s : List ℕ = spellHead code (length body) in
-      let d : drop (length s) (s ++ (body ++ rest)) ≡ body ++ rest = drop-append-seam s (body ++ rest) in
-      let e : drop (length s + length body) (s ++ (body ++ rest)) ≡ rest = sym (drop-drop (length body) (length s) (s ++ (body ++ rest))) ∙ ap (drop (length body)) d ∙ drop-append-seam body rest in
-      list-one o class left c a (s ++ (body ++ rest)) (long (ltb (length body) 63))
-      ∙ rw (head-back code (length body) (body ++ rest) h l, d, le-ltb (length (body ++ rest)) (length body) (rw length-append (omega arith)), he, hc) (rw (d, e, take-append-seam body rest))
-    where
-      long : (b : Bool) → 0 < length (pick b (spell16 (code * 64 + length body)) (spell16 (code * 64 + 63) ++ spell32 (length body)) ++ (body ++ rest))
-      long true = omega arith
-      long false = omega arith
+      → walkList o class left c a (spellHead (claims s) code (length body) ++ (body ++ rest))
+      ≡ tagThen (8 - left) code a (length (spellHead (claims s) code (length body))) (length body) s
+      (within o (walkList o class (pred left)) (class code) a (a + length (spellHead (claims s) code (length body))) body)
+      (afterTag (isEnd (class code)) c (a + length (spellHead (claims s) code (length body)) + length body) rest (walkList o class left c))
+  one-read left c a code s body rest h l k he hc =
+      let S : List ℕ = spellHead (claims s) code (length body) in
+      let d : drop (length S) (S ++ (body ++ rest)) ≡ body ++ rest = drop-append-seam S (body ++ rest) in
+      let e : drop (length S + length body) (S ++ (body ++ rest)) ≡ rest = sym (drop-drop (length body) (length S) (S ++ (body ++ rest))) ∙ ap (drop (length body)) d ∙ drop-append-seam body rest in
+      list-one o class left c a (S ++ (body ++ rest)) (rw length-append (omega (arith, spell-two (claims s) code (length body))))
+      ∙ rw (head-back (claims s) code (length body) (body ++ rest) h l, d, le-ltb (length (body ++ rest)) (length body) (rw length-append (omega arith)), he, hc)
+      (rw (d, e, take-append-seam body rest) refl)
+      ∙ ap (λ (z : ℕ). tagThen (8 - left) code a (length S) (length body) z (within o (walkList o class (pred left)) (class code) a (a + length S) body)
+      (afterTag (isEnd (class code)) c (a + length S + length body) rest (walkList o class left c)))
+      (ap (λ (z : Bool). isRead (class code) + pick z 2 0) (claim-back (claims s) code (length body) l) ∙ sym (eqb-true s (isRead (class code) + pick (claims s) 2 0) k))
 
   -- the numbers of a tag, and of what follows it
-  spelt-then : (d code a size len : ℕ) (i : TagInside) (w : Walk) (zs cs : List ℕ) → i .walk .ended ≡ whole → inNumbers i ≡ zs → Spelt cs w → Spelt (code ∷ (zs ++ cs)) (tagThen d code a size len i w)
-  spelt-then d code a size len i w zs cs e q u = subst (λ (z : Outcome). Spelt (code ∷ (zs ++ cs)) (chain (t ∷ i .walk .tags) z w)) (sym e) (u .0, split ∙ ap₂ (λ (x y : List ℕ). code ∷ (x ++ y)) q (u .1))
+  spelt-then : (d code a size len s : ℕ) (i : TagInside) (w : Walk) (zs cs : List ℕ) → i .walk .ended ≡ whole → inNumbers s i ≡ zs → Spelt cs w → Spelt (code ∷ (zs ++ cs)) (tagThen d code a size len s i w)
+  spelt-then d code a size len s i w zs cs e q u = subst (λ (z : Outcome). Spelt (code ∷ (zs ++ cs)) (chain (t ∷ i .walk .tags) z w)) (sym e) (u .0, split ∙ ap₂ (λ (x y : List ℕ). code ∷ (x ++ y)) q (u .1))
     where
       t : Tag
-      t = record { depth = d; code = code; place = a; headerSize = size; bodyLength = len; state = i .state; values = i .values }
+      t = record { depth = d; code = code; place = a; headerSize = size; bodyLength = len; state = s; values = i .values }
 
-      split : numbers (t ∷ (i .walk .tags ++ w .tags)) ≡ code ∷ (inNumbers i ++ numbers (w .tags))
-      split = ap (λ (l : List ℕ). code ∷ i .state ∷ length (i .values) ∷ l)
+      split : numbers (t ∷ (i .walk .tags ++ w .tags)) ≡ code ∷ (inNumbers s i ++ numbers (w .tags))
+      split = ap (λ (l : List ℕ). code ∷ s ∷ length (i .values) ∷ l)
           (ap (λ (l : List ℕ). i .values ++ l) (numbers-append (i .walk .tags) (w .tags)) ∙ sym (append-assoc (i .values) (numbers (i .walk .tags)) (numbers (w .tags))))
 
   one-back : (left code : ℕ) (ns : List ℕ) → ((left : ℕ) (ys : List ℕ) → length ys ≤ length ns → ListIf left ys (unwalkList o class left ys))
@@ -374,44 +382,47 @@ module _ (o : Order) (class : ℕ → Class) where
       U : ℕ → List ℕ → Possible Made
       U = unwalkList o class
 
-      S : List ℕ → List ℕ
-      S body = spellHead code (length body)
+      claim : Bool
+      claim = claims (the ns)
 
-      last : (zs body ys : List ℕ) → code < 1024 → length body < 2 ^ 32 → isEnd (class code) ≡ true → TagIf left (class code) ns (this (made zs body ys))
-          → ListIf left (code ∷ ns) (this (made (code ∷ zs) (spellHead code (length body) ++ body) ys))
+      S : List ℕ → List ℕ
+      S body = spellHead claim code (length body)
+
+      last : (zs body ys : List ℕ) → code < 1024 → Lengths claim (length body) → isEnd (class code) ≡ true → TagIf left (class code) ns (this (made zs body ys))
+          → ListIf left (code ∷ ns) (this (made (code ∷ zs) (S body ++ body) ys))
       last zs body ys h l e u = (
         ap (λ (k : List ℕ). code ∷ k) (u .0),
-        bytes-append (S body) body (spell-bytes code (length body) h l) (u .1),
+        bytes-append (S body) body (spell-bytes claim code (length body) h l) (u .1),
         λ c a. subst (λ (k : List ℕ). Spelt (code ∷ k) (walkList o class left c a (S body ++ body))) (append-nil zs)
             (subst (λ (k : List ℕ). Spelt (code ∷ (zs ++ [])) (walkList o class left c a (S body ++ k))) (append-nil body)
-            (subst (Spelt (code ∷ (zs ++ []))) (sym (one-read left c a code body [] h l (u .2) (u .3)))
-            (spelt-then (8 - left) code a (length (S body)) (length body) _ _ zs [] (u .4 a (a + length (S body)) .0) (u .4 a (a + length (S body)) .1) (rw e (refl, refl))))),
+            (subst (Spelt (code ∷ (zs ++ []))) (sym (one-read left c a code (the ns) body [] h l (u .5) (u .2) (u .3)))
+            (spelt-then (8 - left) code a (length (S body)) (length body) (the ns) _ _ zs [] (u .4 a (a + length (S body)) .0) (u .4 a (a + length (S body)) .1) (rw e (refl, refl))))),
       )
 
-      more : (zs body ys : List ℕ) → code < 1024 → length body < 2 ^ 32 → isEnd (class code) ≡ false → TagIf left (class code) ns (this (made zs body ys))
-          → (x : Possible Made) → ListIf left ys x → ListIf left (code ∷ ns) (joined (code ∷ zs) (spellHead code (length body) ++ body) x)
+      more : (zs body ys : List ℕ) → code < 1024 → Lengths claim (length body) → isEnd (class code) ≡ false → TagIf left (class code) ns (this (made zs body ys))
+          → (x : Possible Made) → ListIf left ys x → ListIf left (code ∷ ns) (joined (code ∷ zs) (S body ++ body) x)
       more zs body ys h l e u cannot v = tt
       more zs body ys h l e u (this (made cs rest ys′)) v = (
         rw (u .0, v .0, append-assoc),
-        bytes-append (S body ++ body) rest (bytes-append (S body) body (spell-bytes code (length body) h l) (u .1)) (v .1),
+        bytes-append (S body ++ body) rest (bytes-append (S body) body (spell-bytes claim code (length body) h l) (u .1)) (v .1),
         λ c a. subst (λ (k : List ℕ). Spelt (code ∷ (zs ++ cs)) (walkList o class left c a k)) (sym (append-assoc (S body) body rest))
-            (subst (Spelt (code ∷ (zs ++ cs))) (sym (one-read left c a code body rest h l (u .2) (u .3)))
-            (spelt-then (8 - left) code a (length (S body)) (length body) _ _ zs cs (u .4 a (a + length (S body)) .0) (u .4 a (a + length (S body)) .1)
+            (subst (Spelt (code ∷ (zs ++ cs))) (sym (one-read left c a code (the ns) body rest h l (u .5) (u .2) (u .3)))
+            (spelt-then (8 - left) code a (length (S body)) (length body) (the ns) _ _ zs cs (u .4 a (a + length (S body)) .0) (u .4 a (a + length (S body)) .1)
             (rw e (v .2 c (a + length (S body) + length body))))),
       )
 
-      fit : (zs body ys : List ℕ) → TagIf left (class code) ns (this (made zs body ys)) → length ys ≤ length ns → (c : Bool) → ltb code 1024 ≡ c → (d : Bool) → ltb (length body) (2 ^ 32) ≡ d
-          → (e : Bool) → isEnd (class code) ≡ e → ListIf left (code ∷ ns) (headed code e (this (made zs body ys)) (U left))
+      fit : (zs body ys : List ℕ) → TagIf left (class code) ns (this (made zs body ys)) → length ys ≤ length ns → (c : Bool) → ltb code 1024 ≡ c → (d : Bool) → ltb (length body) (pick claim 63 (2 ^ 32)) ≡ d
+          → (e : Bool) → isEnd (class code) ≡ e → ListIf left (code ∷ ns) (headed claim code e (this (made zs body ys)) (U left))
       fit zs body ys u s false f d g true e = rw f tt
       fit zs body ys u s false f d g false e = rw f tt
       fit zs body ys u s true f false g true e = rw (f, g) tt
       fit zs body ys u s true f false g false e = rw (f, g) tt
-      fit zs body ys u s true f true g true e = rw (f, g) (last zs body ys (ltb-true code 1024 f) (ltb-true (length body) (2 ^ 32) g) e u)
-      fit zs body ys u s true f true g false e = rw (f, g) (more zs body ys (ltb-true code 1024 f) (ltb-true (length body) (2 ^ 32) g) e u (U left ys) (lists left ys s))
+      fit zs body ys u s true f true g true e = rw (f, g) (last zs body ys (ltb-true code 1024 f) (ltb-true (length body) (pick claim 63 (2 ^ 32)) g) e u)
+      fit zs body ys u s true f true g false e = rw (f, g) (more zs body ys (ltb-true code 1024 f) (ltb-true (length body) (pick claim 63 (2 ^ 32)) g) e u (U left ys) (lists left ys s))
 
-      go : (x : Possible Made) → TagIf left (class code) ns x → ListIf left (code ∷ ns) (headed code (isEnd (class code)) x (U left))
+      go : (x : Possible Made) → TagIf left (class code) ns x → ListIf left (code ∷ ns) (headed claim code (isEnd (class code)) x (U left))
       go cannot u = tt
-      go (this (made zs body ys)) u = fit zs body ys u (omega (arith, length-append zs ys, ap length (u .0))) (ltb code 1024) refl (ltb (length body) (2 ^ 32)) refl (isEnd (class code)) refl
+      go (this (made zs body ys)) u = fit zs body ys u (omega (arith, length-append zs ys, ap length (u .0))) (ltb code 1024) refl (ltb (length body) (pick claim 63 (2 ^ 32))) refl (isEnd (class code)) refl
 
   pub list-back : (n left : ℕ) (ns : List ℕ) → length ns ≤ n → ListIf left ns (unwalkList o class left ns)
   list-back zero left [] l = rw (unlist-nil o class left) tt

@@ -1,15 +1,15 @@
--- Every refusal has a reason: `read-reason` and `tags-reason` (1 to 18, or 24) and `answer-reason` (19 too), at the end. None is 0, which means
--- 'accepted' to a host.
+-- Every refusal has a reason: `read-reason` and `tags-reason` (1 to 7, 9 to 18, or 24) and `answer-reason` (19 too), at the end. None is 0, which
+-- means 'accepted' to a host, and none is 8 (C-11).
 use Prim.Native.Nat.{ℕ, zero, suc, pred, _+_, _*_, _/_, _%_, _≤_}
 use mathlib.Core.List.{List, [], _∷_}
 use mathlib.Core.Path.{_≡_, refl, subst}
 use mathlib.Core.Bool.{Bool, true, false}
 use mathlib.Core.Logic.{_⊎_, inl, inr}
 use lib.ListN.{length, getD, take, drop}
-use lib.Dec.{T, ltb, leb, eqb, lit≤}
+use lib.Dec.{T, ltb, leb, eqb}
 use borrow.Author.Tests.{leb-true, eqb-false}
 use native.Mathlib.Omega.{arith}
-use Rattle.format.specs.Tests.{pick, _and_}
+use Rattle.format.specs.Tests.{pick, _and_, _or_}
 use Rattle.format.specs.Bits.{Order, ub, orderNamed}
 use Rattle.format.specs.Reading.{Ending, At, Fault, Reading, follow}
 use Rattle.format.specs.Formats.{Item, Format, nothing, item, only, _▹_, _▸_, times, the}
@@ -19,17 +19,23 @@ use Rattle.format.specs.FileAndTags.{signatureRight, versionRight, lengt
 use Rattle.format.specs.TableOfNumbers.{table, tagTable}
 use Rattle.format.specs.Reasons.{startFault, walkFile, Result, gives, refuses, result, readFile, readTags, Answer, accepted, refused, Left, into}
 
--- a reason that the reader gives: 1 to 18, or 24
+-- a reason that the reader gives: 1 to 7, 9 to 18, or 24
 abbrev pub IsReason : ℕ → Type 0
-IsReason e = ((1 ≤ e) × (e ≤ 18)) ⊎ (e ≡ 24)
+IsReason e = ((1 ≤ e) × (e ≤ 7)) ⊎ ((9 ≤ e) × (e ≤ 18)) ⊎ (e ≡ 24)
 
 -- for a number that is written out: `reason tt`
-reason : {e : ℕ} → T (leb 1 e and leb e 18) → IsReason e
-reason {e} h = go (leb 1 e) refl h
+reason : {e : ℕ} → T ((leb 1 e and leb e 7) or (leb 9 e and leb e 18)) → IsReason e
+reason {e} h = go (leb 1 e) refl (leb e 7) refl (leb 9 e) refl (leb e 18) refl h
   where
-    go : (c : Bool) → leb 1 e ≡ c → T (pick c (leb e 18) false) → IsReason e
-    go true q h = inl (leb-true 1 e q, lit≤ h)
-    go false q h = absurd h
+    go : (a : Bool) → leb 1 e ≡ a → (b : Bool) → leb e 7 ≡ b → (c : Bool) → leb 9 e ≡ c → (d : Bool) → leb e 18 ≡ d
+        → T ((a and b) or (c and d)) → IsReason e
+    go true p true q c r d s h = inl (leb-true 1 e p, leb-true e 7 q)
+    go true p false q true r true s h = inr (inl (leb-true 9 e r, leb-true e 18 s))
+    go true p false q true r false s h = absurd h
+    go true p false q false r d s h = absurd h
+    go false p b q true r true s h = inr (inl (leb-true 9 e r, leb-true e 18 s))
+    go false p b q true r false s h = absurd h
+    go false p b q false r d s h = absurd h
 
 -- what holds both ways holds of a test's outcome
 either-way : {A : Type 0} (P : A → Type 0) (c : Bool) {x y : A} → P x → P y → P (pick c x y)
@@ -292,7 +298,7 @@ module _ (o : Order) where
   unfolding classOf
   named-class level code = either-way NamedClass (ltb level code) tt (named-at codes named-codes code)
 
--- ---- headers: 6, 8, 9, 10, 12
+-- ---- headers: 6, 9, 10, 12
 abbrev pub NamedHead : Head → Type 0
 NamedHead (head code len size) = Unit {0}
 NamedHead (noHead e) = IsReason e
@@ -301,7 +307,7 @@ named-raw : (r : List ℕ) → NamedHead (rawHead r)
 named-raw r =
     either-way NamedHead (ltb (length r) 2) (reason tt)
     (either-way NamedHead (eqb (le16 r % 64) 63)
-    (either-way NamedHead (ltb (length r) 6) (reason tt) (either-way NamedHead (ltb (le32 (drop 2 r)) 63) (reason tt) tt))
+    (either-way NamedHead (ltb (length r) 6) (reason tt) tt)
     tt)
 
 pub named-head : (class : ℕ → Class) (left : ℕ) (r : List ℕ) → NamedHead (readHead class left r)
@@ -372,7 +378,7 @@ start-reason : (order level : ℕ) (f : List ℕ) → NoneOr (startFault order l
 unfolding startFault
 start-reason order level f =
     way (ltb 1023 level) (inr (reason tt))
-    (way (ltb 1 order) (inr (inr refl))
+    (way (ltb 1 order) (inr (inr (inr refl)))
     (way (ltb (length f) 9) (inr (reason tt))
     (way (signatureRight f)
     (way (versionRight f)
@@ -434,10 +440,17 @@ answer-reason m r h q = subst NamedAnswer q (named-into m r h)
 -- no refusal has reason 0
 pub reason-pos : {e : ℕ} → IsReason e ⊎ (e ≡ 19) → 1 ≤ e
 reason-pos (inl (inl h)) = h .0
-reason-pos (inl (inr h)) = omega (arith, h)
+reason-pos (inl (inr (inl h))) = omega (arith, h .0)
+reason-pos (inl (inr (inr h))) = omega (arith, h)
 reason-pos (inr h) = omega (arith, h)
 
--- and none of a file is 19
+-- and none of a file is 19, or (C-11) 8
 pub not-19 : {e : ℕ} → IsReason e → e ≡ 19 → ⊥
 not-19 (inl h) q = absurd (omega (arith, h .1, q))
-not-19 (inr h) q = absurd (omega (arith, h, q))
+not-19 (inr (inl h)) q = absurd (omega (arith, h .1, q))
+not-19 (inr (inr h)) q = absurd (omega (arith, h, q))
+
+pub not-8 : {e : ℕ} → IsReason e → e ≡ 8 → ⊥
+not-8 (inl h) q = absurd (omega (arith, h .1, q))
+not-8 (inr (inl h)) q = absurd (omega (arith, h .0, q))
+not-8 (inr (inr h)) q = absurd (omega (arith, h, q))

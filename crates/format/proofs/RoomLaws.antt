@@ -14,7 +14,7 @@ use Rattle.format.specs.Reading.{Ending, At, Fault, Reading, shows, stop
 use Rattle.format.specs.Formats.{Item, nothing, item, _▸_, times, the}
 use Rattle.format.specs.Items.{skipped, readItem, run, u32, i32, time, float, byte, color, string, count}
 use Rattle.format.specs.Bodies.{fontTables, compositionAttributes, solidColor, Kind, Value, Fixed, BitFlag, Simple, Discrete, Attribute, flagsOf, content, allFlags, rows, handOn, readBlock, Body, fixed, attributes, readPart, usedUp, readBody}
-use Rattle.format.specs.FileAndTags.{Class, opaque, end, container, known, codes, classOf, isEnd, Tag, Outcome, whole, fault, Walk, broken, chain, Head, head, noHead, readHead, Owner, file, inside, TagInside, front, opened, within, afterTag, tagThen, oneTag, walk, walkList}
+use Rattle.format.specs.FileAndTags.{Class, opaque, end, container, known, codes, classOf, isEnd, Tag, Outcome, whole, fault, Walk, broken, chain, Head, head, noHead, stateOf, readHead, Owner, file, inside, TagInside, front, opened, within, afterTag, tagThen, oneTag, walk, walkList}
 use Rattle.format.specs.TableOfNumbers.{numbers, table, tagTable}
 use Rattle.format.specs.Reasons.{startFault, walkFile, gives, result, readFile, readTags}
 use Rattle.format.specs.WritingBodies.{writePart}
@@ -202,12 +202,12 @@ module _ (o : Order) where
     after-room true c a (x ∷ r) next u = record { count = omega arith; tags = omega arith }
 
     -- a tag whose header and body have n bytes, and what follows it in m bytes
-    then-room : (d code a size len m : ℕ) (i : TagInside) (w : Walk) → 2 ≤ size → inside-count i ≤ 8 * len + 13 → 2 * length (i .walk .tags) ≤ len → Room m w
-        → Room (size + len + m) (tagThen d code a size len i w)
-    then-room d code a size len m i w l h k u = go (i .walk .ended)
+    then-room : (d code a size len s m : ℕ) (i : TagInside) (w : Walk) → 2 ≤ size → inside-count i ≤ 8 * len + 13 → 2 * length (i .walk .tags) ≤ len → Room m w
+        → Room (size + len + m) (tagThen d code a size len s i w)
+    then-room d code a size len s m i w l h k u = go (i .walk .ended)
       where
         t : Tag
-        t = record { depth = d; code = code; place = a; headerSize = size; bodyLength = len; state = i .state; values = i .values }
+        t = record { depth = d; code = code; place = a; headerSize = size; bodyLength = len; state = s; values = i .values }
 
         go : (z : Outcome) → Room (size + len + m) (chain (t ∷ i .walk .tags) z w)
         go (fault e n) = record { count = omega (arith, length-append (i .values) (numbers (i .walk .tags))); tags = omega arith }
@@ -241,7 +241,7 @@ module _ (o : Order) where
             let v : (inside-count (within o (R (pred left)) (class code) a (a + size) body) ≤ 8 * length body + 13) × (2 * length (within o (R (pred left)) (class code) a (a + size) body .walk .tags) ≤ length body) =
             within-room (R (pred left)) (λ c a r. u (pred left) c a r) (class code) (fair code) a (a + size) body in
             subst (λ (n : ℕ). Room n (oneTag o class R left c a (x ∷ r) (head code len size))) m
-            (then-room (8 - left) code a size len (length (drop (size + len) (x ∷ r))) (within o (R (pred left)) (class code) a (a + size) body)
+            (then-room (8 - left) code a size len (stateOf (class code) size len) (length (drop (size + len) (x ∷ r))) (within o (R (pred left)) (class code) a (a + size) body)
             (afterTag (isEnd (class code)) c (a + size + len) (drop (size + len) (x ∷ r)) (R left c)) (h .0) (omega (arith, v .0)) (omega (arith, v .1))
             (after-room (isEnd (class code)) c (a + size + len) (drop (size + len) (x ∷ r)) (R left c) (u left c (a + size + len) (drop (size + len) (x ∷ r)))))
 

@@ -14,7 +14,7 @@ use Rattle.format.specs.Reading.{Ending, At, Fault}
 use Rattle.format.specs.Formats.{Format}
 use Rattle.format.specs.Items.{run}
 use Rattle.format.specs.Bodies.{readBody}
-use Rattle.format.specs.FileAndTags.{Class, opaque, end, container, known, isEnd, isContainer, Tag, Outcome, whole, fault, Walk, broken, chain, Head, head, noHead, le16, le32, rawHead, passes, readHead, Owner, file, inside, blame, TagInside, endAt, noTags, front, opened, within, afterTag, tagThen, oneTag, walk}
+use Rattle.format.specs.FileAndTags.{Class, opaque, end, container, known, isEnd, isContainer, Tag, Outcome, whole, fault, Walk, broken, chain, Head, head, noHead, le16, le32, rawHead, stateOf, passes, readHead, Owner, file, inside, blame, TagInside, endAt, noTags, front, opened, within, afterTag, tagThen, oneTag, walk}
 use Rattle.format.specs.Levels.{endOf}
 use Rattle.format.specs.WritingFormats.{unrun}
 use Rattle.format.proofs.ItemLaws.{round-trip}
@@ -32,15 +32,14 @@ RawFits r (head code len size) = (2 ≤ size) × (size ≤ length r) × (code �
 RawFits r (noHead e) = Unit {0}
 
 pub raw-fits : (r : List ℕ) → RawFits r (rawHead r)
-raw-fits r = go (ltb (length r) 2) refl (eqb (le16 r % 64) 63) (ltb (length r) 6) refl (ltb (le32 (drop 2 r)) 63)
+raw-fits r = go (ltb (length r) 2) refl (eqb (le16 r % 64) 63) (ltb (length r) 6) refl
   where
-    go : (c : Bool) → ltb (length r) 2 ≡ c → (d : Bool) → (e : Bool) → ltb (length r) 6 ≡ e → (g : Bool)
-        → RawFits r (pick c (noHead 6) (pick d (pick e (noHead 6) (pick g (noHead 8) (head (le16 r / 64) (le32 (drop 2 r)) 6))) (head (le16 r / 64) (le16 r % 64) 2)))
-    go true h d e l g = tt
-    go false h true true l g = tt
-    go false h true false l true = tt
-    go false h true false l false = (lit≤ tt, ltb-false (length r) 6 l, refl)
-    go false h false e l g = (lit≤ tt, ltb-false (length r) 2 h, refl)
+    go : (c : Bool) → ltb (length r) 2 ≡ c → (d : Bool) → (e : Bool) → ltb (length r) 6 ≡ e
+        → RawFits r (pick c (noHead 6) (pick d (pick e (noHead 6) (head (le16 r / 64) (le32 (drop 2 r)) 6)) (head (le16 r / 64) (le16 r % 64) 2)))
+    go true h d e l = tt
+    go false h true true l = tt
+    go false h true false l = (lit≤ tt, ltb-false (length r) 6 l, refl)
+    go false h false e l = (lit≤ tt, ltb-false (length r) 2 h, refl)
 
 -- one that passed has its body in the room too; End has none, and a container has a depth left
 abbrev pub Fits : (ℕ → Class) → ℕ → List ℕ → Head → Type 0
@@ -113,12 +112,12 @@ placed-blame file a b e h l = record { tags = tt; faults = tt }
 placed-blame (inside x) a b e h l = record { tags = tt; faults = (omega arith, omega arith) }
 
 -- a tag, with what stands in it, and what follows
-placed-then : (c : Owner) (b d code a size len : ℕ) (i : TagInside) (w : Walk) → Before c a → 1 ≤ size → a + size + len ≤ b
-    → Placed (inside a) (a + size) (a + size + len) (i .walk) → Placed c (a + size + len) b w → Placed c a b (tagThen d code a size len i w)
-placed-then c b d code a size len i w h l m u v = go (i .walk .ended) (u .faults)
+placed-then : (c : Owner) (b d code a size len s : ℕ) (i : TagInside) (w : Walk) → Before c a → 1 ≤ size → a + size + len ≤ b
+    → Placed (inside a) (a + size) (a + size + len) (i .walk) → Placed c (a + size + len) b w → Placed c a b (tagThen d code a size len s i w)
+placed-then c b d code a size len s i w h l m u v = go (i .walk .ended) (u .faults)
   where
     t : Tag
-    t = record { depth = d; code = code; place = a; headerSize = size; bodyLength = len; state = i .state; values = i .values }
+    t = record { depth = d; code = code; place = a; headerSize = size; bodyLength = len; state = s; values = i .values }
 
     inner : Between a b (t ∷ i .walk .tags)
     inner = (omega arith, omega arith, m, between-wider (a + size) (a + size + len) a b (i .walk .tags) (omega arith) m (u .tags))
@@ -177,7 +176,7 @@ module _ (o : Order) (class : ℕ → Class) where
           let body : List ℕ = take len (drop size (x ∷ r)) in
           let n : length body ≡ len = length-take-le len (drop size (x ∷ r)) (rw length-drop (omega (arith, l .1))) in
           let m : a + size + len + length (drop (size + len) (x ∷ r)) ≡ a + length (x ∷ r) = rw length-drop (omega (arith, l .1)) in
-          placed-then c (a + length (x ∷ r)) (8 - left) code a size len
+          placed-then c (a + length (x ∷ r)) (8 - left) code a size len (stateOf (class code) size len)
           (within o (R (pred left)) (class code) a (a + size) body)
           (afterTag (isEnd (class code)) c (a + size + len) (drop (size + len) (x ∷ r)) (R left c)) h (omega (arith, l .0)) (omega (arith, l .1))
           (rw n at (placed-within (R (pred left)) (u (pred left)) (class code) a (a + size) body (omega (arith, l .0))))

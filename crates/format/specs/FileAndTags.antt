@@ -35,7 +35,7 @@ abbrev pub compression : List ℕ → ℕ
 compression f = getD f 8 0
 
 -- ---- Tag header: a little-endian 16-bit number; code = number / 64, length = number % 64. Length 63 means that a little-endian 32-bit body
--- length follows; it must be 63 or more (8). A header that the end of its list's room cuts is 6.
+-- length follows; (C-11) any length is taken, so 8 is no longer given. A header that the end of its list's room cuts is 6.
 
 -- code, body length and header size; or a reason
 pub data Head : Type 0 where
@@ -47,7 +47,7 @@ abbrev pub rawHead : List ℕ → Head
 rawHead r =
     pick (ltb (length r) 2) (noHead 6)
     (pick (eqb (le16 r % 64) 63)
-    (pick (ltb (length r) 6) (noHead 6) (pick (ltb (le32 (drop 2 r)) 63) (noHead 8) (head (le16 r / 64) (le32 (drop 2 r)) 6)))
+    (pick (ltb (length r) 6) (noHead 6) (head (le16 r / 64) (le32 (drop 2 r)) 6))
     (head (le16 r / 64) (le16 r % 64) 2))
 
 -- ---- A tag list ends with End: code 0, length 0. Tags 2 and 5 are containers. Body of 2: id (U32), then a tag list. Body of 5: type (one
@@ -100,6 +100,20 @@ isContainer end = false
 isContainer (container f) = true
 isContainer (known y) = false
 
+-- ---- ('The table of numbers', C-11) The state of a tag: 1 read, 0 opaque; it gains 2 when a long header carries a body below 63. (The whole
+-- body counts, a container's list included; a long header has 6 bytes.)
+abbrev pub isRead : Class → ℕ
+isRead opaque = 0
+isRead end = 1
+isRead (container f) = 1
+isRead (known y) = 1
+
+abbrev pub longOnShort : ℕ → ℕ → Bool
+longOnShort size len = eqb size 6 and ltb len 63
+
+abbrev pub stateOf : Class → ℕ → ℕ → ℕ
+stateOf class size len = isRead class + pick (longOnShort size len) 2 0
+
 -- ---- A container at depth 8 is refused (12). Before that: the body is longer than the list's rest (9); End has a body (10).
 
 -- left: how many depths may still lie below this list
@@ -116,7 +130,7 @@ readHead class left r = passes class left r (rawHead r)
 
 -- ---- What a walk gives.
 
--- state: 1 read, 0 opaque
+-- state: 0 to 3 (`stateOf`)
 pub record Tag : Type 0 where
   pub depth : ℕ
   pub code : ℕ
@@ -172,9 +186,8 @@ afterTag false c a r next = next a r
 
 -- ---- Lists nest, and any tag may stand in any list.
 
--- what stands in a tag: its state, its values, and the walk of the list inside it
+-- what stands in a tag: its values, and the walk of the list inside it
 pub record TagInside : Type 0 where
-  pub state : ℕ
   pub values : List ℕ
   pub walk : Walk
 
@@ -189,26 +202,26 @@ front f = f ▸ aligned
 
 -- the container at place a, whose own numbers are xs; its list, read by R, has the rest of the body, which stands at s
 abbrev pub opened : (Owner → ℕ → List ℕ → Walk) → ℕ → ℕ → List ℕ → List ℕ → Ending → TagInside
-opened R a s body xs (At p) = record { state = 1; values = xs; walk = R (inside a) (s + toByte p) (drop (toByte p) body) }
-opened R a s body xs (Fault e) = record { state = 1; values = xs; walk = broken e a }
+opened R a s body xs (At p) = record { values = xs; walk = R (inside a) (s + toByte p) (drop (toByte p) body) }
+opened R a s body xs (Fault e) = record { values = xs; walk = broken e a }
 
 -- by class: the tag at place a, with its body at s
 abbrev pub within : Order → (Owner → ℕ → List ℕ → Walk) → Class → ℕ → ℕ → List ℕ → TagInside
-within o R opaque a s body = record { state = 0; values = body; walk = noTags whole }
-within o R end a s body = record { state = 1; values = []; walk = noTags whole }
-within o R (known y) a s body = record { state = 1; values = readBody o y body .shown; walk = noTags (endAt a (readBody o y body .ended)) }
+within o R opaque a s body = record { values = body; walk = noTags whole }
+within o R end a s body = record { values = []; walk = noTags whole }
+within o R (known y) a s body = record { values = readBody o y body .shown; walk = noTags (endAt a (readBody o y body .ended)) }
 within o R (container f) a s body = opened R a s body (run o body (front f) 0 .shown) (run o body (front f) 0 .ended)
 
--- the tag with this header and what stands in it, and the walk w of what follows it
-abbrev pub tagThen : ℕ → ℕ → ℕ → ℕ → ℕ → TagInside → Walk → Walk
-tagThen d code a size len i w =
-    chain (record { depth = d; code = code; place = a; headerSize = size; bodyLength = len; state = i .state; values = i .values } ∷ i .walk .tags) (i .walk .ended) w
+-- the tag with this header, this state and what stands in it, and the walk w of what follows it
+abbrev pub tagThen : ℕ → ℕ → ℕ → ℕ → ℕ → ℕ → TagInside → Walk → Walk
+tagThen d code a size len s i w =
+    chain (record { depth = d; code = code; place = a; headerSize = size; bodyLength = len; state = s; values = i .values } ∷ i .walk .tags) (i .walk .ended) w
 
 -- one tag, by its header, and the rest of its list; lists are read by R
 abbrev pub oneTag : Order → (ℕ → Class) → (ℕ → Owner → ℕ → List ℕ → Walk) → ℕ → Owner → ℕ → List ℕ → Head → Walk
 oneTag o class R left c a r (noHead e) = broken e a
 oneTag o class R left c a r (head code len size) =
-    tagThen (8 - left) code a size len (within o (R (pred left)) (class code) a (a + size) (take len (drop size r)))
+    tagThen (8 - left) code a size len (stateOf (class code) size len) (within o (R (pred left)) (class code) a (a + size) (take len (drop size r)))
     (afterTag (isEnd (class code)) c (a + size + len) (drop (size + len) r) (R left c))
 
 -- the list at place a, whose room is r. Room that is used up without End is 7.

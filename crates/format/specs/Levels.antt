@@ -1,6 +1,6 @@
 -- Demand 3, of two levels lo ≤ hi of one file: a lower level shows the same as a higher one, except that each outermost tag above it stands
 -- opaque; their refusals agree, but for places at or inside such tags.
-use Prim.Native.Nat.{ℕ, _+_, _≤_, _<_}
+use Prim.Native.Nat.{ℕ, _+_, _*_, _/_, _≤_, _<_}
 use mathlib.Core.List.{List, [], _∷_}
 use mathlib.Core.Path.{_≡_}
 use lib.ListN.{take, drop}
@@ -13,7 +13,7 @@ use Rattle.format.specs.Reasons.{walkFile}
 abbrev pub endOf : Tag → ℕ
 endOf t = t .place + t .headerSize + t .bodyLength
 
--- the tag made opaque: state 0, and its values are the plain bytes of its body in the file f
+-- the tag made opaque: its state loses the 1 and (C-11) keeps the 2, and its values are the plain bytes of its body in the file f
 abbrev pub veil : List ℕ → Tag → Tag
 veil f t = record {
   depth = t .depth;
@@ -21,7 +21,7 @@ veil f t = record {
   place = t .place;
   headerSize = t .headerSize;
   bodyLength = t .bodyLength;
-  state = 0;
+  state = 2 * (t .state / 2);
   values = take (t .bodyLength) (drop (t .place + t .headerSize) f);
 }
 

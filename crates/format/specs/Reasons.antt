@@ -10,7 +10,7 @@
 --   6 | the end of its list's room cuts a header            | its place                 | `rawHead` of FileAndTags
 --   7 | list room is used up without End                    | container's place; file   | `walk` of FileAndTags
 --     |                                                     | length at depth 0         |
---   8 | long header, length below 63                        | tag's place               | `rawHead` of FileAndTags
+--   8 | not given (C-11: a long header takes any length)    |                           |
 --   9 | body longer than the list's rest                    | tag's place               | `passes` of FileAndTags
 --  10 | End with a body                                     | tag's place               | `passes` of FileAndTags
 --  11 | bytes after End                                     | container's place; first  | `atEnd` of FileAndTags
@@ -51,7 +51,7 @@ startFault order level f =
     3)))
 
 -- ---- After that the first fault in file order counts: the walk of the tags at depth 0, which follow the header's 9 bytes; 8 depths may lie
--- below them. At one tag header 6 to 10 and then 12 are tried in this order (`readHead` of FileAndTags).
+-- below them. At one tag header 6, 9, 10 and then 12 are tried in this order (`readHead` of FileAndTags).
 -- For an item: skipped bits (15), its bytes (13), its spelling (14), its range (16, 17) (`run` of Items).
 unfoldable pub walkFile : ℕ → ℕ → List ℕ → Walk
 walkFile order level f =

@@ -4,9 +4,9 @@ use mathlib.Core.List.{List, [], _∷_, _++_}
 use lib.ListN.{length}
 use Rattle.format.specs.FileAndTags.{compression, Tag, Walk}
 
--- ---- The compression byte, then per tag its code, its state (1 read, 0 opaque), the count of its values, and the values; a container's
--- children follow it. End is a tag with state 1 and no values. (A walk's tags stand in this order, and `within` gives state and values: an
--- opaque tag's values are its body bytes; the others' are the items in file order. Negative numbers, widths and Strings: Items. Flags: Bodies.)
+-- ---- The compression byte, then per tag its code, its state (`stateOf`: 1 read, 0 opaque; C-11 adds 2), the count of its values, and the
+-- values; a container's children follow it. End is a tag that is read and has no values. (A walk's tags stand in this order, and `within` gives
+-- the values: an opaque tag's are its body bytes; the others' are the items in file order. Negative numbers, widths and Strings: Items. Flags: Bodies.)
 abbrev pub numbers : List Tag → List ℕ
 numbers [] = []
 numbers (t ∷ ts) = t .code ∷ t .state ∷ length (t .values) ∷ (t .values ++ numbers ts)

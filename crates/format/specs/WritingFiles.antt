@@ -6,7 +6,8 @@ use lib.ListN.{length, take, drop}
 use lib.Dec.{ltb, leb, eqb}
 use Rattle.format.specs.Tests.{pick}
 use Rattle.format.specs.Bits.{Order, orderNamed}
-use Rattle.format.specs.FileAndTags.{Class, opaque, end, container, known, classOf, isEnd, front}
+use Rattle.format.specs.Formats.{the}
+use Rattle.format.specs.FileAndTags.{Class, opaque, end, container, known, classOf, isEnd, isRead, front}
 use Rattle.format.specs.WritingFormats.{unrun}
 use Rattle.format.specs.Possible.{Possible, this, cannot}
 use Rattle.format.specs.WritingBodies.{packed, writeBody}
@@ -21,12 +22,23 @@ spell16 n = n % 256 ∷ n / 256 ∷ []
 abbrev pub spell32 : ℕ → List ℕ
 spell32 n = n % 256 ∷ n / 256 % 256 ∷ n / 65536 % 256 ∷ n / 16777216 ∷ []
 
--- a header: the short form below 63
-abbrev pub spellHead : ℕ → ℕ → List ℕ
-spellHead code len = pick (ltb len 63) (spell16 (code * 64 + len)) (spell16 (code * 64 + 63) ++ spell32 len)
+-- (C-11) a state above 1 claims the long header for a body below 63
+abbrev pub claims : ℕ → Bool
+claims s = ltb 1 s
 
-abbrev pub fitsHead : ℕ → ℕ → Bool
-fitsHead code len = pick (ltb code 1024) (ltb len (2 ^ 32)) false
+-- a state of this class, with or without the 2
+abbrev pub fitsState : Class → ℕ → Bool
+fitsState class s = eqb s (isRead class + pick (claims s) 2 0)
+
+abbrev pub spellLong : ℕ → ℕ → List ℕ
+spellLong code len = spell16 (code * 64 + 63) ++ spell32 len
+
+-- a header: the long form where it is claimed, else the short one below 63
+abbrev pub spellHead : Bool → ℕ → ℕ → List ℕ
+spellHead claim code len = pick claim (spellLong code len) (pick (ltb len 63) (spell16 (code * 64 + len)) (spellLong code len))
+
+abbrev pub fitsHead : Bool → ℕ → ℕ → Bool
+fitsHead claim code len = pick (ltb code 1024) (ltb len (pick claim 63 (2 ^ 32))) false
 
 abbrev pub allBytes : List ℕ → Bool
 allBytes [] = true
@@ -46,30 +58,29 @@ abbrev pub fronted : List ℕ → Possible (List ℕ) → Possible Made → Poss
 fronted xs (this b) m = joined xs b m
 fronted xs cannot m = cannot
 
--- a tag of state s with the n values vs, before the numbers ys; a list is written by W; left: the depths below
+-- a tag with the state s, which fits, and the n values vs, before the numbers ys; a list is written by W; left: the depths below
 abbrev pub fill : Order → (List ℕ → Possible Made) → ℕ → Class → ℕ → ℕ → List ℕ → List ℕ → Possible Made
-fill o W left opaque s n vs ys = pick (eqb s 0) (pick (allBytes vs) (this (made (s ∷ n ∷ vs) vs ys)) cannot) cannot
-fill o W left end s n vs ys = pick (eqb s 1) (pick (eqb n 0) (this (made (s ∷ n ∷ vs) [] ys)) cannot) cannot
-fill o W left (known y) s n vs ys = pick (eqb s 1) (bodyOf (s ∷ n ∷ vs) (writeBody o y vs) ys) cannot
-fill o W left (container f) s n vs ys =
-    pick (eqb left 0) cannot (pick (eqb s 1) (fronted (s ∷ n ∷ vs) (packed o (unrun o (front f) vs 0)) (W ys)) cannot)
+fill o W left opaque s n vs ys = pick (allBytes vs) (this (made (s ∷ n ∷ vs) vs ys)) cannot
+fill o W left end s n vs ys = pick (eqb n 0) (this (made (s ∷ n ∷ vs) [] ys)) cannot
+fill o W left (known y) s n vs ys = bodyOf (s ∷ n ∷ vs) (writeBody o y vs) ys
+fill o W left (container f) s n vs ys = pick (eqb left 0) cannot (fronted (s ∷ n ∷ vs) (packed o (unrun o (front f) vs 0)) (W ys))
 
 -- state, count and values of a tag
 abbrev pub outTag : Order → (List ℕ → Possible Made) → ℕ → Class → List ℕ → Possible Made
 outTag o W left class [] = cannot
 outTag o W left class (s ∷ []) = cannot
-outTag o W left class (s ∷ n ∷ ns) = pick (leb n (length ns)) (fill o W left class s n (take n ns) (drop n ns)) cannot
+outTag o W left class (s ∷ n ∷ ns) = pick (leb n (length ns)) (pick (fitsState class s) (fill o W left class s n (take n ns) (drop n ns)) cannot) cannot
 
 -- the code and the header before a body; then, unless it is End, the rest of the list
-abbrev pub headed : ℕ → Bool → Possible Made → (List ℕ → Possible Made) → Possible Made
-headed code e cannot k = cannot
-headed code true (this (made xs body ys)) k = pick (fitsHead code (length body)) (this (made (code ∷ xs) (spellHead code (length body) ++ body) ys)) cannot
-headed code false (this (made xs body ys)) k = pick (fitsHead code (length body)) (joined (code ∷ xs) (spellHead code (length body) ++ body) (k ys)) cannot
+abbrev pub headed : Bool → ℕ → Bool → Possible Made → (List ℕ → Possible Made) → Possible Made
+headed claim code e cannot k = cannot
+headed claim code true (this (made xs body ys)) k = pick (fitsHead claim code (length body)) (this (made (code ∷ xs) (spellHead claim code (length body) ++ body) ys)) cannot
+headed claim code false (this (made xs body ys)) k = pick (fitsHead claim code (length body)) (joined (code ∷ xs) (spellHead claim code (length body) ++ body) (k ys)) cannot
 
--- one tag and what follows it; lists are written by U
+-- one tag, whose state is the number after its code, and what follows it; lists are written by U
 abbrev pub outOne : Order → (ℕ → Class) → (ℕ → List ℕ → Possible Made) → ℕ → List ℕ → Possible Made
 outOne o class U left [] = cannot
-outOne o class U left (code ∷ ns) = headed code (isEnd (class code)) (outTag o (U (pred left)) left (class code) ns) (U left)
+outOne o class U left (code ∷ ns) = headed (claims (the ns)) code (isEnd (class code)) (outTag o (U (pred left)) left (class code) ns) (U left)
 
 -- k bounds the number of tags
 unfoldable pub unwalk : Order → (ℕ → Class) → ℕ → ℕ → List ℕ → Possible Made

@@ -40,7 +40,7 @@ four-bytes s i j a b q x y = rw (x, y, later s i j q, getD-drop 2 (drop i s) 0 0
 abbrev headOf : ℕ → ℕ → ℕ → paper.Head
 headOf rest n long =
     pick (ltb rest 2) (noHead 6)
-    (pick (eqb (n % 64) 63) (pick (ltb rest 6) (noHead 6) (pick (ltb long 63) (noHead 8) (head (n / 64) long 6))) (head (n / 64) (n % 64) 2))
+    (pick (eqb (n % 64) 63) (pick (ltb rest 6) (noHead 6) (head (n / 64) long 6)) (head (n / 64) (n % 64) 2))
 
 tied : (r : List ℕ) (rest n long : ℕ) → rest ≡ length r → n ≡ le16 r → long ≡ le32 (drop 2 r) → headOf rest n long ≡ rawHead r
 tied r rest n long p q w = rw (p, q, w)
@@ -67,14 +67,10 @@ module _ (s : List ℕ) (i rest : ℕ) (fits : i + rest ≡ length s) where
       next : long ≡ le32 (drop 2 (drop i s))
       next = length₄ ∙ ap le32 (later s i j after)
 
-      pub head-low : long < 63 → noHead 8 ≡ rawHead (drop i s)
-      head-low h =
-          rw (le-ltb rest 2 two, eq-eqb (n % 64) 63 full, le-ltb rest 6 six, lt-ltb long 63 h) at (tied (drop i s) rest n long room number next)
-
-      pub head-long : (code : ℕ) → code ≡ n / 64 → 63 ≤ long → head code long 6 ≡ rawHead (drop i s)
-      head-long code p h =
+      pub head-long : (code : ℕ) → code ≡ n / 64 → head code long 6 ≡ rawHead (drop i s)
+      head-long code p =
           rw p
-          (rw (le-ltb rest 2 two, eq-eqb (n % 64) 63 full, le-ltb rest 6 six, le-ltb long 63 h) at (tied (drop i s) rest n long room number next))
+          (rw (le-ltb rest 2 two, eq-eqb (n % 64) 63 full, le-ltb rest 6 six) at (tied (drop i s) rest n long room number next))
 
 -- ---- No second answer fits.
 

@@ -44,7 +44,7 @@ pub fn le32_at(bytes: &[u8], i: usize) -> u32
     le16_at(bytes, i) + 65536 * le16_at(bytes, j)
 }
 
-// The header as it stands in a list's room: cut by the room's end (6); long, with a length below 63 (8).
+// The header as it stands in a list's room, unless the room's end cuts it (6). The long one takes any length.
 fn raw_head(room: &[u8], at: BytePlace) -> Head
     requires { ⌜ at .0 ≤ length (now room) ⌝ }
     ensures { λ r. ⌜ asHead r ≡ rawHead (drop (at .0) (now (room .entry))) ⌝ }
@@ -67,13 +67,9 @@ fn raw_head(room: &[u8], at: BytePlace) -> Head
     if rest < 6 {
         return Head::Fault(6);
     }
-    let long = le32_at(room, i + 2);
-    if long < 63 {
-        return Head::Fault(8);
-    }
     Head::Tag(Header {
         code: code,
-        length: long,
+        length: le32_at(room, i + 2),
         size: 6,
     })
 }

@@ -15,7 +15,7 @@ use Rattle.format.specs.Reading.{Ending, At, Fault}
 use Rattle.format.specs.Items.{run, toByte}
 use Rattle.format.specs.Bodies.{readBody}
 use Rattle.format.specs.FileAndTags as paper
-use Rattle.format.specs.FileAndTags.{le16, container, Tag, Outcome, whole, fault, Walk, noTags, broken, chain, head, noHead, readHead, blame, atEnd, afterTag, TagInside, endAt, front, opened, within, tagThen, walkList}
+use Rattle.format.specs.FileAndTags.{le16, container, stateOf, Tag, Outcome, whole, fault, Walk, noTags, broken, chain, head, noHead, readHead, blame, atEnd, afterTag, TagInside, endAt, front, opened, within, tagThen, walkList}
 use Rattle.format.specs.TableOfNumbers.{numbers, tagTable}
 use Rattle.format.proofs.EngineLaws.{chain-chain, numbers-append, tagTable-append}
 use Rattle.format.proofs.ListLaws.{list-nil, list-fault, list-tag}
@@ -26,14 +26,14 @@ use Rattle.table.proofs.EngineLaws.{sets-append}
 use Rattle.attributes.specs.Rows.{attributesOf}
 use Rattle.fixed.specs.Fixed.{fixedOf}
 use Rattle.bodies.specs.Leaf.{leafBody}
-use Rattle.classes.specs.Classes.{named, ends, contains, classBy}
+use Rattle.classes.specs.Classes.{named, bare, ends, contains, classBy}
 use Rattle.classes.specs.declared.Class.{Class}
 use Rattle.classes.specs.declared.Class.the-variants.{Opaque, End, Container, Fixed, Attributes}
 use Rattle.classes.specs.declared.Scope.{Scope}
-use Rattle.classes.proofs.ClassLaws.{Right, spelt, ends-named, contains-named, fair-by, taken-by}
+use Rattle.classes.proofs.ClassLaws.{Right, spelt, ends-named, contains-named, read-named, fair-by, taken-by}
 use Rattle.headers.specs.Heads.{headBy}
 use Rattle.headers.proofs.HeadLaws.{head-by}
-use Rattle.tags.specs.Shown.{stateOf, valuesOf}
+use Rattle.tags.specs.Shown.{valuesOf}
 use Rattle.bits.specs.declared.BytePlace.{BytePlace}
 use Rattle.lists.specs.Lists.{ownerOf, byteAt, tagShown, stepOf, Stepped, stepped, tagAt, lastOf, Listed, listed, walkedOf, walkOver, Bounds}
 use Rattle.lists.specs.declared.Owner.{Owner}
@@ -81,7 +81,7 @@ walkOf R Attributes a s body (At p) = noTags whole
 
 abbrev insideOf : Order → (paper.Owner → ℕ → List ℕ → Walk) → Class → ℕ → ℕ → ℕ → List ℕ → TagInside
 insideOf o R c code a s body =
-    record { state = stateOf c; values = valuesOf o c code body .shown; walk = walkOf R c a s body (valuesOf o c code body .ended) }
+    record { values = valuesOf o c code body .shown; walk = walkOf R c a s body (valuesOf o c code body .ended) }
 
 -- the code's bodies and fronts are the classes'
 right : Right leafBody (λ code. container (fixedOf code))
@@ -93,15 +93,15 @@ within-is : (o : Order) (R : paper.Owner → ℕ → List ℕ → Walk) (scope :
 within-is o R scope level code a s body =
     ap (λ (c : paper.Class). within o R c a s body) (taken-by leafBody fixedOf right scope level code) ∙ go (named (classBy scope level code))
   where
-    leaf : (xs : List ℕ) (z : Ending) → _≡_ {A = TagInside} (record { state = 1; values = xs; walk = noTags (endAt a z) }) (record { state = 1; values = xs; walk = walkOf R Fixed a s body z })
+    leaf : (xs : List ℕ) (z : Ending) → _≡_ {A = TagInside} (record { values = xs; walk = noTags (endAt a z) }) (record { values = xs; walk = walkOf R Fixed a s body z })
     leaf xs (At p) = refl
     leaf xs (Fault e) = refl
 
-    fronted : (xs : List ℕ) (z : Ending) → opened R a s body xs z ≡ record { state = 1; values = xs; walk = walkOf R Container a s body z }
+    fronted : (xs : List ℕ) (z : Ending) → opened R a s body xs z ≡ record { values = xs; walk = walkOf R Container a s body z }
     fronted xs (At p) = refl
     fronted xs (Fault e) = refl
 
-    leaf-too : (xs : List ℕ) (z : Ending) → _≡_ {A = TagInside} (record { state = 1; values = xs; walk = noTags (endAt a z) }) (record { state = 1; values = xs; walk = walkOf R Attributes a s body z })
+    leaf-too : (xs : List ℕ) (z : Ending) → _≡_ {A = TagInside} (record { values = xs; walk = noTags (endAt a z) }) (record { values = xs; walk = walkOf R Attributes a s body z })
     leaf-too xs (At p) = refl
     leaf-too xs (Fault e) = refl
 
@@ -251,16 +251,16 @@ module _ (o : Order) (scope : Scope) (level depths : ℕ) (own : paper.Owner) (a
   passed-as {t} {g} {j} {w} rest rest′ e s = subst (λ (z : Walk). Passed t g j w z) e s
 
   -- a tag's own numbers, and its row
-  passed-tag : {t g t′ g′ : List ℕ} {j w j′ w′ : ℕ} (d code p size len : ℕ) (i : TagInside) (rest : Walk) → Passed t g j w (tagThen d code p size len i rest)
-      → t′ ≡ sets t j (code ∷ i .state ∷ length (i .values) ∷ i .values) → g′ ≡ sets g w (d ∷ code ∷ p ∷ size ∷ len ∷ [])
+  passed-tag : {t g t′ g′ : List ℕ} {j w j′ w′ : ℕ} (d code p size len s : ℕ) (i : TagInside) (rest : Walk) → Passed t g j w (tagThen d code p size len s i rest)
+      → t′ ≡ sets t j (code ∷ s ∷ length (i .values) ∷ i .values) → g′ ≡ sets g w (d ∷ code ∷ p ∷ size ∷ len ∷ [])
       → j′ ≡ j + (3 + length (i .values)) → w′ ≡ w + 5 → Passed t′ g′ j′ w′ (chain (i .walk .tags) (i .walk .ended) rest)
-  passed-tag {t} {g} {t′} {g′} {j} {w} {j′} {w′} d code p size len i rest s x y q z =
-      let tag : Tag = record { depth = d; code = code; place = p; headerSize = size; bodyLength = len; state = i .state; values = i .values } in
+  passed-tag {t} {g} {t′} {g′} {j} {w} {j′} {w′} d code p size len s i rest h x y q z =
+      let tag : Tag = record { depth = d; code = code; place = p; headerSize = size; bodyLength = len; state = s; values = i .values } in
       let n : i .values ++ [] ≡ i .values = append-nil (i .values) in
       let x′ : t′ ≡ sets t j (numbers (tag ∷ [])) = rw n x in
       let q′ : j′ ≡ j + length (numbers (tag ∷ [])) = q ∙ rw n (omega arith) in
       passed-more (tag ∷ []) (chain (i .walk .tags) (i .walk .ended) rest)
-      (passed-as (tagThen d code p size len i rest) (chain (tag ∷ []) whole (chain (i .walk .tags) (i .walk .ended) rest)) (sym (chain-chain (tag ∷ []) (i .walk .tags) (i .walk .ended) rest)) s)
+      (passed-as (tagThen d code p size len s i rest) (chain (tag ∷ []) whole (chain (i .walk .tags) (i .walk .ended) rest)) (sym (chain-chain (tag ∷ []) (i .walk .tags) (i .walk .ended) rest)) h)
       x′ y q′ z
 
   -- ---- the room is used up
@@ -316,13 +316,13 @@ module _ (o : Order) (scope : Scope) (level depths : ℕ) (own : paper.Owner) (a
       later b = afterTag b own (a + stop) (drop stop r) (walkList o (classBy scope level) depths own)
 
       abbrev t′ : List ℕ
-      t′ = sets t j (tagShown o c code body .shown)
+      t′ = sets t j (tagShown o c code len size body .shown)
 
       abbrev g′ : List ℕ
       g′ = sets g w ((8 - depths) ∷ code ∷ (a + i) ∷ size ∷ len ∷ [])
 
       abbrev j′ : ℕ
-      j′ = j + length (tagShown o c code body .shown)
+      j′ = j + length (tagShown o c code len size body .shown)
 
       stop-fits : (i < stop) × (stop ≤ length r)
       stop-fits = (omega (arith, fits .0), omega (arith, fits .1, length-drop i r))
@@ -330,18 +330,18 @@ module _ (o : Order) (scope : Scope) (level depths : ℕ) (own : paper.Owner) (a
       body-length : length body ≡ len
       body-length = length-take-le len (drop size (drop i r)) (rw (length-drop, length-drop) (omega (arith, stop-fits .1)))
 
-      tag-is : from i ≡ tagThen (8 - depths) code (a + i) size len (insideOf o R c code (a + i) (a + start) body) (later (ends c))
+      tag-is : from i ≡ tagThen (8 - depths) code (a + i) size len (stateOf (bare c) size len) (insideOf o R c code (a + i) (a + start) body) (later (ends c))
       tag-is =
           let p : a + i + size ≡ a + start = omega arith in
           let q : a + i + size + len ≡ a + stop = omega arith in
           let n : i + (size + len) ≡ stop = omega arith in
           let d : drop (size + len) (drop i r) ≡ drop stop r = drop-drop (size + len) i r ∙ ap (λ (n : ℕ). drop n r) n in
           list-tag o (classBy scope level) depths own (a + i) (drop i r) code len size left-over stands
-          ∙ rw (q, p, d, ends-named (classBy scope level code), within-is o R scope level code (a + i) (a + start) body)
+          ∙ rw (q, p, d, ends-named (classBy scope level code), read-named (classBy scope level code), within-is o R scope level code (a + i) (a + start) body)
 
       tag-passed : Passed t′ g′ j′ (w + 5) (chain (inner .tags) (inner .ended) (later (ends c)))
-      tag-passed = passed-tag (8 - depths) code (a + i) size len (insideOf o R c code (a + i) (a + start) body) (later (ends c))
-          (passed-as (from i) (tagThen (8 - depths) code (a + i) size len (insideOf o R c code (a + i) (a + start) body) (later (ends c))) tag-is (going .passed)) refl refl (omega arith) refl
+      tag-passed = passed-tag (8 - depths) code (a + i) size len (stateOf (bare c) size len) (insideOf o R c code (a + i) (a + start) body) (later (ends c))
+          (passed-as (from i) (tagThen (8 - depths) code (a + i) size len (stateOf (bare c) size len) (insideOf o R c code (a + i) (a + start) body) (later (ends c))) tag-is (going .passed)) refl refl (omega arith) refl
 
       -- the step after it
       module _ (S : Step) (next : S ≡ stepOf c start stop j′ (valuesOf o c code body .ended)) where

@@ -1,17 +1,19 @@
 -- One tag: its header, its row, its own numbers, and what comes after them.
 use Prim.Native.Nat.{ℕ, _+_, _-_, _*_, _/_, _≤_}
 use mathlib.Core.List.{List, [], _∷_}
-use mathlib.Core.Path.{_≡_, ap, sym, subst, _∙_}
+use mathlib.Core.Path.{_≡_, ap, ap₂, sym, subst, _∙_}
+use mathlib.Core.Bool.{Bool}
 use native.Mathlib.Omega.{arith}
 use lib.ListN.{length, take, drop, length-drop}
 use lib.Seq.{sets, drop-drop, length-take-le}
 use lib.Dec.{eqb}
 use borrow.Author.Tests.{eq-eqb, ne-eqb}
 use Rattle.bits.specs.declared.BytePlace.{BytePlace}
+use Rattle.format.specs.Tests.{pick}
 use Rattle.format.specs.Bits.{Order}
 use Rattle.format.specs.Reading.{At, Fault}
 use Rattle.format.specs.FileAndTags as paper
-use Rattle.format.specs.FileAndTags.{blame}
+use Rattle.format.specs.FileAndTags.{isRead, longOnShort, stateOf, blame}
 use Rattle.table.specs.State.{State, shownOver}
 use Rattle.bodies.specs.Shown.{shownLeaves}
 use Rattle.bodies.specs.declared.Shown.{Shown}
@@ -24,7 +26,7 @@ use Rattle.headers.specs.declared.Head.{Head}
 use Rattle.headers.specs.declared.Head.the-variants as heads
 use Rattle.headers.specs.declared.Header.{Header}
 use Rattle.lists.specs.Lists.{ownerOf, byteAt, tagShown, stepBy, stepOf, stepped, tagAt, lastOf}
-use Rattle.tags.specs.Shown.{valuesOf}
+use Rattle.tags.specs.Shown.{valuesOf, headed}
 use Rattle.tags.proofs.TagLaws.{values-le}
 use Rattle.lists.specs.declared.Owner.{Owner}
 use Rattle.lists.specs.declared.Step.{Step}
@@ -39,10 +41,10 @@ stepped-eq : {t t′ g g′ : List ℕ} {x x′ : Step} → t ≡ t′ → g ≡
 stepped-eq p q r = λ i. record { table = p i; rows = q i; step = r i }
 
 -- a tag's values end in its body
-pub values-fit : (o : Order) (class : Class) (code : ℕ) (body t : List ℕ) (k : ℕ) {u : List ℕ} {R : Shown} {p : BytePlace} {j : ℕ} → shownLeaves u R ≡ shownOver t k (tagShown o class code body) → R ≡ Done p j
+pub values-fit : (o : Order) (class : Class) (code s : ℕ) (body t : List ℕ) (k : ℕ) {u : List ℕ} {R : Shown} {p : BytePlace} {j : ℕ} → shownLeaves u R ≡ shownOver t k (headed code s (valuesOf o class code body)) → R ≡ Done p j
     → p .0 ≤ length body
 unfolding shownOver
-values-fit o class code body t k {u} {R} {p} {j} e is =
+values-fit o class code s body t k {u} {R} {p} {j} e is =
     let f : At (8 * p .0) ≡ valuesOf o class code body .ended = ap (λ (z : Shown). shownLeaves u z .ended) (sym is) ∙ ap (λ (s : State). s .ended) e in
     omega (arith, values-le o class code body (8 * p .0) (sym f))
 
@@ -61,7 +63,9 @@ module _ (o : Order) (class : Class) (depths a : ℕ) (r : List ℕ) (i : ℕ) (
 
   -- it passes, and the row and the numbers are stored
   module _ {head : Header} {start stop : ℕ} {body g′ t′ : List ℕ} (R : Shown) (is : h ≡ heads.Tag head) (begin : start ≡ i + head .size) (end : stop ≡ start + head .length)
-      (part : body ≡ take (stop - start) (drop start r)) (row : g′ ≡ sets g m ((8 - depths) ∷ head .code ∷ (a + i) ∷ head .size ∷ head .length ∷ [])) (ran : shownLeaves t′ R ≡ shownOver t k (tagShown o class (head .code) body)) where
+      (part : body ≡ take (stop - start) (drop start r)) (row : g′ ≡ sets g m ((8 - depths) ∷ head .code ∷ (a + i) ∷ head .size ∷ head .length ∷ []))
+      {early : Bool} {st : ℕ} (gains : early ≡ longOnShort (head .size) (head .length)) (stated : st ≡ isRead (bare class) + pick early 2 0)
+      (ran : shownLeaves t′ R ≡ shownOver t k (headed (head .code) st (valuesOf o class (head .code) body))) where
     abbrev code : ℕ
     code = head .code
 
@@ -79,8 +83,11 @@ module _ (o : Order) (class : Class) (depths a : ℕ) (r : List ℕ) (i : ℕ) (
     head-is : paper.head code len size ≡ H
     head-is = sym (ap asHead is) ∙ at
 
-    ran-is : shownLeaves t′ R ≡ shownOver t k (tagShown o class code (take len (drop size (drop i r))))
-    ran-is = ran ∙ ap (λ (b : List ℕ). shownOver t k (tagShown o class code b)) body-is
+    state-is : st ≡ stateOf (bare class) size len
+    state-is = stated ∙ ap (λ (z : Bool). isRead (bare class) + pick z 2 0) gains
+
+    ran-is : shownLeaves t′ R ≡ shownOver t k (tagShown o class code len size (take len (drop size (drop i r))))
+    ran-is = ran ∙ ap₂ (λ (s : ℕ) (b : List ℕ). shownOver t k (headed code s (valuesOf o class code b))) state-is body-is
 
     tag-done : {x : Step} → x ≡ stepOf class start stop (shownLeaves t′ R .count) (shownLeaves t′ R .ended) → stepped t′ g′ x ≡ tagAt o class depths a r i t k g m H
     unfolding shownOver
@@ -102,7 +109,7 @@ module _ (o : Order) (class : Class) (depths a : ℕ) (r : List ℕ) (i : ℕ) (
     list-fits e l f =
         let u : i + size + len ≤ length r = tag-stands e is l in
         let n : length body ≡ stop - start = ap length part ∙ length-take-le (stop - start) (drop start r) (rw length-drop (omega arith)) in
-        omega (arith, values-fit o class code body t k ran f)
+        omega (arith, values-fit o class code st body t k ran f)
 
 -- after End
 pub last-whole : (own : Owner) (a stop room k m : ℕ) → stop ≡ room → walked.Next k m ≡ lastOf own a stop room k m

@@ -10,12 +10,13 @@ use Rattle.format.specs.Reading.{Ending, At, Reading}
 use Rattle.format.specs.Reading as reading
 use Rattle.format.specs.Items.{toByte}
 use Rattle.format.specs.FileAndTags as paper
-use Rattle.format.specs.FileAndTags.{Outcome, whole, fault, Walk, blame}
+use Rattle.format.specs.FileAndTags.{stateOf, Outcome, whole, fault, Walk, blame}
 use Rattle.format.specs.TableOfNumbers.{numbers, tagTable}
+use Rattle.classes.specs.Classes.{bare}
 use Rattle.classes.specs.declared.Class.{Class}
 use Rattle.classes.specs.declared.Class.the-variants.{Opaque, End, Container, Fixed, Attributes}
 use Rattle.bits.specs.declared.BytePlace.{BytePlace}
-use Rattle.tags.specs.Shown.{stateOf, valuesOf, headed}
+use Rattle.tags.specs.Shown.{valuesOf, headed}
 use Rattle.lists.specs.declared.Owner.{Owner}
 use Rattle.lists.specs.declared.Owner.the-variants.{File, Container}
 use Rattle.lists.specs.declared.Walked.{Walked}
@@ -33,9 +34,9 @@ byteAt n = record { 0 = n }
 
 -- ---- one tag
 
--- its code, state, count and values
-abbrev pub tagShown : Order → Class → ℕ → List ℕ → Reading
-tagShown o class code body = headed code (stateOf class) (valuesOf o class code body)
+-- its code, state, count and values; its header has this size
+abbrev pub tagShown : Order → Class → ℕ → ℕ → ℕ → List ℕ → Reading
+tagShown o class code len size body = headed code (stateOf (bare class) size len) (valuesOf o class code body)
 
 -- what comes after it: it ends at `stop`, its list starts at `list`, and j is the next index
 abbrev pub stepBy : Class → BytePlace → BytePlace → ℕ → Step
@@ -62,8 +63,8 @@ stepped t g x = record { table = t; rows = g; step = x }
 abbrev pub tagAt : Order → Class → ℕ → ℕ → List ℕ → ℕ → List ℕ → ℕ → List ℕ → ℕ → paper.Head → Stepped
 tagAt o class depths a r i t k g m (paper.noHead e) = stepped t g (step.Fault e)
 tagAt o class depths a r i t k g m (paper.head code len size) =
-    stepped (sets t k (tagShown o class code (take len (drop size (drop i r))) .shown)) (sets g m ((8 - depths) ∷ code ∷ (a + i) ∷ size ∷ len ∷ []))
-    (stepOf class (i + size) (i + size + len) (k + length (tagShown o class code (take len (drop size (drop i r))) .shown)) (tagShown o class code (take len (drop size (drop i r))) .ended))
+    stepped (sets t k (tagShown o class code len size (take len (drop size (drop i r))) .shown)) (sets g m ((8 - depths) ∷ code ∷ (a + i) ∷ size ∷ len ∷ []))
+    (stepOf class (i + size) (i + size + len) (k + length (tagShown o class code len size (take len (drop size (drop i r))) .shown)) (tagShown o class code len size (take len (drop size (drop i r))) .ended))
 
 -- after End, which ends at `stop` of the room
 abbrev pub lastOf : Owner → ℕ → ℕ → ℕ → ℕ → ℕ → Walked

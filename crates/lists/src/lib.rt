@@ -115,7 +115,8 @@ fn read_tag(
             let stop = start + len as usize;
             let tag = at.0 + place.0;
             tags::show_row(8 - depths, code, BytePlace(tag), size, len, rows, row);
-            match tags::show_tag(order, class, code, &room[start..stop], table, from) {
+            let state = tags::state(class, tags::long_on_short(size, len));
+            match tags::show_tag(order, class, code, state, &room[start..stop], table, from) {
                 Shown::Stop(why, _) => Step::Fault(why),
                 Shown::Done(next, behind) => {
                     let list = start + next.0;

@@ -8,7 +8,7 @@ use Rattle.format.specs.Bits.{Order}
 use Rattle.format.specs.Reading.{Ending, At, Fault}
 use Rattle.format.specs.Items.{run, toByte}
 use Rattle.format.specs.Bodies.{readBody}
-use Rattle.format.specs.FileAndTags.{Class, opaque, end, container, known, classOf, isEnd, Tag, Outcome, whole, fault, Walk, noTags, chain, Head, head, noHead, rawHead, passes, readHead, Owner, inside, TagInside, endAt, front, opened, within, afterTag, tagThen, oneTag, walk, walkList}
+use Rattle.format.specs.FileAndTags.{Class, opaque, end, container, known, classOf, isEnd, stateOf, Tag, Outcome, whole, fault, Walk, noTags, chain, Head, head, noHead, rawHead, passes, readHead, Owner, inside, TagInside, endAt, front, opened, within, afterTag, tagThen, oneTag, walk, walkList}
 use Rattle.format.specs.TableOfNumbers.{tagTable}
 use Rattle.format.proofs.EngineLaws.{tagTable-append}
 use Rattle.classes.specs.Classes.{skimmed, classBy}
@@ -21,20 +21,20 @@ Alike w v whole = (v .ended ≡ whole) × (tagTable (v .tags) ≡ tagTable (w .t
 Alike w v (fault e n) = Unit {0}
 
 -- a tag, with what stands in it, and what follows
-alike-then : (d code a size len : ℕ) (i j : TagInside) (w v : Walk) → Alike (i .walk) (j .walk) (i .walk .ended) → Alike w v (w .ended)
-    → Alike (tagThen d code a size len i w) (tagThen d code a size len j v) (tagThen d code a size len i w .ended)
-alike-then d code a size len i j w v x y = inner (i .walk .ended) x
+alike-then : (d code a size len s s′ : ℕ) (i j : TagInside) (w v : Walk) → Alike (i .walk) (j .walk) (i .walk .ended) → Alike w v (w .ended)
+    → Alike (tagThen d code a size len s i w) (tagThen d code a size len s′ j v) (tagThen d code a size len s i w .ended)
+alike-then d code a size len s s′ i j w v x y = inner (i .walk .ended) x
   where
-    row : TagInside → Tag
-    row i = record { depth = d; code = code; place = a; headerSize = size; bodyLength = len; state = i .state; values = i .values }
+    row : ℕ → TagInside → Tag
+    row s i = record { depth = d; code = code; place = a; headerSize = size; bodyLength = len; state = s; values = i .values }
 
     rest : tagTable (j .walk .tags) ≡ tagTable (i .walk .tags) → (z : Outcome) → Alike w v z
-        → Alike (record { tags = (row i ∷ i .walk .tags) ++ w .tags; ended = z }) (record { tags = (row j ∷ j .walk .tags) ++ v .tags; ended = v .ended }) z
+        → Alike (record { tags = (row s i ∷ i .walk .tags) ++ w .tags; ended = z }) (record { tags = (row s′ j ∷ j .walk .tags) ++ v .tags; ended = v .ended }) z
     rest e whole y = (y .0, rw (tagTable-append (j .walk .tags) (v .tags), tagTable-append (i .walk .tags) (w .tags), e, y .1))
     rest e (fault r n) y = tt
 
     inner : (z : Outcome) → Alike (i .walk) (j .walk) z
-        → Alike (chain (row i ∷ i .walk .tags) z w) (chain (row j ∷ j .walk .tags) (j .walk .ended) v) (chain (row i ∷ i .walk .tags) z w .ended)
+        → Alike (chain (row s i ∷ i .walk .tags) z w) (chain (row s′ j ∷ j .walk .tags) (j .walk .ended) v) (chain (row s i ∷ i .walk .tags) z w .ended)
     inner whole x = rw (x .0) (rest (x .1) (w .ended) y)
     inner (fault e n) x = tt
 
@@ -75,7 +75,7 @@ module _ (o : Order) (level : ℕ) where
   alike-one R S u left c a r (noHead e) = tt
   alike-one R S u left c a r (head code len size) =
       rw (end-skimmed Lists (classOf level code))
-      (alike-then (8 - left) code a size len
+      (alike-then (8 - left) code a size len (stateOf (classOf level code) size len) (stateOf (classBy Lists level code) size len)
       (within o (R (pred left)) (classOf level code) a (a + size) (take len (drop size r)))
       (within o (S (pred left)) (classBy Lists level code) a (a + size) (take len (drop size r)))
       (afterTag (isEnd (classOf level code)) c (a + size + len) (drop (size + len) r) (R left c))

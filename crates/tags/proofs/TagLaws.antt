@@ -77,6 +77,13 @@ pub index-le : (t : List ℕ) (k : ℕ) (r : Reading) {u : List ℕ} (R : Shown)
 unfolding shownOver
 index-le t k r R e = omega (arith, ap (λ (z : State). z .count) e)
 
+-- ---- a state, with the 2 and without it
+pub gains-two : {gains : Bool} {n m : ℕ} → gains ≡ true → n ≡ m → n + 2 ≡ m + pick gains 2 0
+gains-two e f = rw (e, f)
+
+pub gains-none : {gains : Bool} {n m : ℕ} → gains ≡ false → n ≡ m → n ≡ m + pick gains 2 0
+gains-none e f = rw e (omega arith)
+
 -- ---- three numbers before the values
 pub headed-stored : (t : List ℕ) (k code : ℕ) (s : ℕ) (r : Reading) {u u₁ u₂ u₃ : List ℕ} {n : ℕ} (R : Shown) → shownLeaves u R ≡ shownOver t (k + 3) r
     → u₁ ≡ set u k code → u₂ ≡ set u₁ (k + 1) s → n ≡ shownIndex R - (k + 3) → u₃ ≡ set u₂ (k + 2) n → shownLeaves u₃ R ≡ shownOver t k (headed code s r)

@@ -12,14 +12,6 @@ use Rattle.classes.specs.declared.Class.the-variants.{Opaque, End, Container, F
 use Rattle.fixed.specs.Fixed.{fixedOf}
 use Rattle.bodies.specs.Leaf.{leafBody}
 
--- 1 read, 0 opaque
-abbrev pub stateOf : Class → ℕ
-stateOf Opaque = 0
-stateOf End = 1
-stateOf Container = 1
-stateOf Fixed = 1
-stateOf Attributes = 1
-
 -- the values, and how their reading ended: an opaque tag's are its body's bytes, End has none, a container's stand before its list
 abbrev pub valuesOf : Order → Class → ℕ → List ℕ → Reading
 valuesOf o Opaque code body = shows body 0

@@ -1,16 +1,18 @@
 // One tag: its numbers in the lent table, and its row in the lent tag table.
 ghost use mathlib.Core.Path.{_≡_};
 ghost use mathlib.Core.List.{[], _∷_};
-ghost use Prim.Native.Nat.{_<_, _^_};
+ghost use Prim.Native.Nat.{_+_, _<_, _≤_, _^_};
 ghost use lib.ListN.{length, set};
 ghost use lib.Seq.{sets};
 ghost use Rattle.format.specs.Reading.{shows};
 ghost use Rattle.format.specs.Items.{run};
-ghost use Rattle.format.specs.FileAndTags.{front};
+ghost use Rattle.format.specs.Tests.{pick};
+ghost use Rattle.format.specs.FileAndTags.{isRead, longOnShort, front};
 ghost use Rattle.table.specs.State.{shownOver};
+ghost use Rattle.classes.specs.Classes.{bare};
 ghost use Rattle.fixed.specs.Fixed.{fixedOf};
 ghost use Rattle.bodies.specs.Shown.{shownIndex, shownLeaves};
-ghost use Rattle.tags.specs.Shown.{stateOf, valuesOf, headed};
+ghost use Rattle.tags.specs.Shown.{valuesOf, headed};
 ghost use Rattle.bits.specs.Places.{orderOf};
 use bits::Aligned;
 use bits::BitPlace;
@@ -82,8 +84,8 @@ fn index_behind(shown: Shown) -> usize
 }
 
 // 1 read, 0 opaque.
-pub fn state(class: Class) -> u64
-    ensures { λ r. ⌜ r ≡ stateOf class ⌝ }
+fn is_read(class: Class) -> u64
+    ensures { λ r. ⌜ (r ≡ isRead (bare class)) × (r ≤ 1) ⌝ }
 {
     match class {
         Class::Opaque => 0,
@@ -94,24 +96,40 @@ pub fn state(class: Class) -> u64
     }
 }
 
+// Whether a long header carries a body below 63.
+pub fn long_on_short(size: u32, len: u32) -> bool
+    ensures { λ r. ⌜ r ≡ longOnShort size len ⌝ }
+{
+    if size == 6 { len < 63 } else { false }
+}
+
+// 1 read, 0 opaque; it gains 2 where a long header carries a body below 63.
+pub fn state(class: Class, gains: bool) -> u64
+    ensures { λ r. ⌜ r ≡ isRead (bare class) + pick gains 2 0 ⌝ }
+{
+    let read = is_read(class);
+    if gains { read + 2 } else { read }
+}
+
 // A tag's numbers: its values are stored first, behind its code, its state and their count. The walk that counts has no room for any of them.
 pub fn show_tag(
     order: Order,
     class: Class,
     code: u32,
+    state: u64,
     body: &[u8],
     table: &mut [u64],
     from: usize,
 ) -> Shown
     requires { ⌜ (length (now body) < 2 ^ 60) × (from < 2 ^ 60) ⌝ }
-    ensures { λ r. ⌜ shownLeaves (now (table .exit)) r ≡ shownOver (now (table .entry)) from (headed code (stateOf class) (valuesOf (orderOf order) class code (now (body .entry)))) ⌝ }
+    ensures { λ r. ⌜ shownLeaves (now (table .exit)) r ≡ shownOver (now (table .entry)) from (headed code state (valuesOf (orderOf order) class code (now (body .entry)))) ⌝ }
 {
     let shown = read_tag_values(order, class, code, body, table, from + 3);
     if table.len() <= from {
         return shown;
     }
     table::put(table, from, code as u64);
-    table::put(table, from + 1, state(class));
+    table::put(table, from + 1, state);
     table::put(table, from + 2, (index_behind(shown) - (from + 3)) as u64);
     shown
 }

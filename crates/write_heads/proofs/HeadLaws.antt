@@ -10,11 +10,12 @@ use lib.Dec.{ltb}
 use borrow.Author.Tests.{lt-ltb, le-ltb, ltb-true, ltb-false}
 use lib.ListN.{length, set, getD, take, drop, length-take, length-drop, drop-of-length-le}
 use lib.Seq.{sets, getD-take, getD-drop, drop-cons}
-use Rattle.format.specs.WritingFiles.{spell16, spell32, spellHead}
+use Rattle.format.specs.WritingFiles.{spell16, spell32, spellLong, spellHead}
+use Rattle.format.proofs.Absurd.{clash}
 use Rattle.table.proofs.EngineLaws.{sets-append}
 use Rattle.table.proofs.TextLaws.{set-sets}
 use Rattle.bits.proofs.StoreLaws.{sets-out}
-use Rattle.write_heads.specs.Heads.{Closed}
+use Rattle.write_heads.specs.Heads.{keptBytes, Closed}
 use Rattle.write_heads.proofs.StoreLaws.{at-low, sets-same, drop-sets, sets-comm}
 
 pub two-stored : (l : List ℕ) (a x y : ℕ) {u w : List ℕ} → u ≡ set l a x → w ≡ set u (a + 1) y → w ≡ sets l a (x ∷ y ∷ [])
@@ -61,34 +62,46 @@ module _ (l : List ℕ) (a n d : ℕ) where
   move-all i u z e = e ∙ rw z (ap (λ (k : ℕ). sets l k (take n (drop a l))) (add-zero (a + d)))
 
 -- ---- the header before a body of n bytes
-module _ (l : List ℕ) (a code n : ℕ) where
-  short : n < 63 → spellHead code n ≡ spell16 (code * 64 + n)
-  short h = rw (lt-ltb n 63 h)
 
-  long : 63 ≤ n → spellHead code n ≡ spell16 (code * 64 + 63) ++ spell32 n
-  long h = rw (le-ltb n 63 h)
+-- the long one, by its two numbers
+pub long-stored : (l : List ℕ) (a code n : ℕ) {u w : List ℕ} → u ≡ sets l a (spell16 (code * 64 + 63)) → w ≡ sets u (a + 2) (spell32 n) → w ≡ sets l a (spellLong code n)
+long-stored l a code n e d = d ∙ rw e (sym (sets-append l a (spell16 (code * 64 + 63)) (spell32 n)))
 
-  pub close-short : {u : List ℕ} {stop : ℕ} → a + 2 + n ≡ stop → n < 63 → u ≡ sets l a (spell16 (code * 64 + n)) → Closed l a code n u stop
-  close-short e h d = record {
-    put = d ∙ sym (
-        ap (λ (x : List ℕ). sets l a (x ++ take n (drop (a + 2) l))) (short h)
-        ∙ sets-append l a (spell16 (code * 64 + n)) (take n (drop (a + 2) l))
-        ∙ ap (λ (x : List ℕ). sets (sets l a (spell16 (code * 64 + n))) (a + 2) (take n x)) (sym (drop-sets l a (spell16 (code * 64 + n)) (a + 2) (omega arith)))
-        ∙ sets-same n (sets l a (spell16 (code * 64 + n))) (a + 2)
-        );
-    place = rw (short h) (omega arith);
-  }
+-- h was put before n bytes that stand right behind it already
+before-same : (l : List ℕ) (a : ℕ) (h : List ℕ) (n k : ℕ) → length h ≡ k → sets l a h ≡ sets l a (h ++ take n (drop (a + k) l))
+before-same l a h n k e = sym (
+    sets-append l a h (take n (drop (a + k) l))
+    ∙ ap (λ (m : ℕ). sets (sets l a h) (a + m) (take n (drop (a + k) l))) e
+    ∙ ap (λ (x : List ℕ). sets (sets l a h) (a + k) (take n x)) (sym (drop-sets l a h (a + k) (omega arith)))
+    ∙ sets-same n (sets l a h) (a + k)
+    )
 
-  pub close-long : {u v w : List ℕ} {next : ℕ} → a + 6 + n ≡ next → 63 ≤ n → u ≡ sets l (a + 2 + 4) (take n (drop (a + 2) l)) → v ≡ sets u a (spell16 (code * 64 + 63))
-      → w ≡ sets v (a + 2) (spell32 n) → Closed l a code n w next
-  close-long e h d f g =
-      let q : a + 2 + 4 ≡ a + 6 = omega arith in
-      record {
-        put = g ∙ rw (f, d, q) (sym (sets-append (sets l (a + 6) (take n (drop (a + 2) l))) a (spell16 (code * 64 + 63)) (spell32 n)))
-            ∙ sets-comm l (a + 6) (take n (drop (a + 2) l)) a (spell16 (code * 64 + 63) ++ spell32 n) (omega arith)
-            ∙ sym (
-            ap (λ (x : List ℕ). sets l a (x ++ take n (drop (a + 2) l))) (long h)
-            ∙ sets-append l a (spell16 (code * 64 + 63) ++ spell32 n) (take n (drop (a + 2) l))
-            );
-        place = rw (long h) (omega arith);
-      }
+-- k bytes were kept for it, and the body ends at stop
+module _ (l : List ℕ) (a code stop k : ℕ) where
+  abbrev len : ℕ
+  len = stop - (a + k)
+
+  short : len < 63 → spellHead false code len ≡ spell16 (code * 64 + len)
+  short h = rw (lt-ltb len 63 h)
+
+  long : 63 ≤ len → spellHead false code len ≡ spellLong code len
+  long h = rw (le-ltb len 63 h)
+
+  pub close-claimed : (claim : Bool) {u : List ℕ} → k ≡ keptBytes claim → a + keptBytes claim ≤ stop → claim ≡ true → u ≡ sets l a (spellLong code len)
+      → Closed l a claim code (stop - (a + keptBytes claim)) u stop
+  close-claimed false e f c d = clash cc
+  close-claimed true e f c d = rw (← e) (record { put = d ∙ rw (← e) (before-same l a (spellLong code len) len k (sym e)); place = omega arith })
+
+  pub close-short : (claim : Bool) {u : List ℕ} → k ≡ keptBytes claim → a + keptBytes claim ≤ stop → claim ≡ false → len < 63 → u ≡ sets l a (spell16 (code * 64 + len))
+      → Closed l a claim code (stop - (a + keptBytes claim)) u stop
+  close-short true e f c h d = clash cc
+  close-short false e f c h d = rw (← e) (record { put = d ∙ rw (short h, ← e) (before-same l a (spell16 (code * 64 + len)) len k (sym e)); place = rw (short h) (omega arith) })
+
+  pub close-long : (claim : Bool) {u w : List ℕ} {next : ℕ} → k ≡ keptBytes claim → a + keptBytes claim ≤ stop → claim ≡ false → 63 ≤ len → stop + 4 ≡ next
+      → u ≡ sets l (a + k + 4) (take len (drop (a + k) l)) → w ≡ sets u a (spellLong code len) → Closed l a claim code (stop - (a + keptBytes claim)) w next
+  close-long true e f c h q d g = clash cc
+  close-long false {w = w} e f c h q d g =
+      let six : a + k + 4 ≡ a + 6 = omega arith in
+      let moved : w ≡ sets l a (spellLong code len ++ take len (drop (a + k) l)) =
+      g ∙ rw (d, six) (sets-comm l (a + 6) (take len (drop (a + k) l)) a (spellLong code len) (omega arith)) ∙ sym (sets-append l a (spellLong code len) (take len (drop (a + k) l))) in
+      rw (← e) (record { put = moved ∙ rw (long h, ← e) refl; place = rw (long h) (omega arith) })

@@ -1,11 +1,12 @@
-// Little-endian numbers, and the header before a body that was put first. The body stands two bytes after the tag's place, which is room for
-// the short header; for the long one it moves up by four. So no body is measured before it is written.
+// Little-endian numbers, and the header before a body that was put first: two bytes after the tag's place, which is room for the short header;
+// for the long one it moves up by four. Where a short body claims the long header, six bytes are kept and nothing moves. So no body is measured
+// before it is written.
 ghost use mathlib.Core.Path.{_≡_};
 ghost use Prim.Native.Nat.{_+_, _-_, _≤_, _<_, _^_, min};
 ghost use lib.ListN.{take, drop};
 ghost use lib.Seq.{sets};
-ghost use Rattle.format.specs.WritingFiles.{spell16, spell32};
-ghost use Rattle.write_heads.specs.Heads.{Closed};
+ghost use Rattle.format.specs.WritingFiles.{spell16, spell32, spellLong};
+ghost use Rattle.write_heads.specs.Heads.{keptBytes, Closed};
 use bits::BytePlace;
 
 // A 16-bit number.
@@ -45,21 +46,46 @@ pub fn move_up(out: &mut [u8], at: BytePlace, count: usize, by: usize)
     }
 }
 
-// The header of the tag at a place, whose body stands two bytes after it, up to stop: the next place. The short form is for bodies below 63 bytes.
-pub fn close(out: &mut [u8], place: BytePlace, code: u32, stop: BytePlace) -> BytePlace
-    requires { ⌜ (place .0 + 2 ≤ stop .0) × (stop .0 < 2 ^ 32) × (code < 1024) ⌝ }
-    ensures { λ r. ⌜ Closed (now (out .entry)) (place .0) code (stop .0 - (place .0 + 2)) (now (out .exit)) (r .0) ⌝ }
+// The bytes kept for the header of a body that is put first: those of the long one where it is claimed.
+pub fn kept(claimed: bool) -> usize
+    ensures { λ r. ⌜ r ≡ keptBytes claimed ⌝ }
 {
-    let from = place.0 + 2;
+    if claimed { 6 } else { 2 }
+}
+
+// The long header.
+fn put_long(out: &mut [u8], place: BytePlace, code: u32, length: usize)
+    requires { ⌜ (place .0 < 2 ^ 32) × (code < 1024) × (length < 2 ^ 32) ⌝ }
+    ensures { λ r. ⌜ now (out .exit) ≡ sets (now (out .entry)) (place .0) (spellLong code length) ⌝ }
+{
+    put16(out, place, code as u64 * 64 + 63);
+    put32(out, BytePlace(place.0 + 2), length as u64);
+}
+
+// The header of the tag at a place, whose body stands behind the bytes kept for it, up to stop: the next place. Where the long header is not
+// claimed, the short one is for bodies below 63 bytes.
+pub fn close(
+    out: &mut [u8],
+    place: BytePlace,
+    claimed: bool,
+    code: u32,
+    stop: BytePlace,
+) -> BytePlace
+    requires { ⌜ (place .0 + keptBytes claimed ≤ stop .0) × (stop .0 < 2 ^ 32) × (code < 1024) ⌝ }
+    ensures { λ r. ⌜ Closed (now (out .entry)) (place .0) claimed code (stop .0 - (place .0 + keptBytes claimed)) (now (out .exit)) (r .0) ⌝ }
+{
+    let from = place.0 + kept(claimed);
     let length = stop.0 - from;
-    let number = code as u64 * 64;
+    if claimed {
+        put_long(out, place, code, length);
+        return stop;
+    }
     if length < 63 {
-        put16(out, place, number + length as u64);
+        put16(out, place, code as u64 * 64 + length as u64);
         return stop;
     }
     move_up(out, BytePlace(from), length, 4);
-    put16(out, place, number + 63);
-    put32(out, BytePlace(from), length as u64);
+    put_long(out, place, code, length);
     let next = stop.0 + 4;
     BytePlace(next)
 }

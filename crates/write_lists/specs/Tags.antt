@@ -7,18 +7,18 @@ use lib.Dec.{leb, eqb}
 use lib.ListN.{length, take, drop}
 use Rattle.format.specs.Tests.{pick}
 use Rattle.format.specs.Bits.{Order}
-use Rattle.format.specs.FileAndTags.{front}
+use Rattle.format.specs.FileAndTags.{isRead, front}
 use Rattle.format.specs.WritingFormats.{unrun}
 use Rattle.format.specs.Possible.{Possible, this, cannot}
 use Rattle.format.specs.WritingBodies.{packed, writeBody}
 use Rattle.format.specs.WritingFiles.{Made, made, allBytes, bodyOf, fitsHead, spellHead}
 use Rattle.classes.specs.declared.Class.{Class}
 use Rattle.classes.specs.declared.Class.the-variants.{Opaque, End, Container, Fixed, Attributes}
+use Rattle.classes.specs.Classes.{bare}
 use Rattle.fixed.specs.Fixed.{fixedOf}
 use Rattle.bodies.specs.Leaf.{leafBody}
-use Rattle.tags.specs.Shown.{stateOf}
 use Rattle.sink.specs.Lain.{longest}
-use Rattle.write_heads.specs.Heads.{underHead}
+use Rattle.write_heads.specs.Heads.{keptBytes, underHead}
 use Rattle.write_lists.specs.declared.Wrote.{Wrote}
 use Rattle.write_lists.specs.declared.Wrote.the-variants.{Done, Impossible}
 use Rattle.write_lists.specs.Stood.{Stood, stood}
@@ -40,31 +40,36 @@ valuesIn o Container code vs = packed o (unrun o (front (fixedOf code)) vs 0)
 valuesIn o Fixed code vs = writeBody o (leafBody code) vs
 valuesIn o Attributes code vs = writeBody o (leafBody code) vs
 
--- if the state is the class's
-abbrev pub bodyIn : Order → Class → ℕ → ℕ → List ℕ → Possible (List ℕ)
-bodyIn o class code s vs = pick (eqb s (stateOf class)) (valuesIn o class code vs) cannot
+-- if the state is the class's, with 2 more where the long header is claimed
+abbrev pub bodyIn : Order → Bool → Class → ℕ → ℕ → List ℕ → Possible (List ℕ)
+bodyIn o claim class code s vs = pick (eqb s (isRead (bare class) + pick claim 2 0)) (valuesIn o class code vs) cannot
 
 -- a tag without its header, and a container without its list too
-abbrev pub begun : Order → Class → List ℕ → Possible Made
-begun o class [] = cannot
-begun o class (code ∷ []) = cannot
-begun o class (code ∷ s ∷ []) = cannot
-begun o class (code ∷ s ∷ n ∷ ns) = pick (leb n (length ns)) (bodyOf (code ∷ s ∷ n ∷ take n ns) (bodyIn o class code s (take n ns)) (drop n ns)) cannot
+abbrev pub begun : Order → Bool → Class → List ℕ → Possible Made
+begun o claim class [] = cannot
+begun o claim class (code ∷ []) = cannot
+begun o claim class (code ∷ s ∷ []) = cannot
+begun o claim class (code ∷ s ∷ n ∷ ns) = pick (leb n (length ns)) (bodyOf (code ∷ s ∷ n ∷ take n ns) (bodyIn o claim class code s (take n ns)) (drop n ns)) cannot
 
 -- and with its header
-abbrev pub shut : ℕ → Possible Made → Possible Made
-shut code (this (made xs b ys)) = pick (fitsHead code (length b)) (this (made xs (spellHead code (length b) ++ b) ys)) cannot
-shut code cannot = cannot
+abbrev pub shut : Bool → ℕ → Possible Made → Possible Made
+shut claim code (this (made xs b ys)) = pick (fitsHead claim code (length b)) (this (made xs (spellHead claim code (length b) ++ b) ys)) cannot
+shut claim code cannot = cannot
 
--- what stands two bytes after a, up to the place of an answer, with its header before it; unless the file would be too long
-abbrev pub headAt : List ℕ → ℕ → ℕ → ℕ → ℕ → Possible Stood
-headAt l a code n j = pick (leb (a + length (spellHead code n) + n) longest) (this (stood (underHead l a code n) (a + length (spellHead code n) + n) j)) cannot
+-- the n bytes that stand behind those kept from a on, with their header before them; unless no header with this claim has such a length, or the
+-- file would be too long
+abbrev pub headAt : List ℕ → ℕ → Bool → ℕ → ℕ → ℕ → Possible Stood
+headAt l a claim code n j =
+    pick (fitsHead claim code n)
+    (pick (leb (a + length (spellHead claim code n) + n) longest) (this (stood (underHead l a claim code n) (a + length (spellHead claim code n) + n) j)) cannot)
+    cannot
 
-abbrev pub shutAs : List ℕ → ℕ → ℕ → Wrote → Possible Stood
-shutAs l a code (Done p j) = headAt l a code (p .0 - (a + 2)) j
-shutAs l a code Impossible = cannot
+-- what stands there up to the place of an answer
+abbrev pub shutAs : List ℕ → ℕ → Bool → ℕ → Wrote → Possible Stood
+shutAs l a claim code (Done p j) = headAt l a claim code (p .0 - (a + keptBytes claim)) j
+shutAs l a claim code Impossible = cannot
 
--- an answer whose place is two bytes after a or more
-abbrev pub After : ℕ → Wrote → Type 0
-After a (Done p j) = (a + 2 ≤ p .0) × (p .0 ≤ longest)
-After a Impossible = Unit {0}
+-- an answer whose place is behind the bytes kept from a on
+abbrev pub After : ℕ → Bool → Wrote → Type 0
+After a claim (Done p j) = (a + keptBytes claim ≤ p .0) × (p .0 ≤ longest)
+After a claim Impossible = Unit {0}

@@ -1,15 +1,17 @@
-// Tag lists, written from the numbers of a lent table. What stands in a tag is put first, two bytes after the tag's place, and then its header
-// before it (`write_heads::close`). So a container's body is not walked again to measure it: a byte moves at most once for each depth.
+// Tag lists, written from the numbers of a lent table. What stands in a tag is put first, behind the bytes kept for its header, and then the
+// header before it (`write_heads::close`). So a container's body is not walked again to measure it: a byte moves at most once for each depth, and
+// a body that claims the long header does not move for it.
 ghost use mathlib.Core.Path.{_≡_};
 ghost use Prim.Native.Nat.{_+_, _≤_, _<_};
 ghost use lib.ListN.{length, getD, drop};
 ghost use Rattle.format.specs.FileAndTags.{classOf};
-ghost use Rattle.format.specs.WritingFiles.{allBytes, unwalkList};
+ghost use Rattle.format.specs.WritingFiles.{allBytes, claims, unwalkList};
 ghost use Rattle.bits.specs.Places.{orderOf};
 ghost use Rattle.classes.specs.Classes.{contains, ends};
 ghost use Rattle.sink.specs.Lain.{longest, lies, lainAs};
+ghost use Rattle.write_heads.specs.Heads.{keptBytes};
 ghost use Rattle.write_lists.specs.Stood.{over, stoodAs};
-ghost use Rattle.write_lists.specs.Tags.{asBytes, LaidAs, valuesIn, begun, shut as shutBy, shutAs, After};
+ghost use Rattle.write_lists.specs.Tags.{asBytes, LaidAs, valuesIn, begun, shutAs, After};
 use bits::BytePlace;
 use bits::Order;
 use classes::Class;
@@ -103,20 +105,33 @@ fn write_tag_values(
     }
 }
 
-// The tag at index k without its header, two bytes after its place; and a container without its list too.
+// Whether the tag at an index claims the long header: its state, which comes after its code, is above 1.
+fn claims_long(table: &[u64], index: usize) -> bool
+    requires { ⌜ index < length (now table) ⌝ }
+    ensures { λ r. ⌜ r ≡ claims (getD (now (table .entry)) (index + 1) 0) ⌝ }
+{
+    let rest = table.len() - index;
+    if rest < 2 {
+        return false;
+    }
+    1 < table[index + 1]
+}
+
+// The tag at an index without its header, behind the bytes kept for it; and a container without its list too.
 fn begin_tag(
     order: Order,
     class: Class,
     code: u32,
     out: &mut [u8],
     place: BytePlace,
+    claimed: bool,
     table: &[u64],
     index: usize,
 ) -> Wrote
     requires { ⌜ (place .0 ≤ longest) × (index < length (now table)) × (code ≡ getD (now table) index 0) ⌝ }
-    ensures { λ r. ⌜ stoodAs (now (out .exit)) r ≡ over (now (out .entry)) (place .0 + 2) index (begun (orderOf order) class (drop index (now (table .entry)))) ⌝ }
+    ensures { λ r. ⌜ stoodAs (now (out .exit)) r ≡ over (now (out .entry)) (place .0 + keptBytes claimed) index (begun (orderOf order) claimed class (drop index (now (table .entry)))) ⌝ }
 {
-    let at = place.0 + 2;
+    let at = place.0 + write_heads::kept(claimed);
     if 16777216 < at {
         return Wrote::Impossible;
     }
@@ -129,7 +144,7 @@ fn begin_tag(
     if ((rest - 3) as u64) < count {
         return Wrote::Impossible;
     }
-    if state != tags::state(class) {
+    if state != tags::state(class, claimed) {
         return Wrote::Impossible;
     }
     let first = index + 3;
@@ -148,36 +163,25 @@ fn begin_tag(
     Wrote::Done(stop, behind)
 }
 
-// The header of the tag at a place, before what was put two bytes after it.
-fn shut(out: &mut [u8], place: BytePlace, code: u32, wrote: Wrote) -> Wrote
-    requires { ⌜ After (place .0) wrote × (code < 1024) ⌝ }
-    ensures { λ r. ⌜ stoodAs (now (out .exit)) r ≡ shutAs (now (out .entry)) (place .0) code wrote ⌝ }
+// The header of the tag at a place, before what was put behind the bytes kept for it. The claim is for bodies below 63 bytes.
+fn shut(out: &mut [u8], place: BytePlace, claimed: bool, code: u32, wrote: Wrote) -> Wrote
+    requires { ⌜ After (place .0) claimed wrote × (code < 1024) ⌝ }
+    ensures { λ r. ⌜ stoodAs (now (out .exit)) r ≡ shutAs (now (out .entry)) (place .0) claimed code wrote ⌝ }
 {
     let Wrote::Done(stop, behind) = wrote else {
         return wrote;
     };
-    let next = write_heads::close(out, place, code, stop);
+    let from = place.0 + write_heads::kept(claimed);
+    if claimed {
+        if 62 < stop.0 - from {
+            return Wrote::Impossible;
+        }
+    }
+    let next = write_heads::close(out, place, claimed, code, stop);
     if 16777216 < next.0 {
         return Wrote::Impossible;
     }
     Wrote::Done(next, behind)
-}
-
-// A whole tag that is no container.
-fn write_leaf(
-    order: Order,
-    class: Class,
-    code: u32,
-    out: &mut [u8],
-    place: BytePlace,
-    table: &[u64],
-    index: usize,
-) -> Wrote
-    requires { ⌜ (place .0 ≤ longest) × (index < length (now table)) × (code ≡ getD (now table) index 0) × (code < 1024) ⌝ }
-    ensures { λ r. ⌜ stoodAs (now (out .exit)) r ≡ over (now (out .entry)) (place .0) index (shutBy code (begun (orderOf order) class (drop index (now (table .entry))))) ⌝ }
-{
-    let wrote = begin_tag(order, class, code, out, place, table, index);
-    shut(out, place, code, wrote)
 }
 
 // Whether a list stands in a tag of this class.
@@ -206,7 +210,8 @@ fn ends_list(class: Class) -> bool
     }
 }
 
-// The tag list whose numbers start at an index; so many `depths` may lie below it. It calls itself for the list in a container.
+// The tag list whose numbers start at an index; so many `depths` may lie below it. It calls itself for the list in a container, which comes
+// between the container's own values and its header.
 pub fn write_list(
     level: u32,
     order: Order,
@@ -230,32 +235,27 @@ pub fn write_list(
         let code = number as u32;
         let listed = classes[(code / 32) as usize][(code % 32) as usize];
         let class = classes::at_level(level, code, listed);
+        let claimed = claims_long(table, index);
+        let begun = begin_tag(order, class, code, out, place, claimed, table, index);
+        let Wrote::Done(start, first) = begun else {
+            return begun;
+        };
+        let mut inside = begun;
         if holds_list(class) {
             if depths == 0 {
                 return Wrote::Impossible;
             }
-            let begun = begin_tag(order, class, code, out, place, table, index);
-            let Wrote::Done(start, first) = begun else {
-                return begun;
-            };
-            let list = write_list(level, order, depths - 1, out, start, table, first);
-            let wrote = shut(out, place, code, list);
-            let Wrote::Done(next, behind) = wrote else {
-                return wrote;
-            };
-            place = next;
-            index = behind;
-        } else {
-            let wrote = write_leaf(order, class, code, out, place, table, index);
-            let Wrote::Done(next, behind) = wrote else {
-                return wrote;
-            };
-            if ends_list(class) {
-                return wrote;
-            }
-            place = next;
-            index = behind;
+            inside = write_list(level, order, depths - 1, out, start, table, first);
         }
+        let wrote = shut(out, place, claimed, code, inside);
+        let Wrote::Done(next, behind) = wrote else {
+            return wrote;
+        };
+        if ends_list(class) {
+            return wrote;
+        }
+        place = next;
+        index = behind;
     }
     Wrote::Impossible
 }

@@ -3,7 +3,7 @@ use Prim.Native.Nat.{ℕ, _+_, _-_, _≤_}
 use denote.Ref.{now}
 use mathlib.Core.Path.{_≡_, refl}
 use native.Mathlib.Omega.{arith}
-use Rattle.headers.proofs.HeadLaws.{head-cut, head-short, head-cut-long, head-low, head-long}
+use Rattle.headers.proofs.HeadLaws.{head-cut, head-short, head-cut-long, head-long}
 use borrow.Author.Needs.{needs}
 use Rattle.headers.proofs.raw_head.Statement.{statement}
 use Rattle.headers.proofs.raw_head.Tie as tie
@@ -39,15 +39,9 @@ le32-at-requires c κs = search needs
 
 returns-4 : tie.Need-returns-4
 returns-4 c =
-    head-low (now (c .before .before .before .before .before .before .before .args .room)) (c .before .before .before .before .before .before .before .args .at .0)
-    _ (fits (c .before .before .before .before .before .before .before .pre)) _ (c .before .before .before .before .before .if1 .left)
-    (c .before .before .before .before .le16-at .ensures .0) _ _ refl (c .before .before .if3 .left) (c .before .before .before .if2 .left) (c .before .le32-at .ensures) (c .if4 .taken)
-
-returns-5 : tie.Need-returns-5
-returns-5 c =
-    head-long (now (c .before .before .before .before .before .before .before .args .room)) (c .before .before .before .before .before .before .before .args .at .0)
-    _ (fits (c .before .before .before .before .before .before .before .pre)) _ (c .before .before .before .before .before .if1 .left)
-    (c .before .before .before .before .le16-at .ensures .0) _ _ refl (c .before .before .if3 .left) (c .before .before .before .if2 .left) (c .before .le32-at .ensures) _ refl (c .if4 .left)
+    head-long (now (c .before .before .before .before .before .before .args .room)) (c .before .before .before .before .before .before .args .at .0)
+    _ (fits (c .before .before .before .before .before .before .pre)) _ (c .before .before .before .before .if1 .left)
+    (c .before .before .before .le16-at .ensures .0) _ _ refl (c .before .if3 .left) (c .before .before .if2 .left) (c .le32-at .ensures) _ refl
 
 pub raw-head-spec : {M : Type 1} → statement M
 raw-head-spec =
@@ -60,5 +54,4 @@ raw-head-spec =
     returns-3
     add-le32-at
     le32-at-requires
-    returns-4
-    returns-5)
+    returns-4)

@@ -13,6 +13,8 @@ use Rattle.lists.proofs.read_tag.Lts as lts
 use Rattle.headers.proofs.read_head.Reads as read-head-reads
 use Rattle.lists.proofs.next_step.Reads as next-step-reads
 use Rattle.tags.proofs.show_row.Reads as show-row-reads
+use Rattle.tags.proofs.long_on_short.Reads as long-on-short-reads
+use Rattle.tags.proofs.state.Reads as state-reads
 use Rattle.tags.proofs.show_tag.Reads as show-tag-reads
 
 read-head-requires : tie.Need-read-head-requires
@@ -45,6 +47,12 @@ sub-show-row c = search needs
 show-row-requires : tie.Need-show-row-requires
 show-row-requires c κs = search needs
 
+long-on-short-requires : tie.Need-long-on-short-requires
+long-on-short-requires c κs = search needs
+
+state-requires : tie.Need-state-requires
+state-requires c κs = search needs
+
 sub-show-tag : tie.Need-sub-show-tag
 sub-show-tag c = search needs
 
@@ -52,7 +60,7 @@ part-show-tag-start : tie.Need-part-show-tag-start
 part-show-tag-start c = search needs
 
 part-show-tag-end : tie.Need-part-show-tag-end
-part-show-tag-end c = let a = c .before .before .before .before .before .before .before .before .before .before .before .before .before .before .args in tag-stands (orderOf (a .order)) (a .class) (a .depths) (a .at .0) (now (a .room)) (a .place .0) (now (a .table)) (a .from) (now (a .rows)) (a .row) (headBy (a .class) (a .depths) (drop (a .place .0) (now (a .room)))) (c .before .before .before .before .before .before .before .before .before .before .read-head .ensures) refl (c .before .before .before .before .before .before .before .before .header .given .1) (c .before .before .before .before .before .before .before .before .before .before .before .before .before .before .pre .1)
+part-show-tag-end c = let a = c .before .before .before .before .before .before .before .before .before .before .before .before .before .before .before .before .args in tag-stands (orderOf (a .order)) (a .class) (a .depths) (a .at .0) (now (a .room)) (a .place .0) (now (a .table)) (a .from) (now (a .rows)) (a .row) (headBy (a .class) (a .depths) (drop (a .place .0) (now (a .room)))) (c .before .before .before .before .before .before .before .before .before .before .before .before .read-head .ensures) refl (c .before .before .before .before .before .before .before .before .before .before .header .given .1) (c .before .before .before .before .before .before .before .before .before .before .before .before .before .before .before .before .pre .1)
 
 show-tag-requires : tie.Need-show-tag-requires
 show-tag-requires c κs = search needs
@@ -65,8 +73,8 @@ enum-known-next c = search needs
 
 add-list : tie.Need-add-list
 add-list c =
-    let a = c .before .before .before .before .before .before .before .before .before .before .before .before .before .before .before .before .before .before .before .before .before .before .before .args in
-    omega (arith, list-fits (orderOf (a .order)) (a .class) (a .depths) (a .at .0) (now (a .room)) (a .place .0) (now (a .table)) (a .from) (now (a .rows)) (a .row) (headBy (a .class) (a .depths) (drop (a .place .0) (now (a .room)))) (c .before .before .before .before .before .before .before .before .before .before .before .before .before .before .before .before .before .before .before .read-head .ensures) (c .before .before .before .before .before .before .show-tag .result) (c .before .before .before .before .before .before .before .before .before .before .before .before .before .before .before .before .before .header .given .1) refl refl refl (c .before .before .before .before .before .before .before .before .before .before .before .show-row .ensures) (c .before .before .before .before .before .before .show-tag .ensures) refl (c .before .before .before .before .before .before .before .before .before .before .before .before .before .before .before .before .before .before .before .before .before .before .before .pre .1) (c .before .before .next .given .1), c .before .before .before .before .before .before .before .before .before .before .before .before .before .before .before .before .before .before .before .before .before .before .before .pre .2)
+    let a = c .before .before .before .before .before .before .before .before .before .before .before .before .before .before .before .before .before .before .before .before .before .before .before .before .before .args in
+    omega (arith, list-fits (orderOf (a .order)) (a .class) (a .depths) (a .at .0) (now (a .room)) (a .place .0) (now (a .table)) (a .from) (now (a .rows)) (a .row) (headBy (a .class) (a .depths) (drop (a .place .0) (now (a .room)))) (c .before .before .before .before .before .before .before .before .before .before .before .before .before .before .before .before .before .before .before .before .before .read-head .ensures) (c .before .before .before .before .before .before .show-tag .result) (c .before .before .before .before .before .before .before .before .before .before .before .before .before .before .before .before .before .before .before .header .given .1) refl refl refl (c .before .before .before .before .before .before .before .before .before .before .before .before .before .show-row .ensures) (c .before .before .before .before .before .before .before .before .before .before .long-on-short .ensures) (c .before .before .before .before .before .before .before .before .before .state .ensures) (c .before .before .before .before .before .before .show-tag .ensures) refl (c .before .before .before .before .before .before .before .before .before .before .before .before .before .before .before .before .before .before .before .before .before .before .before .before .before .pre .1) (c .before .before .next .given .1), c .before .before .before .before .before .before .before .before .before .before .before .before .before .before .before .before .before .before .before .before .before .before .before .before .before .pre .2)
 
 next-step-requires : tie.Need-next-step-requires
 next-step-requires c κs = search needs
@@ -81,7 +89,7 @@ same-length-2 : tie.Need-same-length-2
 same-length-2 c = search needs
 
 returns-2 : tie.Need-returns-2
-returns-2 c = let a = c .before .before .before .before .before .before .before .before .before .before .before .before .before .before .before .before .before .before .before .before .before .before .args in tag-stop (orderOf (a .order)) (a .class) (a .depths) (a .at .0) (now (a .room)) (a .place .0) (now (a .table)) (a .from) (now (a .rows)) (a .row) (headBy (a .class) (a .depths) (drop (a .place .0) (now (a .room)))) (c .before .before .before .before .before .before .before .before .before .before .before .before .before .before .before .before .before .before .read-head .ensures) (c .before .before .before .before .before .show-tag .result) (c .before .before .before .before .before .before .before .before .before .before .before .before .before .before .before .before .header .given .1) refl refl refl (c .before .before .before .before .before .before .before .before .before .before .show-row .ensures) (c .before .before .before .before .before .show-tag .ensures) (c .before .why2 .given .1)
+returns-2 c = let a = c .before .before .before .before .before .before .before .before .before .before .before .before .before .before .before .before .before .before .before .before .before .before .before .before .args in tag-stop (orderOf (a .order)) (a .class) (a .depths) (a .at .0) (now (a .room)) (a .place .0) (now (a .table)) (a .from) (now (a .rows)) (a .row) (headBy (a .class) (a .depths) (drop (a .place .0) (now (a .room)))) (c .before .before .before .before .before .before .before .before .before .before .before .before .before .before .before .before .before .before .before .before .read-head .ensures) (c .before .before .before .before .before .show-tag .result) (c .before .before .before .before .before .before .before .before .before .before .before .before .before .before .before .before .before .before .header .given .1) refl refl refl (c .before .before .before .before .before .before .before .before .before .before .before .before .show-row .ensures) (c .before .before .before .before .before .before .before .before .before .long-on-short .ensures) (c .before .before .before .before .before .before .before .before .state .ensures) (c .before .before .before .before .before .show-tag .ensures) (c .before .why2 .given .1)
 
 same-length-3 : tie.Need-same-length-3
 same-length-3 c = search needs
@@ -90,7 +98,7 @@ same-length-4 : tie.Need-same-length-4
 same-length-4 c = search needs
 
 returns-3 : tie.Need-returns-3
-returns-3 c = let a = c .before .before .before .before .before .before .before .before .before .before .before .before .before .before .before .before .before .before .before .before .before .before .before .before .args in tag-shown (orderOf (a .order)) (a .class) (a .depths) (a .at .0) (now (a .room)) (a .place .0) (now (a .table)) (a .from) (now (a .rows)) (a .row) (headBy (a .class) (a .depths) (drop (a .place .0) (now (a .room)))) (c .before .before .before .before .before .before .before .before .before .before .before .before .before .before .before .before .before .before .before .before .read-head .ensures) (c .before .before .before .before .before .before .before .show-tag .result) (c .before .before .before .before .before .before .before .before .before .before .before .before .before .before .before .before .before .before .header .given .1) refl refl refl (c .before .before .before .before .before .before .before .before .before .before .before .before .show-row .ensures) (c .before .before .before .before .before .before .before .show-tag .ensures) (c .before .before .before .next .given .1) (c .next-step .ensures)
+returns-3 c = let a = c .before .before .before .before .before .before .before .before .before .before .before .before .before .before .before .before .before .before .before .before .before .before .before .before .before .before .args in tag-shown (orderOf (a .order)) (a .class) (a .depths) (a .at .0) (now (a .room)) (a .place .0) (now (a .table)) (a .from) (now (a .rows)) (a .row) (headBy (a .class) (a .depths) (drop (a .place .0) (now (a .room)))) (c .before .before .before .before .before .before .before .before .before .before .before .before .before .before .before .before .before .before .before .before .before .before .read-head .ensures) (c .before .before .before .before .before .before .before .show-tag .result) (c .before .before .before .before .before .before .before .before .before .before .before .before .before .before .before .before .before .before .before .before .header .given .1) refl refl refl (c .before .before .before .before .before .before .before .before .before .before .before .before .before .before .show-row .ensures) (c .before .before .before .before .before .before .before .before .before .before .before .long-on-short .ensures) (c .before .before .before .before .before .before .before .before .before .before .state .ensures) (c .before .before .before .before .before .before .before .show-tag .ensures) (c .before .before .before .next .given .1) (c .next-step .ensures)
 
 pub read-tag-spec : {M : Type 1} → statement M
 read-tag-spec =
@@ -106,6 +114,8 @@ read-tag-spec =
     add-tag
     sub-show-row
     show-row-requires
+    long-on-short-requires
+    state-requires
     sub-show-tag
     part-show-tag-start
     part-show-tag-end

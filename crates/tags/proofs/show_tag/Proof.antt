@@ -1,10 +1,9 @@
 use Prim.Native.Nat.{ℕ, _+_, _-_}
 use Rattle.bits.specs.Places.{orderOf}
-use Rattle.table.specs.State.{shownOver}
 use denote.Ref.{now}
-use mathlib.Core.Path.{ap, _∙_}
+use mathlib.Core.Path.{ap}
 use native.Mathlib.Omega.{arith}
-use Rattle.tags.specs.Shown.{stateOf, valuesOf, headed}
+use Rattle.tags.specs.Shown.{valuesOf}
 use Rattle.tags.proofs.TagLaws.{index-le, headed-stored, headed-out}
 use borrow.Author.Needs.{needs}
 use Rattle.tags.proofs.show_tag.Statement.{statement}
@@ -14,7 +13,6 @@ use Rattle.tags.proofs.show_tag.Lts as lts
 use Rattle.table.proofs.put.Reads as put-reads
 use Rattle.tags.proofs.index_behind.Reads as index-behind-reads
 use Rattle.tags.proofs.read_tag_values.Reads as read-tag-values-reads
-use Rattle.tags.proofs.state.Reads as state-reads
 
 add-read-tag-values : tie.Need-add-read-tag-values
 add-read-tag-values c = search needs
@@ -27,16 +25,13 @@ same-length c = search needs
 
 returns : tie.Need-returns
 returns c = let a = c .before .before .before .before .before .before .before .args in
-    headed-out (now (a .table)) (a .from) (a .code) (stateOf (a .class)) (valuesOf (orderOf (a .order)) (a .class) (a .code) (now (a .body))) (c .before .before .before .read-tag-values .result) (c .before .before .before .read-tag-values .ensures) (c .if1 .taken)
+    headed-out (now (a .table)) (a .from) (a .code) (a .state) (valuesOf (orderOf (a .order)) (a .class) (a .code) (now (a .body))) (c .before .before .before .read-tag-values .result) (c .before .before .before .read-tag-values .ensures) (c .if1 .taken)
 
 put-requires : tie.Need-put-requires
 put-requires c κs = search needs
 
 add-put : tie.Need-add-put
 add-put c = search needs
-
-state-requires : tie.Need-state-requires
-state-requires c κs = search needs
 
 put-requires-2 : tie.Need-put-requires-2
 put-requires-2 c κs = search needs
@@ -51,7 +46,10 @@ add-put-3 : tie.Need-add-put-3
 add-put-3 c = search needs
 
 sub-put : tie.Need-sub-put
-sub-put c = let a = c .before .before .before .before .before .before .before .before .before .before .before .before .before .before .before .before .before .before .args in omega (arith, c .index-behind .ensures, index-le (now (a .table)) (a .from + 3) (valuesOf (orderOf (a .order)) (a .class) (a .code) (now (a .body))) (c .before .before .before .before .before .before .before .before .before .before .before .before .before .before .read-tag-values .result) (c .before .before .before .before .before .before .before .before .before .before .before .before .before .before .read-tag-values .ensures))
+sub-put c =
+    let a = c .before .before .before .before .before .before .before .before .before .before .before .before .before .before .before .before .before .args in
+    let shown = c .before .before .before .before .before .before .before .before .before .before .before .before .before .read-tag-values in
+    omega (arith, c .index-behind .ensures, index-le (now (a .table)) (a .from + 3) (valuesOf (orderOf (a .order)) (a .class) (a .code) (now (a .body))) (shown .result) (shown .ensures))
 
 put-requires-3 : tie.Need-put-requires-3
 put-requires-3 c κs = search needs
@@ -60,9 +58,11 @@ same-length-2 : tie.Need-same-length-2
 same-length-2 c = search needs
 
 returns-2 : tie.Need-returns-2
-returns-2 c = let a = c .before .before .before .before .before .before .before .before .before .before .before .before .before .before .before .before .before .before .before .before .before .args in let v = valuesOf (orderOf (a .order)) (a .class) (a .code) (now (a .body)) in
-    headed-stored (now (a .table)) (a .from) (a .code) (c .before .before .before .before .before .before .before .before .state .result) v (c .before .before .before .before .before .before .before .before .before .before .before .before .before .before .before .before .before .read-tag-values .result) (c .before .before .before .before .before .before .before .before .before .before .before .before .before .before .before .before .before .read-tag-values .ensures) (c .before .before .before .before .before .before .before .before .before .before .before .before .put .ensures) (c .before .before .before .before .before .before .before .put2 .ensures) (ap (λ (z : ℕ). z - (a .from + 3)) (c .before .before .before .index-behind .ensures)) (c .before .before .put3 .ensures)
-    ∙ ap (λ (s : ℕ). shownOver (now (a .table)) (a .from) (headed (a .code) s v)) (c .before .before .before .before .before .before .before .before .state .ensures)
+returns-2 c =
+    let a = c .before .before .before .before .before .before .before .before .before .before .before .before .before .before .before .before .before .before .before .before .args in
+    let shown = c .before .before .before .before .before .before .before .before .before .before .before .before .before .before .before .before .read-tag-values in
+    headed-stored (now (a .table)) (a .from) (a .code) (a .state) (valuesOf (orderOf (a .order)) (a .class) (a .code) (now (a .body))) (shown .result) (shown .ensures)
+    (c .before .before .before .before .before .before .before .before .before .before .before .put .ensures) (c .before .before .before .before .before .before .before .put2 .ensures) (ap (λ (z : ℕ). z - (a .from + 3)) (c .before .before .before .index-behind .ensures)) (c .before .before .put3 .ensures)
 
 pub show-tag-spec : {M : Type 1} → statement M
 show-tag-spec =
@@ -74,7 +74,6 @@ show-tag-spec =
     returns
     put-requires
     add-put
-    state-requires
     put-requires-2
     add-put-2
     index-behind-requires

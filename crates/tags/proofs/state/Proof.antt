@@ -1,37 +1,20 @@
--- `tags::state` meets its contract: the state of the class that the `match` tells.
+-- `tags::state` meets its contract: with the 2, and without it.
+use Rattle.tags.proofs.TagLaws.{gains-two, gains-none}
 use borrow.Author.Needs.{needs}
 use Rattle.tags.proofs.state.Statement.{statement}
 use Rattle.tags.proofs.state.Tie as tie
 
-enum-told : tie.Need-enum-told
-enum-told c = search needs
+is-read-requires : tie.Need-is-read-requires
+is-read-requires c κs = search needs
 
-enum-told-2 : tie.Need-enum-told-2
-enum-told-2 c = search needs
-
-enum-told-3 : tie.Need-enum-told-3
-enum-told-3 c = search needs
-
-enum-told-4 : tie.Need-enum-told-4
-enum-told-4 c = search needs
-
-enum-told-5 : tie.Need-enum-told-5
-enum-told-5 c = search needs
+add-result : tie.Need-add-result
+add-result c = search needs
 
 returns : tie.Need-returns
-returns c = rw (c .enum-told .given .1)
+returns c = gains-two (c .if1 .taken) (c .before .is-read .ensures .0)
 
 returns-2 : tie.Need-returns-2
-returns-2 c = rw (c .enum-told2 .given .1)
-
-returns-3 : tie.Need-returns-3
-returns-3 c = rw (c .enum-told3 .given .1)
-
-returns-4 : tie.Need-returns-4
-returns-4 c = rw (c .enum-told4 .given .1)
-
-returns-5 : tie.Need-returns-5
-returns-5 c = rw (c .enum-told5 .given .1)
+returns-2 c = gains-none (c .if1 .left) (c .before .is-read .ensures .0)
 
 pub state-spec : {M : Type 1} → statement M
-state-spec = tie.close (tie.spec enum-told enum-told-2 enum-told-3 enum-told-4 enum-told-5 returns returns-2 returns-3 returns-4 returns-5)
+state-spec = tie.close (tie.spec is-read-requires add-result returns returns-2)
