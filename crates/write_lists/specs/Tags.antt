@@ -10,7 +10,7 @@ use Rattle.format.specs.Bits.{Order}
 use Rattle.format.specs.FileAndTags.{isRead, front}
 use Rattle.format.specs.WritingFormats.{unrun}
 use Rattle.format.specs.Possible.{Possible, this, cannot}
-use Rattle.format.specs.WritingBodies.{packed, writeBody}
+use Rattle.format.specs.WritingBodies.{wholeBytes, writeBody}
 use Rattle.format.specs.WritingFiles.{Made, made, allBytes, bodyOf, fitsHead, spellHead}
 use Rattle.classes.specs.declared.Class.{Class}
 use Rattle.classes.specs.declared.Class.the-variants.{Opaque, End, Container, Fixed, Attributes}
@@ -36,7 +36,7 @@ LaidAs false vs u = allBytes vs ≡ false
 abbrev pub valuesIn : Order → Class → ℕ → List ℕ → Possible (List ℕ)
 valuesIn o Opaque code vs = asBytes vs
 valuesIn o End code vs = pick (eqb (length vs) 0) (this []) cannot
-valuesIn o Container code vs = packed o (unrun o (front (fixedOf code)) vs 0)
+valuesIn o Container code vs = wholeBytes o (unrun o (front (fixedOf code)) vs 0)
 valuesIn o Fixed code vs = writeBody o (leafBody code) vs
 valuesIn o Attributes code vs = writeBody o (leafBody code) vs
 
