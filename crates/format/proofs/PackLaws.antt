@@ -4,7 +4,7 @@ use mathlib.Core.List.{List, [], _∷_, _++_}
 use mathlib.Core.Path.{_≡_, refl, ap, ap₂, sym, _∙_}
 use mathlib.Core.Bool.{Bool, true, false}
 use lib.ListN.{length, getD, take, drop}
-use lib.Seq.{getD-drop}
+use lib.Seq.{getD-drop, drop-drop}
 use lib.Dec.{eqb}
 use borrow.Author.Tests.{eqb-true, eq-eqb}
 use native.Mathlib.Omega.{arith}
@@ -21,6 +21,15 @@ pub length-eights : (k : ℕ) (b : List ℕ) → length (eights k b) ≡ k
 unfolding eights
 length-eights zero b = refl
 length-eights (suc k) b = ap suc (length-eights k (drop 8 b))
+
+-- the i-th of them
+pub eights-at : (k : ℕ) (b : List ℕ) (i : ℕ) → i < k → getD (eights k b) i 0 ≡ le64 (drop (8 * i) b)
+unfolding eights
+eights-at zero b i h = absurd (omega arith)
+eights-at (suc k) b zero h = refl
+eights-at (suc k) b (suc i) h =
+    let n : 8 + 8 * i ≡ 8 * suc i = omega arith in
+    eights-at k (drop 8 b) i (omega arith) ∙ ap le64 (drop-drop (8 * i) 8 b ∙ ap (λ (m : ℕ). drop m b) n)
 
 -- ---- eight bytes and their number
 lowest : (x y : ℕ) → x < 256 → (x + 256 * y) % 256 ≡ x
