@@ -225,7 +225,8 @@ def opaque_tag(rng):
     code = rng.randint(1, 1023) if rng.getrandbits(1) else rng.choice((4, 8, 10, 13, 15))
     if code in COVERED:
         code = 1023
-    return any_tag(rng, code, opaque_body(rng, rng.choice(OPAQUE_LENGTHS)))
+    length = rng.choice(OPAQUE_LENGTHS) if rng.random() < 0.9 else rng.randint(0, 700)
+    return any_tag(rng, code, opaque_body(rng, length))
 
 
 def filling_list(rng, room):
