@@ -547,7 +547,7 @@ static uint64_t state_of(enum tag_class class, const struct header *h)
 
 /*
  * An opaque tag with its body packed: its length, and then eight bytes to a number, the first of them lowest, the last number filled with zeros. The last one, too,
- * is one load where the file has eight bytes from there on.
+ * is one load where the file has eight bytes from there on. The others come last, so that nothing has to be kept over the call that copies them.
  */
 static void fill_opaque(const struct walk *w, size_t start, const struct header *h, size_t packed)
 {
@@ -558,8 +558,8 @@ static void fill_opaque(const struct walk *w, size_t start, const struct header 
     head[1] = state_of(OPAQUE, h);
     head[2] = 1 + packed;
     head[3] = h->len;
-    if (full) copy_bytes((uint8_t *)(head + 4), body, 8 * full);
     if (rest) head[4 + full] = eight_bytes(body, w->len - start, 8 * full) & (((uint64_t)1 << 8 * rest) - 1);
+    if (full) copy_bytes((uint8_t *)(head + 4), body, 8 * full);
 }
 
 /* A walk that only counts touches no byte of the body. */
