@@ -42,7 +42,7 @@ same-length-2 : tie.Need-same-length-2
 same-length-2 c = search needs
 
 returns-2 : tie.Need-returns-2
-returns-2 c = close-short (now (c .before .before .before .before .before .before .before .before .before .before .args .out)) (c .before .before .before .before .before .before .before .before .before .before .args .place .0) (c .before .before .before .before .before .before .before .before .before .before .args .code) (c .before .before .before .before .before .before .before .before .before .before .args .stop .0) (c .before .before .before .before .before .before .before .before .kept .result) (c .before .before .before .before .before .before .before .before .before .before .args .claimed) (c .before .before .before .before .before .before .before .before .kept .ensures) (c .before .before .before .before .before .before .before .before .before .before .pre .0) (c .before .before .before .before .before .if1 .left) (c .before .before .before .before .if2 .taken) (c .before .before .put16 .ensures)
+returns-2 c = close-short (now (c .before .before .before .before .before .before .before .before .before .before .args .out)) (c .before .before .before .before .before .before .before .before .before .before .args .place .0) (c .before .before .before .before .before .before .before .before .before .before .args .code) (c .before .before .before .before .before .before .before .before .before .before .args .stop .0) (c .before .before .before .before .before .before .before .before .kept .result) (c .before .before .before .before .before .before .before .before .before .before .args .claimed) (c .before .before .before .before .before .before .before .before .kept .ensures) (c .before .before .before .before .before .before .before .before .before .before .pre .0) (c .before .before .before .before .before .if1 .left) (omega (arith, c .before .before .before .before .if2 .taken)) (c .before .before .put16 .ensures)
 
 move-up-requires : tie.Need-move-up-requires
 move-up-requires c κs = search needs

@@ -23,7 +23,7 @@ add-at : tie.Need-add-at
 add-at c = omega (arith, kept-bounds (c .before .before .before .before .args .claimed) .1, c .before .kept .ensures, c .before .before .before .before .pre .0)
 
 returns : tie.Need-returns
-returns c = over-late (now (c .before .before .before .before .before .args .out)) (c .before .before .before .before .before .args .place .0 + keptBytes (c .before .before .before .before .before .args .claimed)) (c .before .before .before .before .before .args .index) (begun (orderOf (c .before .before .before .before .before .args .order)) (c .before .before .before .before .before .args .claimed) (c .before .before .before .before .before .args .class) (drop (c .before .before .before .before .before .args .index) (now (c .before .before .before .before .before .args .table)))) (omega (arith, c .if1 .taken, c .before .before .kept .ensures))
+returns c = over-late (now (c .before .before .before .before .before .args .out)) (c .before .before .before .before .before .args .place .0 + keptBytes (c .before .before .before .before .before .args .claimed)) (c .before .before .before .before .before .args .index) (begun (orderOf (c .before .before .before .before .before .args .order)) (c .before .before .before .before .before .args .claimed) (c .before .before .before .before .before .args .class) (drop (c .before .before .before .before .before .args .index) (now (c .before .before .before .before .before .args .table)))) (omega (arith, c .if1 .taken, c .before .before .kept .ensures, kept-bounds (c .before .before .before .before .before .args .claimed) .0))
 
 sub-rest : tie.Need-sub-rest
 sub-rest c = search needs
