@@ -5,6 +5,7 @@ use lib.ListN.{length, getD}
 use lib.Dec.{ltb}
 use Rattle.format.specs.Tests.{pick}
 use Rattle.format.specs.FileAndTags.{compression, Tag, Walk}
+use Rattle.format.specs.TableOfNumbers.{plainTag}
 use Rattle.format.specs.Reasons.{Result, gives, refuses, walkFile, readFile}
 use Rattle.listing.specs.Decimal.{decimal}
 
@@ -25,9 +26,9 @@ abbrev pub tagLines : List Tag → List ℕ
 tagLines [] = []
 tagLines (t ∷ ts) = tagLine t ++ tagLines ts
 
--- the listing of the file f, whose walk is w
+-- the listing of the file f, whose walk is w. (C-17) It keeps printing one byte a field: an opaque tag's values are its body bytes (`plainTag`)
 unfoldable pub listing : List ℕ → Walk → List ℕ
-listing f w = firstLine f ++ tagLines (w .tags)
+listing f w = firstLine f ++ tagLines (map (plainTag f) (w .tags))
 
 -- ---- A refusal is one line: `refused`, reason, number.
 unfoldable pub refusal : ℕ → ℕ → List ℕ
