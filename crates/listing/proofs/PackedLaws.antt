@@ -44,9 +44,9 @@ no-fields [] = refl
 no-fields (b ∷ bs) = refl
 
 module _ (b : List ℕ) (k r i left : ℕ) where
-  pub bytes-next : (x y : ℕ) {u : List ℕ} {j : ℕ} {z : Laid} → i < 8 → i < left → x ≡ r % 256 → y ≡ ender (left - i - 1) → laid u j ≡ lays b k (field x y)
+  pub bytes-next : (x y : ℕ) {u : List ℕ} {j : ℕ} {z : Laid} → i < 8 → i < left → laid u j ≡ lays b k (field x y) → x ≡ r % 256 → y ≡ ender (left - i - 1)
       → z ≡ lays b k (toCome r i left) → z ≡ lays u j (toCome (r / 256) (i + 1) left)
-  bytes-next x y {u} {j} {z} h l e f d g =
+  bytes-next x y {u} {j} {z} h l d e f g =
       g ∙ ap (lays b k) (to-come r i left h l)
       ∙ sym (lays-then b k (field (r % 256) (ender (left - i - 1))) (toCome (r / 256) (i + 1) left) {z = lays u j (toCome (r / 256) (i + 1) left)} (rw (e, f) at d) refl)
 

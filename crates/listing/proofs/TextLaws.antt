@@ -97,9 +97,9 @@ unfolding field
 field-ended b k n end {u} {j} e = lays-then b k (decimal n) (end ∷ []) e (lays-byte u j end)
 
 -- a byte's field has 4 bytes at most
-pub byte-next : (b : List ℕ) (k n end : ℕ) {u : List ℕ} {j : ℕ} → n < 256 → laid u j ≡ lays b k (field n end) → j ≤ k + 4
+pub byte-next : (b : List ℕ) (k r n end : ℕ) {u : List ℕ} {j : ℕ} → laid u j ≡ lays b k (field n end) → n ≡ r % 256 → j ≤ k + 4
 unfolding field
-byte-next b k n end h e = omega (arith, lays-next b k (decimal n ++ end ∷ []) e, length-append (decimal n) (end ∷ []), decimal-byte n h)
+byte-next b k r n end e h = omega (arith, lays-next b k (decimal n ++ end ∷ []) e, length-append (decimal n) (end ∷ []), decimal-byte n (omega (arith, h)))
 
 -- ---- what is still to come, from index i on: numbers that a tab ends each, or bytes as they are
 pub tabbed-next : (b ns : List ℕ) (k i : ℕ) {u : List ℕ} {j : ℕ} {z : Laid} → i < length ns

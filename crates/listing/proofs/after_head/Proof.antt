@@ -1,3 +1,4 @@
+use native.Mathlib.Omega.{arith}
 use Rattle.listing.proofs.StepLaws.{after-opaque, after-read}
 use denote.Ref.{now}
 use borrow.Author.Needs.{needs}
@@ -23,7 +24,7 @@ number-at-requires-2 : tie.Need-number-at-requires-2
 number-at-requires-2 c κs = search needs
 
 returns : tie.Need-returns
-returns c = after-opaque (now (c .before .before .before .before .args .table)) (c .before .before .before .before .args .index) (c .before .before .before .before .args .row) (c .before .before .number-at .result) (c .number-at2 .result) (c .before .before .number-at .ensures) (c .before .if1 .taken) (c .number-at2 .ensures)
+returns c = after-opaque (now (c .before .before .before .before .args .table)) (c .before .before .before .before .args .index) (c .before .before .before .before .args .row) (c .before .before .number-at .result) (c .number-at2 .result) (c .before .before .number-at .ensures) (omega (arith, c .before .if1 .taken)) (c .number-at2 .ensures)
 
 add-t5 : tie.Need-add-t5
 add-t5 c = search needs
@@ -35,7 +36,7 @@ number-at-requires-3 : tie.Need-number-at-requires-3
 number-at-requires-3 c κs = search needs
 
 returns-2 : tie.Need-returns-2
-returns-2 c = after-read (now (c .before .before .before .before .args .table)) (c .before .before .before .before .args .index) (c .before .before .before .before .args .row) (c .before .before .number-at .result) (c .number-at3 .result) (c .before .before .number-at .ensures) (c .before .if1 .left) (c .number-at3 .ensures)
+returns-2 c = after-read (now (c .before .before .before .before .args .table)) (c .before .before .before .before .args .index) (c .before .before .before .before .args .row) (c .before .before .number-at .result) (c .number-at3 .result) (c .before .before .number-at .ensures) (λ z. c .before .if1 .left (omega (arith, z))) (c .number-at3 .ensures)
 
 pub after-head-spec : {M : Type 1} → statement M
 after-head-spec =

@@ -1,4 +1,4 @@
-use Prim.Native.Nat.{_≤_, _+_, _-_, _*_, _/_, _%_}
+use Prim.Native.Nat.{_≤_, _+_, _-_, _*_}
 use denote.Ref.{now}
 use mathlib.Core.Path.{_≡_, refl, _∙_}
 use native.Mathlib.Omega.{arith}
@@ -46,8 +46,8 @@ loop-again : tie.Need-loop-again Inv-loop μ-loop
 loop-again c = (
   omega (arith, c .before .before .before .before .before .before .loop-test .taken),
   c .before .before .put-field .kept .0 ∙ c .before .before .before .before .before .before .before .loop .inv .1,
-  omega (arith, c .before .before .before .before .before .before .before .loop .inv .2, byte-next (c .before .before .before .before .before .before .before .loop .out) (c .before .before .before .before .before .before .before .loop .index) (c .before .before .before .before .before .before .before .loop .rest % 256) (c .before .before .before .ender-of .result) (omega arith) (c .before .before .put-field .ensures .0)),
-  bytes-next (c .before .before .before .before .before .before .before .loop .out) (c .before .before .before .before .before .before .before .loop .index) (c .before .before .before .before .before .before .before .loop .rest) (c .before .before .before .before .before .before .before .loop .i) (c .before .before .before .before .before .before .before .before .before .args .left) (c .before .before .before .before .before .before .before .loop .rest % 256) (c .before .before .before .ender-of .result) (c .before .before .before .before .before .before .loop-test .taken) (ltb-true _ _ (c .before .before .before .before .before .if1 .taken)) refl (c .before .before .before .ender-of .ensures) (c .before .before .put-field .ensures .0) (c .before .before .before .before .before .before .before .loop .inv .3),
+  omega (arith, c .before .before .before .before .before .before .before .loop .inv .2, byte-next (c .before .before .before .before .before .before .before .loop .out) (c .before .before .before .before .before .before .before .loop .index) (c .before .before .before .before .before .before .before .loop .rest) _ (c .before .before .before .ender-of .result) (c .before .before .put-field .ensures .0) refl),
+  bytes-next (c .before .before .before .before .before .before .before .loop .out) (c .before .before .before .before .before .before .before .loop .index) (c .before .before .before .before .before .before .before .loop .rest) (c .before .before .before .before .before .before .before .loop .i) (c .before .before .before .before .before .before .before .before .before .args .left) _ (c .before .before .before .ender-of .result) (c .before .before .before .before .before .before .loop-test .taken) (ltb-true _ _ (c .before .before .before .before .before .if1 .taken)) (c .before .before .put-field .ensures .0) refl (c .before .before .before .ender-of .ensures) (c .before .before .before .before .before .before .before .loop .inv .3),
 )
 
 same-length : tie.Need-same-length Inv-loop μ-loop
