@@ -182,7 +182,7 @@ first-line : (f : List ℕ) (w : Walk) → getD f 3 0 ≡ 1 → firstLine f ≡ 
 first-line f w h =
     rw h (ap (λ (x : List ℕ). 0x50 ∷ 0x41 ∷ 0x47 ∷ 9 ∷ x) (before-tabbed (1 ∷ length f ∷ []) (decimal (compression f) ++ 10 ∷ []) ∙ ap (λ (x : List ℕ). tabbed (1 ∷ length f ∷ []) ++ x) (line-end (compression f))))
 
--- THE theorem: for a walk w of the file f
+-- THE theorem: for a walk w of the file f, whose opaque tags show their bodies, packed (`shown-file` of format: those of `walkFile` do)
 pub listed : (f : List ℕ) (w : Walk) → IsFile f → Shown f (w .tags) → getD f 3 0 ≡ 1 → tableListing (length f) (table f w) (tagTable (w .tags)) ≡ listing f w
 unfolding listing
 listed f w b u h =

@@ -77,7 +77,7 @@ module _ (f m g : List ℕ) (short : length f ≤ 32768) (room : length m ≡ 81
         let v : (3 * length (walked f .tags) ≤ length (numbers (walked f .tags))) × (length (tagTable (walked f .tags)) ≡ 5 * length (walked f .tags)) = tags-counted (walked f .tags) in
         ap (into g) tags-are ∙ rw (le-leb (length (tagTable (walked f .tags))) (length g) (omega (arith, table-left .2, v)))
 
-    -- and the listing of what both left is printed
+    -- and the listing of what both left is printed. (Every input is bytes: `is_file` of crate answers.)
     pub listing-printed : (g′ : List ℕ) (j : ℕ) → IsFile f → into g (readTags 0 1023 f) ≡ accept j g′ → tableListing (length f) (take k m′) (take j g′) ≡ printed f
     unfolding readFile
     listing-printed g′ j b h =

@@ -39,6 +39,7 @@ abbrev pub tooLong : List ℕ
 tooLong = line (0x74 ∷ 0x6F ∷ 0x6F ∷ 0x20 ∷ 0x6C ∷ 0x6F ∷ 0x6E ∷ 0x67 ∷ []) []
 
 -- ---- The program reads at most 32,768 bytes at level 1023; a file needing more than 8,192 numbers is refused by 19.
+-- (C-17) 19 counts packed numbers.
 abbrev pub answered : List ℕ → Result → List ℕ
 answered f (gives t) = pick (ltb 8192 (length t)) (refusal 19 (length t)) (listing f (walkFile 0 1023 f))
 answered f (refuses e n) = refusal e n

@@ -4,7 +4,6 @@ use native.Mathlib.Omega.{arith}
 use Rattle.listing.specs.declared.Cursor.{Cursor}
 use Rattle.listing.specs.Steps.{headStep}
 use Rattle.listing.proofs.StepLaws.{head-laid, after-text}
-use borrow.Author.Needs.{needs}
 use Rattle.listing.proofs.put_head.Statement.{statement}
 use Rattle.listing.proofs.put_head.Tie as tie
 use Rattle.listing.proofs.put_head.Reads as reads

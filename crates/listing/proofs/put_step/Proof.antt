@@ -1,7 +1,6 @@
 use denote.Ref.{now}
 use native.Mathlib.Omega.{arith}
 use Rattle.listing.proofs.StepLaws.{first-done, head-done, value-done}
-use borrow.Author.Needs.{needs}
 use Rattle.listing.proofs.put_step.Statement.{statement}
 use Rattle.listing.proofs.put_step.Tie as tie
 use Rattle.listing.proofs.put_step.Reads as reads

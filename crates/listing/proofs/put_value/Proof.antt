@@ -1,7 +1,6 @@
 use denote.Ref.{now}
 use native.Mathlib.Omega.{arith}
 use Rattle.listing.proofs.StepLaws.{number-done, bytes-done}
-use borrow.Author.Needs.{needs}
 use Rattle.listing.proofs.put_value.Statement.{statement}
 use Rattle.listing.proofs.put_value.Tie as tie
 use Rattle.listing.proofs.put_value.Reads as reads
