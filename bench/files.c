@@ -276,6 +276,13 @@ static size_t open_container(struct maker *m, uint32_t *code)
     return place;
 }
 
+/* Bodies of random files: every filling of a packed number, both sides of a long header, and now and then many numbers. */
+static size_t random_opaque_len(struct maker *m)
+{
+    uint64_t pick = random_below(m, 16);
+    return pick < 11 ? random_below(m, 18) : pick < 15 ? 58 + random_below(m, 9) : random_below(m, 700);
+}
+
 static void put_random_list(struct maker *m, unsigned depth)
 {
     for (uint64_t tags = random_below(m, 4); tags > 0; tags--) {
@@ -286,7 +293,7 @@ static void put_random_list(struct maker *m, unsigned depth)
             put_random_list(m, depth + 1);
             close_tag(m, place, code);
         } else if (pick < 50) {
-            put_opaque(m, random_below(m, 8) ? random_below(m, 8) : 60 + random_below(m, 6));
+            put_opaque(m, random_opaque_len(m));
         } else {
             put_leaf(m);
         }

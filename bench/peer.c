@@ -1,7 +1,7 @@
 /*
- * The peer of bench/run: a plain reader and writer of PAG files, made from document 01 ("What is to be built"), document 02's C-18 (bit order) and C-11 (long
- * headers on short bodies), and the open points of docs/DECISIONS.md, with bounds checks and without proofs. Its author had seen the library and the reference,
- * so it is no independent reading of the paper.
+ * The peer of bench/run: a plain reader and writer of PAG files, made from document 01 ("What is to be built"), document 02's C-18 (bit order), C-11 (long
+ * headers on short bodies) and C-17 (packed opaque bodies), and the open points of docs/DECISIONS.md, with bounds checks and without proofs. Its author had seen
+ * the library and the reference, so it is no independent reading of the paper.
  *
  * A refusal may change nothing lent, so each call walks twice: once to judge and to count, and once to fill. One function serves both walks:
  * where there is no memory to fill (a null pointer), it only counts, and skips what it need not look at.
@@ -9,6 +9,8 @@
 #include "peer.h"
 
 #include <string.h>
+
+_Static_assert(__BYTE_ORDER__ == __ORDER_LITTLE_ENDIAN__, "numbers are loaded and stored with their lowest byte first");
 
 enum { TOP_DEPTH = 8, TOP_COUNT = 4096, HEADER_BYTES = 9, LONG_LENGTH = 63, MOST_ATTRIBUTES = 9 };
 
@@ -85,6 +87,18 @@ static int is_listed(enum data_type type, uint64_t value)
     case MASK_MODE: return value <= 7;
     default: return value <= 255;
     }
+}
+
+/* Packed numbers are their bytes: with NUMBER_LOOP they are copied eight at a time, as the library does, so that bench/run can tell what the C library's way is worth. */
+static inline void copy_bytes(uint8_t *to, const uint8_t *from, size_t n)
+{
+#ifdef NUMBER_LOOP
+    size_t i = 0;
+    for (; n - i >= 8; i += 8) memcpy(to + i, from + i, 8);
+    for (; i < n; i++) to[i] = from[i];
+#else
+    memcpy(to, from, n);
+#endif
 }
 
 static pag_answer refused(uint32_t reason, uint64_t number)
@@ -400,7 +414,7 @@ static int read_block(struct body *b, const struct attribute_list *list)
     return 0;
 }
 
-/* Bytes as numbers. */
+/* Each byte as a number. */
 static void show_bytes(struct body *b, const uint8_t *bytes, size_t n)
 {
     if (b->out)
@@ -450,8 +464,8 @@ static int read_items(struct body *b, uint32_t code)
     return 0;
 }
 
-/* The body of a leaf tag that is read: its items, zero bits up to a whole byte, and nothing more. */
-static int read_leaf(struct body *b, enum tag_class class, uint32_t code)
+/* The body of a leaf tag that is read: its items, zero bits up to a whole byte, and nothing more. Out of line, which costs nested tags less. */
+__attribute__((noinline)) static int read_leaf(struct body *b, enum tag_class class, uint32_t code)
 {
     int why = class == FONTS ? read_fonts(b) : class == BLOCK ? read_block(b, attributes_of(code)) : read_items(b, code);
     if (why || (why = align(b))) return why;
@@ -465,6 +479,7 @@ struct walk {
     uint32_t level;
     int low;
     const uint8_t *file;
+    size_t len;
     uint64_t *table;
     size_t numbers;
     uint32_t *rows;
@@ -530,7 +545,32 @@ static uint64_t state_of(enum tag_class class, const struct header *h)
     return (class != OPAQUE) + 2 * (h->size == 6 && h->len < LONG_LENGTH);
 }
 
-/* A tag's own numbers. *inside is how many bytes of its body they took. */
+/*
+ * An opaque tag with its body packed: its length, and then eight bytes to a number, the first of them lowest, the last number filled with zeros. The last one, too,
+ * is one load where the file has eight bytes from there on. The others come last, so that nothing has to be kept over the call that copies them.
+ */
+static void fill_opaque(const struct walk *w, size_t start, const struct header *h, size_t packed)
+{
+    uint64_t *head = w->table + w->numbers;
+    const uint8_t *body = w->file + start;
+    size_t full = h->len / 8, rest = h->len % 8;
+    head[0] = h->code;
+    head[1] = state_of(OPAQUE, h);
+    head[2] = 1 + packed;
+    head[3] = h->len;
+    if (rest) head[4 + full] = eight_bytes(body, w->len - start, 8 * full) & (((uint64_t)1 << 8 * rest) - 1);
+    if (full) copy_bytes((uint8_t *)(head + 4), body, 8 * full);
+}
+
+/* A walk that only counts touches no byte of the body. */
+static inline void show_opaque(struct walk *w, size_t start, const struct header *h)
+{
+    size_t packed = (h->len + 7) / 8;
+    if (w->table) fill_opaque(w, start, h, packed);
+    w->numbers += 4 + packed;
+}
+
+/* The own numbers of a tag that is read. *inside is how many bytes of its body they took. */
 static int show_tag(struct walk *w, enum tag_class class, size_t start, const struct header *h, size_t *inside)
 {
     uint64_t *head = w->table ? w->table + w->numbers : NULL;
@@ -540,8 +580,7 @@ static int show_tag(struct walk *w, enum tag_class class, size_t start, const st
         head[0] = h->code;
         head[1] = state_of(class, h);
     }
-    if (class == OPAQUE) show_bytes(&b, b.bytes, b.len);
-    else if (class == CONTAINER) why = read_items(&b, h->code);
+    if (class == CONTAINER) why = read_items(&b, h->code);
     else if (class != END && !w->leaves_judged) why = read_leaf(&b, class, h->code);
     if (head) head[2] = b.count;
     w->numbers += 3 + b.count;
@@ -560,6 +599,11 @@ static pag_answer walk_list(struct walk *w, size_t place, size_t end, unsigned d
         size_t start = place + h.size, stop = start + h.len;
         enum tag_class class = class_of(w->level, h.code);
         show_row(w, depth, place, &h);
+        if (class == OPAQUE) {
+            show_opaque(w, start, &h);
+            place = stop;
+            continue;
+        }
         why = show_tag(w, class, start, &h, &inside);
         if (why) return refused(why, place);
         if (class == CONTAINER) {
@@ -589,43 +633,43 @@ static uint32_t start_fault(const uint8_t *file, size_t len)
     return 0;
 }
 
-static pag_answer walk_file(struct walk *w, size_t len)
+static pag_answer walk_file(struct walk *w)
 {
     w->numbers = 1;
     w->row_numbers = 0;
     if (w->table) w->table[0] = w->file[8];
-    return walk_list(w, HEADER_BYTES, len, 0, NULL);
+    return walk_list(w, HEADER_BYTES, w->len, 0, NULL);
 }
 
 /* The walk that judges and counts. */
-static pag_answer survey(struct walk *w, uint32_t order, size_t len)
+static pag_answer survey(struct walk *w, uint32_t order)
 {
     uint32_t why = call_fault(w->level, order);
-    if (!why) why = start_fault(w->file, len);
+    if (!why) why = start_fault(w->file, w->len);
     w->low = order == PAG_LOW_FIRST;
-    return why ? refused(why, 0) : walk_file(w, len);
+    return why ? refused(why, 0) : walk_file(w);
 }
 
 pag_answer peer_read(uint32_t level, uint32_t order, const uint8_t *file, size_t file_len, uint64_t *table, size_t table_len)
 {
-    struct walk w = {.level = level, .file = file};
-    pag_answer judged = survey(&w, order, file_len);
+    struct walk w = {.level = level, .file = file, .len = file_len};
+    pag_answer judged = survey(&w, order);
     if (judged.reason) return judged;
     if (table_len < w.numbers) return refused(PAG_TABLE_TOO_SHORT, w.numbers);
     w.table = table;
-    walk_file(&w, file_len);
+    walk_file(&w);
     return accepted(w.numbers);
 }
 
 pag_answer peer_tags(uint32_t level, uint32_t order, const uint8_t *file, size_t file_len, uint32_t *tags, size_t tags_len)
 {
-    struct walk w = {.level = level, .file = file};
-    pag_answer judged = survey(&w, order, file_len);
+    struct walk w = {.level = level, .file = file, .len = file_len};
+    pag_answer judged = survey(&w, order);
     if (judged.reason) return judged;
     if (tags_len < w.row_numbers) return refused(PAG_TABLE_TOO_SHORT, w.row_numbers);
     w.rows = tags;
     w.leaves_judged = 1;
-    walk_file(&w, file_len);
+    walk_file(&w);
     return accepted(w.row_numbers);
 }
 
@@ -653,6 +697,7 @@ struct numbers {
 struct output {
     uint8_t *bytes;
     size_t len;
+    size_t total; /* with memory: how long it will be */
     uint64_t begun;
     unsigned begun_bits;
     int low; /* a byte is filled from its lowest bit */
@@ -938,24 +983,51 @@ static int write_items(struct numbers *from, struct output *o, uint32_t code)
     return 1;
 }
 
-/* The walk that counts judges the bytes, so the other only copies them. */
-static int write_opaque(struct numbers *from, struct output *o)
-{
-    uint64_t all = 0;
-    if (o->bytes)
-        for (size_t i = 0; i < from->left; i++) o->bytes[o->len + i] = (uint8_t)from->next[i];
-    else
-        for (size_t i = 0; i < from->left; i++) all |= from->next[i];
-    o->len += from->left;
-    from->left = 0;
-    return all <= 255;
-}
-
 /* ------------------------------------------------------------ writing: tags and files */
 
 static void put_le(uint8_t *to, uint32_t value, unsigned bytes)
 {
     for (unsigned i = 0; i < bytes; i++) to[i] = (uint8_t)(value >> (8 * i));
+}
+
+/* A tag's header of 2 bytes or 6. */
+static void put_header(uint8_t *to, uint32_t code, size_t size, size_t len)
+{
+    put_le(to, code * 64 + (size == 2 ? (uint32_t)len : LONG_LENGTH), 2);
+    if (size == 6) put_le(to + 2, (uint32_t)len, 4);
+}
+
+/* The bytes of a packed body. Up to eight are one store where the file goes on that far: what follows the body is written later. */
+static void put_packed(struct output *o, const uint64_t *numbers, size_t len)
+{
+    uint8_t *to = o->bytes + o->len;
+    if (len > 8 || o->total - o->len < 8) copy_bytes(to, (const uint8_t *)numbers, len);
+    else if (len > 0) memcpy(to, numbers, 8);
+    o->len += len;
+}
+
+/* Is there a body with these packed values? A length that a file can have, as many numbers as it asks for, and zeros behind the last byte. */
+static int is_packed(const struct numbers *values)
+{
+    if (values->left == 0 || values->next[0] > PAG_FILE_MAX) return 0;
+    size_t len = values->next[0], packed = values->left - 1, rest = len % 8;
+    if (packed != (len + 7) / 8) return 0;
+    return rest == 0 || values->next[packed] >> 8 * rest == 0;
+}
+
+/* An opaque tag. Its length is known before its bytes, so its header comes first. The walk that counts looks at no number but the first and the last. */
+static int write_opaque(const struct numbers *values, struct output *o, uint32_t code, int claimed)
+{
+    if (!o->bytes && !is_packed(values)) return 0;
+    size_t len = values->next[0];
+    int is_long = len >= LONG_LENGTH;
+    if (claimed && is_long) return 0;
+    size_t size = claimed || is_long ? 6 : 2;
+    if (o->bytes) put_header(o->bytes + o->len, code, size, len);
+    o->len += size;
+    if (o->bytes) put_packed(o, values->next + 1, len);
+    else o->len += len;
+    return 1;
 }
 
 /* The bits of a byte in the other order. */
@@ -989,19 +1061,17 @@ static int close_tag(struct output *o, size_t place, uint32_t code, int claimed,
     if (o->bytes) {
         uint8_t *to = o->bytes + place;
         if (place + size + flag_bytes != contents) memmove(to + size + flag_bytes, o->bytes + contents, n);
-        put_le(to, code * 64 + (size == 2 ? (uint32_t)len : LONG_LENGTH), 2);
-        if (size == 6) put_le(to + 2, (uint32_t)len, 4);
+        put_header(to, code, size, len);
         if (flag_bytes > 0) put_flags(to + size, flag_bytes, flags, o->low);
     }
     o->len = place + size + len;
     return 1;
 }
 
-/* A tag's own values: all of them. */
+/* The own values of a tag that is read: all of them. */
 static int write_own(struct numbers *values, struct output *o, enum tag_class class, uint32_t code, struct flags *flags)
 {
     int good = 1;
-    if (class == OPAQUE) good = write_opaque(values, o);
     if (class == FONTS) good = write_fonts(values, o);
     if (class == ITEMS || class == CONTAINER) good = write_items(values, o, code);
     if (class == BLOCK) {
@@ -1032,8 +1102,12 @@ static int write_list(struct numbers *from, struct output *o, uint32_t level, un
         if (!take(from, 0, PAG_LEVEL_MAX, &code)) return 0;
         enum tag_class class = class_of(level, (uint32_t)code);
         if (!take(from, 0, 3, &state) || (state & 1) != (class != OPAQUE) || !take_values(from, &values)) return 0;
-        if (class == CONTAINER && depth == TOP_DEPTH) return 0;
         int claimed = state >= 2;
+        if (class == OPAQUE) {
+            if (!write_opaque(&values, o, (uint32_t)code, claimed) || o->len > PAG_FILE_MAX) return 0;
+            continue;
+        }
+        if (class == CONTAINER && depth == TOP_DEPTH) return 0;
         size_t place = o->len, contents = place + (claimed ? 6 : 2) + (class == BLOCK);
         o->len = contents;
         if (!write_own(&values, o, class, (uint32_t)code, &flags)) return 0;
@@ -1065,6 +1139,7 @@ pag_answer peer_write(uint32_t level, uint32_t order, const uint64_t *table, siz
     if (why) return refused(why, 0);
     if (!write_file(from, &counted, level)) return refused(PAG_NO_FILE_HAS_THIS_TABLE, 0);
     if (out_len < counted.len) return refused(PAG_OUTPUT_TOO_SHORT, counted.len);
+    written.total = counted.len;
     write_file(from, &written, level);
     return accepted(counted.len);
 }

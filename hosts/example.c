@@ -45,7 +45,22 @@ static size_t room_or_exit(pag_answer asked)
     exit(1);
 }
 
-/* A record for each tag: the place of its numbers in the table follows from the counts before. */
+/* The body of an opaque tag, copied out of its values: its length, and then eight bytes to a number, the lowest first. */
+static void copy_body(uint8_t *body, const uint64_t *values)
+{
+    for (uint64_t i = 0; i < values[0]; i++) body[i] = (uint8_t)(values[1 + i / 8] >> 8 * (i % 8));
+}
+
+/* Byte by byte. */
+static void print_body(const uint64_t *values)
+{
+    uint8_t *body = memory_for((size_t)values[0], 1);
+    copy_body(body, values);
+    for (uint64_t i = 0; i < values[0]; i++) printf("\t%d", body[i]);
+    free(body);
+}
+
+/* A record for each tag: the place of its numbers in the table follows from the counts before. A tag with an even state is opaque. */
 static void list(const struct file *file, const uint64_t *table, const uint32_t *tags, size_t tags_len)
 {
     const uint64_t *tag = table + 1;
@@ -55,7 +70,9 @@ static void list(const struct file *file, const uint64_t *table, const uint32_t 
         const uint64_t *values = tag + 3;
         printf("%" PRIu32 "\t%" PRIu32 "\t%" PRIu32 "\t%" PRIu32, row[0], row[2], row[3], row[4]);
         printf("\t%" PRIu64 "\t%" PRIu64, tag[0], tag[1]);
-        for (uint64_t j = 0; j < tag[2]; j++) printf("\t%" PRIu64, values[j]);
+        if (tag[1] % 2 == 0) print_body(values);
+        else
+            for (uint64_t j = 0; j < tag[2]; j++) printf("\t%" PRIu64, values[j]);
         putchar('\n');
         tag = values + tag[2];
     }

@@ -1,4 +1,4 @@
-// example FILE: the table of a PAG file whose bits are high first, a number a line. docs/HOSTS.md says how to build it.
+// example FILE: the tags of a PAG file whose bits are high first, a line each: code, state and values, an opaque body byte by byte. docs/HOSTS.md says how to build it.
 use std::process::exit;
 
 // The answer of pag.h: reason 0 means accepted, and the number is the count.
@@ -32,6 +32,23 @@ fn read(level: u32, order: u32, file: &[u8]) -> Result<Vec<u64>, PagAnswer> {
     }
 }
 
+/// The body of an opaque tag, copied out of its values: its length, and then eight bytes to a number, the lowest first.
+fn body(values: &[u64]) -> Vec<u8> {
+    values[1..].iter().flat_map(|number| number.to_le_bytes()).take(values[0] as usize).collect()
+}
+
+/// A line for each tag: its numbers are its code, its state, the count of its values, and the values. A tag with an even state is opaque.
+fn print_tags(mut tags: &[u64]) {
+    while let [code, state, count, rest @ ..] = tags {
+        let (values, behind) = rest.split_at(*count as usize);
+        let shown = if state % 2 == 0 { body(values).into_iter().map(u64::from).collect() } else { values.to_vec() };
+        print!("{code}\t{state}");
+        shown.iter().for_each(|number| print!("\t{number}"));
+        println!();
+        tags = behind;
+    }
+}
+
 fn main() {
     let Some(name) = std::env::args().nth(1) else {
         eprintln!("usage: example FILE");
@@ -42,7 +59,7 @@ fn main() {
         exit(2);
     });
     match read(LEVEL, HIGH_FIRST, &file) {
-        Ok(table) => table.iter().for_each(|number| println!("{number}")),
+        Ok(table) => print_tags(&table[1..]), // the first is the compression byte
         Err(answer) => {
             println!("refused\t{}\t{}", answer.reason, answer.number);
             exit(1);

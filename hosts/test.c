@@ -1,6 +1,6 @@
 /*
  * test [--checked | --cases] CASES: calls every export of the library with good, damaged, empty and random input, in both bit orders and in orders that are neither, the same on
- * every run, and with the files of CASES (tests/cases.txt), each against the expectation that stands there; the two files at the size limit are run nowhere else.
+ * every run, and with the files of CASES (tests/cases.txt), each against the expectation that stands there; the files at the size limit are run nowhere else.
  *
  * Each call is made with the input right before a page that cannot be read, and with lent memory between two guards. Checked of each: the answer and the
  * lent memory are the peer's (bench/peer.c), a refusal has changed nothing, an acceptance nothing behind its count, and no call the guards or its
@@ -106,7 +106,7 @@ static const struct call TAGS = {"pag_tags", 1, 4, as_pag_tags, as_peer_tags};
 static const struct call WRITE = {"pag_write", 8, 1, as_pag_write, as_peer_write};
 
 /* Room for the largest call, made once: the fence behind the input, and the two lent memories. */
-enum { LARGEST_INPUT = PAG_FILE_MAX + 8, LARGEST_ROOM = 1 << 23 };
+enum { LARGEST_INPUT = PAG_FILE_MAX + PAGE, LARGEST_ROOM = PAG_FILE_MAX + 2 * PAGE };
 static uint8_t *input_end, *our_room, *peer_room;
 
 static void check_memory(const struct call *c, struct how how, size_t input_len, size_t room_len, size_t start, pag_answer answer)
@@ -176,7 +176,51 @@ static size_t random_state(struct maker *m, const uint64_t *table, size_t count)
     return chosen;
 }
 
-/* A file's table written back, in its order, in the other and in one that is neither; and damaged tables: any number changed, and the 2 of a state put or taken. */
+/* Where the count of some opaque tag's values stands in a table; 0 if there is none. */
+static size_t random_opaque(struct maker *m, const uint64_t *table, size_t count)
+{
+    size_t chosen = 0;
+    for (size_t place = 2, tags = 1; place < count; place += 3 + (size_t)table[place + 1])
+        if (table[place] % 2 == 0 && random_below(m, tags++) == 0) chosen = place + 1;
+    return chosen;
+}
+
+/* A copy in which one packed body is damaged: its length, a bit of its last number, or a number put in or taken out at its end; how many numbers it has. */
+static size_t damage_packed(struct maker *m, const uint64_t *table, size_t count, size_t at, uint64_t *to)
+{
+    static const uint64_t LENGTHS[] = {0, 1, 8, PAG_FILE_MAX, PAG_FILE_MAX + 1, (uint64_t)1 << 32, (uint64_t)1 << 61, UINT64_MAX - 7, UINT64_MAX - 6, UINT64_MAX};
+    size_t end = at + 1 + (size_t)table[at];
+    memcpy(to, table, 8 * count);
+    switch (random_below(m, 5)) {
+    case 0: to[at + 1] = LENGTHS[random_below(m, sizeof LENGTHS / sizeof *LENGTHS)]; break;
+    case 1: to[at + 1] += random_below(m, 17) - 8; break;
+    case 2: to[end - 1] ^= (uint64_t)1 << random_below(m, 64); break;
+    case 3:
+        memmove(to + end + 1, to + end, 8 * (count - end));
+        to[end] = random_below(m, 2);
+        to[at]++;
+        return count + 1;
+    default:
+        memmove(to + end - 1, to + end, 8 * (count - end));
+        to[at]--;
+        return count - 1;
+    }
+    return count;
+}
+
+static void write_damaged_packed(struct maker *m, struct how how, const uint64_t *table, size_t count)
+{
+    uint64_t *damaged = malloc(8 * (count + 1));
+    if (!damaged) exit(2);
+    for (int i = 0; i < 4; i++) {
+        size_t at = random_opaque(m, table, count);
+        if (at) call_rooms(&WRITE, how, damaged, damage_packed(m, table, count, at, damaged));
+    }
+    free(damaged);
+}
+
+/* A file's table written back, in its order, in the other and in one that is neither; and damaged tables: any number changed, the 2 of a state put or taken, and
+ * packed bodies damaged. */
 static void write_table(struct maker *m, struct how how, const uint8_t *file, size_t len, size_t count)
 {
     size_t bytes = count * 8;
@@ -195,6 +239,7 @@ static void write_table(struct maker *m, struct how how, const uint8_t *file, si
         call_rooms(&WRITE, how, table, count);
         table[place] = kept;
     }
+    write_damaged_packed(m, how, table, count);
     call(&WRITE, how, table, count - 1, bytes);
     table[count] = 0;
     call(&WRITE, how, table, count + 1, bytes);
@@ -284,14 +329,18 @@ static void try_small_file(struct maker *m, const uint8_t *file, size_t file_len
     for (size_t len = 0; len < file_len; len++) call_rooms(&READ, HIGH, file, len);
 }
 
-/* P2 of document 01; and tag 2 holding tag 5 holding tag 11, all of them and their Ends by long headers. */
+/* P2 of document 01; tag 2 holding tag 5 holding tag 11, all of them and their Ends by long headers; and tag 2 holding opaque tags of 0, 1, 7, 8 and 9 bytes, the
+ * last by a long header. */
 static void try_small_files(struct maker *m)
 {
     static const uint8_t P2[] = {0x50, 0x41, 0x47, 1, 0x13, 0, 0, 0, 0, 0xC6, 1, 0xFF, 0x80, 0, 0x80, 0x0A, 3, 0, 0};
     static const uint8_t LONG[] = {0x50, 0x41, 0x47, 1, 0x31, 0, 0, 0, 0, 0xBF, 0, 0x1C, 0, 0, 0, 5, 0x7F, 1, 0x0F, 0, 0, 0, 2, 3, 0xFF,
                                    2, 1, 0, 0, 0, 7, 0x3F, 0, 0, 0, 0, 0, 0x3F, 0, 0, 0, 0, 0, 0x3F, 0, 0, 0, 0, 0};
+    static const uint8_t PACKED[] = {0x50, 0x41, 0x47, 1, 0x37, 0, 0, 0, 0, 0xAA, 0, 5, 0, 2, 1, 2, 0xFF, 7, 2, 1, 2, 3, 4, 5, 6, 7, 8, 2,
+                                     1, 2, 3, 4, 5, 6, 7, 8, 0x3F, 2, 9, 0, 0, 0, 1, 2, 3, 4, 5, 6, 7, 8, 9, 0, 0, 0, 0};
     try_small_file(m, P2, sizeof P2);
     try_small_file(m, LONG, sizeof LONG);
+    try_small_file(m, PACKED, sizeof PACKED);
 }
 
 /* A fault that damage seldom makes: a container at depth 8. */
@@ -326,7 +375,7 @@ static void try_null(void)
 /* ------------------------------------------------------------ cases */
 
 /* A line of CASES: name | level | order | bytes | expected | .., where `x*n` is n times x. */
-enum { NAME, LEVEL, ORDER, BYTES, EXPECTED, FIELDS, NUMBERS = 1 << 16 };
+enum { NAME, LEVEL, ORDER, BYTES, EXPECTED, FIELDS, NUMBERS = LARGEST_INPUT / 8 };
 struct given {
     const char *name;
     struct how how;
@@ -432,6 +481,20 @@ static void try_cases(const char *path)
     munmap(case_bytes, PAG_FILE_MAX + 1);
     if (tried == 0) bad_line(path, "has no cases");
     printf("%zu cases\n", tried);
+}
+
+/* Tables of one opaque body that is too long for a file, with a count that fits: the first is one byte longer than the longest, which is a case. */
+static void try_over_limit(void)
+{
+    static const size_t LENGTHS[] = {PAG_FILE_MAX - 16, PAG_FILE_MAX, PAG_FILE_MAX + 1};
+    for (int i = 0; i < 3; i++) {
+        size_t packed = (LENGTHS[i] + 7) / 8, count = 5 + packed + 3, room = i == 0 ? PAG_FILE_MAX + 8 : 0;
+        uint64_t *table = case_numbers;
+        memset(table, 0, 8 * count);
+        table[1] = 8, table[3] = 1 + packed, table[4] = LENGTHS[i], table[count - 2] = 1;
+        pag_answer answer = call(&WRITE, HIGH, table, count, room);
+        if (answer.reason != PAG_NO_FILE_HAS_THIS_TABLE || answer.number != 0) fail("a file over the limit was written", WRITE.name, HIGH, count, room);
+    }
 }
 
 /* ------------------------------------------------------------ stack */
@@ -562,6 +625,7 @@ int main(int argc, char **argv)
     try_cases(argv[argc - 1]);
     if (cases_alone) return 0;
     try_null();
+    try_over_limit();
     try_small_files(&m);
     try_depth_8(&m);
     try_random_bytes(&m);

@@ -12,11 +12,18 @@
  * - Lengths count elements, not bytes. A pointer may be NULL where its length is 0.
  * - A pointer with a length above 0 points to that many elements, aligned as C asks of its type. What is read and what is filled do not overlap.
  * - Threads. Calls may run at the same time if no lent memory is shared; input that nobody changes may be shared.
- * - Level: 0 to 1023. Listed tags with a code above the level are carried as plain bytes. 1023 hides none.
+ * - Level: 0 to 1023. Listed tags with a code above the level are opaque. 1023 hides none.
  * - Bit order: PAG_HIGH_FIRST or PAG_LOW_FIRST. High first: the first bit is the top bit of its byte, and the highest of its field. Low first: the lowest of
  *   both; the bits that are skipped up to a whole byte are then the high ones. Items of whole bytes are the same in both. Any other order is refused by 24.
- * - State: the second number of a tag in the table. 1: the tag is read; 0: it is carried as plain bytes; and 2 more where a long header (6 bytes) carries a
+ * - State: the second number of a tag in the table. 1: the tag is read; 0: it is opaque; and 2 more where a long header (6 bytes) carries a
  *   body below 63 bytes, so that pag_write gives back the same file. So an odd state is a tag that is read. The 2 on a body of 63 or more is refused by 20.
+ * - Opaque tags. The values of a tag with an even state are its body, packed: its length n in bytes, and then (n + 7) / 8 numbers, eight bytes each, the lowest
+ *   first, the last filled with zeros. To copy the body out of its values (the count of them is the tag's third number, and they follow it):
+ *
+ *       for (uint64_t i = 0; i < values[0]; i++) body[i] = (uint8_t)(values[1 + i / 8] >> 8 * (i % 8));
+ *
+ *   On a machine whose numbers have their lowest byte first, as x86-64, that is memcpy(body, values + 1, values[0]). A count of values that is not
+ *   1 + (n + 7) / 8, a length that no body has, and a filling that is not zero are refused by 20.
  * - Room. A file of n bytes needs at most 8 * n numbers and 5 * n tag numbers, and n is at most 16,777,216. To know the room, call
  *   with length 0: the answer is PAG_TABLE_TOO_SHORT with the numbers needed, if nothing else is wrong.
  * - Stack: at most PAG_STACK_BYTES. hosts/test.c measures it: it runs the calls on a stack that it has painted and looks how far the paint is gone.

@@ -9,6 +9,8 @@ import pag_reference as pag
 
 COVERED = (0, 1, 2, 3, 5, 6, 7, 9, 11, 12, 14)
 LEAVES = (1, 3, 6, 7, 9, 11, 12, 14)
+# Lengths of opaque bodies: every filling, and both sides of a whole number and of a long header.
+OPAQUE_LENGTHS = (*range(18), 23, 24, 25, 61, 62, 63, 64, 65, 100, 101)
 
 
 # ------------------------------------------------------------ items as fields
@@ -213,11 +215,18 @@ def end_tag(rng):
     return any_tag(rng, 0, b'')
 
 
+def opaque_body(rng, length):
+    """Random bytes; now and then with zeros at the end, which only the length tells from a filling."""
+    zeros = min(length, rng.choice((0, 0, 0, 1, 2, 9)))
+    return rng.randbytes(length - zeros) + bytes(zeros)
+
+
 def opaque_tag(rng):
     code = rng.randint(1, 1023) if rng.getrandbits(1) else rng.choice((4, 8, 10, 13, 15))
     if code in COVERED:
         code = 1023
-    return any_tag(rng, code, rng.randbytes(rng.choice((0, 1, 2, 5, 61, 62, 63, 64, 100))))
+    length = rng.choice(OPAQUE_LENGTHS) if rng.random() < 0.9 else rng.randint(0, 700)
+    return any_tag(rng, code, opaque_body(rng, length))
 
 
 def filling_list(rng, room):
@@ -356,9 +365,65 @@ def damaged_states(rng, table):
     return out
 
 
+def opaque_counts(table):
+    """Where the counts of the opaque tags stand in a packed table."""
+    return [place + 1 for place in state_places(table) if table[place] % 2 == 0]
+
+
+def other_number(rng, number, bits):
+    """A number with one bit changed, or a little away from it, or of no body's length."""
+    return rng.choice((number ^ 1 << rng.randrange(bits), number ^ 1 << rng.randrange(bits), number + 1, number - 1, number + 8, number - 8,
+                       number + (1 << 32), 16777216 + rng.randint(-20, 20), -rng.randint(1, 17), 0)) % (1 << 64)
+
+
+def damaged_filling(rng, table, count):
+    """A bit changed in the last number, often in its filling; or all its bytes moved by one."""
+    last = count + table[count]
+    used = 8 * table[count + 1] % 64
+    if rng.random() < 0.7:
+        table[last] ^= 1 << rng.randrange(used, 64)
+    else:
+        table[last] = table[last] << 8 * rng.randint(1, 7) & (1 << 64) - 1
+
+
+def damaged_count(rng, table, count):
+    """A number more or less behind the length, with the count made to fit or not; or another count alone."""
+    way, end = rng.randrange(4), count + 1 + table[count]
+    if way == 0:
+        table.insert(end, rng.choice((0, 0, 1, sized(rng, 64))))
+    elif way == 1 and table[count] > 1:
+        del table[end - 1]
+    elif way == 2:
+        del table[count + 1]
+    else:
+        table[count] = other_number(rng, table[count], 8)
+        return
+    if rng.random() < 0.8:
+        table[count] = (table[count] + (1 if way == 0 else -1)) % (1 << 64)
+
+
+def damaged_packing(rng, table):
+    """The table with one packed body damaged: its length, its count, its filling or its bytes."""
+    out = list(table)
+    count = rng.choice(opaque_counts(table))
+    way = rng.randrange(4)
+    if way == 0:
+        out[count + 1] = other_number(rng, out[count + 1], 8)
+    elif way == 1:
+        damaged_count(rng, out, count)
+    elif out[count] > 1 and way == 2:
+        damaged_filling(rng, out, count)
+    else:
+        place = count + rng.randint(1, out[count])
+        out[place] = other_number(rng, out[place], 64)
+    return out
+
+
 def damaged_table(rng, table):
-    if rng.random() < 0.4:
+    if rng.random() < 0.3:
         return damaged_states(rng, table)
+    if opaque_counts(table) and rng.random() < 0.6:
+        return damaged_packing(rng, table)
     out = list(table)
     place = rng.randrange(len(out))
     way = rng.randrange(4)
@@ -385,15 +450,56 @@ def any_order(rng):
 
 def check_rows(data, table, rows):
     """The tag table agrees with the bytes and the headers of the table: the
-    state has the 2 where a long header carries a body below 63."""
+    state has the 2 where a long header carries a body below 63, and an opaque
+    tag has its bytes packed, whatever stands in them."""
     place = 1
     for depth, code, start, size, length in rows:
         number = int.from_bytes(data[start:start + 2], 'little')
         assert table[place] == code == number // 64 and 0 <= depth <= 8
         assert size == (6 if number % 64 == 63 else 2)
         assert table[place + 1] // 2 == (size == 6 and length < 63)
-        place += 3 + table[place + 2]
+        end = place + 3 + table[place + 2]
+        if table[place + 1] % 2 == 0:
+            check_packed(data[start + size:start + size + length], table[place + 3:end])
+        place = end
     assert place == len(table)
+
+
+def check_packed(body, values):
+    """A body's packed values, byte by byte: byte i stands in number i / 8, and
+    counts 256 to the power of i % 8 there."""
+    numbers = [0] * -(-len(body) // 8)
+    for i, one in enumerate(body):
+        numbers[i // 8] += one * 256 ** (i % 8)
+    assert values == [len(body), *numbers], (body.hex(), values)
+
+
+def check_forms(level, order, data, answer):
+    """The plain table and the packed one determine each other, and the two
+    readings differ in nothing else."""
+    plain = pag.read_plain(level, order, data)
+    if answer[0] == 'refused':
+        assert plain == answer
+        return
+    assert plain[0] == 'table' and plain[2] == answer[2]
+    assert pag.pack(plain[1]) == answer[1] and pag.unpack(answer[1]) == plain[1], (level, order, data.hex())
+    assert pag.write_plain(level, order, plain[1]) == ('file', data)
+    # C-21: 8 times the file's bytes in both forms
+    assert len(plain[1]) <= 8 * len(data) and len(answer[1]) <= 8 * len(data)
+
+
+def check_written_forms(level, order, table):
+    """Of any table, read as a plain one and as a packed one: the writer of the
+    other form takes what it turns into, and it turns back; what has no other form is
+    no file's table."""
+    for turn, back, write, write_turned in ((pag.pack, pag.unpack, pag.write_plain, pag.write),
+                                            (pag.unpack, pag.pack, pag.write, pag.write_plain)):
+        other = turn(table)
+        if other is None:
+            assert write(level, order, table) == ('refused', 20, 0), (level, order, table)
+        else:
+            assert back(other) == table, table
+            assert write(level, order, table) == write_turned(level, order, other), (level, order, table)
 
 
 def claims(answer):
@@ -407,6 +513,29 @@ def check_levels(order, data, answer):
     the 2 where the top level shows it."""
     top = claims(pag.read(pag.TOP_LEVEL, order, data))
     assert claims(answer).items() <= top.items(), (order, data.hex())
+
+
+def check_listing(data):
+    """"the listing keeps printing one byte a field": what it prints of a file
+    is document 01's, from the plain table."""
+    lines = pag.listing(data)
+    plain = pag.read_plain(pag.TOP_LEVEL, pag.HIGH_FIRST, data)
+    if len(data) > 32768:
+        assert lines == 'too long\n'
+        return
+    if plain[0] == 'refused':
+        assert lines == 'refused\t%d\t%d\n' % plain[1:]
+        return
+    packed = len(pag.pack(plain[1]))
+    if packed > 8192:
+        assert lines == 'refused\t19\t%d\n' % packed
+        return
+    table, place, shown = plain[1], 1, []
+    for depth, code, start, size, length in plain[2]:
+        end = place + 3 + table[place + 2]
+        shown.append([depth, start, size, length, code, table[place + 1], *table[place + 3:end]])
+        place = end
+    assert lines.splitlines()[1:] == ['\t'.join(map(str, line)) for line in shown], data.hex()
 
 
 def check_neither(rng, level, data):
@@ -429,8 +558,9 @@ def check_good(rng):
         assert answer[0] == 'table', (level, order, data.hex(), answer)
         assert pag.write(level, order, answer[1]) == ('file', data), (level, order, data.hex())
         check_rows(data, answer[1], answer[2])
+        check_forms(level, order, data, answer)
         check_levels(order, data, answer)
-        assert pag.listing(data).endswith('\n')
+        check_listing(data)
         tables.append(answer[1])
     if level == pag.TOP_LEVEL:
         assert tables[0] == tables[1], (level, seed)
@@ -448,7 +578,8 @@ def check_damaged(rng, tally):
     else:
         assert 2 <= answer[1] <= 18 and answer[1] != 8 and 0 <= answer[2] <= len(data)
         tally[answer[1]] = tally.get(answer[1], 0) + 1
-    assert pag.listing(data).endswith('\n')
+    check_forms(level, order, data, answer)
+    check_listing(data)
 
 
 def check_table(rng, tally):
@@ -456,6 +587,7 @@ def check_table(rng, tally):
     level, order = any_level(rng), any_order(rng)
     table = damaged_table(rng, pag.read(level, order, random_file(rng, order))[1])
     answer = pag.write(level, order, table)
+    check_written_forms(level, order, table)
     if answer[0] == 'file':
         assert pag.read(level, order, answer[1])[1] == table, (level, order, table)
     else:

@@ -1,7 +1,7 @@
 #!/usr/bin/env python3
 """Writes what the program cases is run on, and what it must print: args, data/ and stdout of crates/cases, from those of tests/cases.txt that
 are high first, as the program is, and have at most 65,535 bytes. What is printed comes from a case's own expectation; only the depth, the place, the header size and the body length
-of a tag come from pag_reference, and its codes, states and values must be the expectation's.
+of a tag come from pag_reference, and its codes, states and values must be the expectation's, those of opaque tags unpacked.
 `make_cases.py --check` writes nothing, and says whether the files are what the cases make."""
 
 import os
@@ -24,10 +24,10 @@ def records(case):
     if answer[:2] != expected:
         sys.exit('%s: the reference does not read the expected table' % name)
     lines = list(pag_reference.tag_lines(expected[1], answer[2]))
-    table = [data[8]]
+    plain = [data[8]]
     for line in lines:
-        table += line[4:6] + [len(line) - 6] + line[6:]
-    if table != expected[1]:
+        plain += line[4:6] + [len(line) - 6] + line[6:]
+    if pag_reference.pack(plain) != expected[1]:
         sys.exit('%s: the listing does not show the expected table' % name)
     return [['PAG', data[3], len(data), data[8]]] + lines
 

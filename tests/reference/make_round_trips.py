@@ -82,10 +82,22 @@ def other_levels(order):
     return {pag_reference.HIGH_FIRST: LEVELS, pag_reference.LOW_FIRST: LOW_LEVELS}.get(order, [])
 
 
+def packed_places(table):
+    """Where the packed numbers of opaque bodies stand, behind their lengths."""
+    place = 1
+    while place < len(table):
+        end = place + 3 + table[place + 2]
+        if table[place + 1] % 2 == 0:
+            yield from range(place + 4, end)
+        place = end
+
+
 def changed(table):
-    """The table with each number in turn one more."""
+    """The table with each number in turn one more; and with each packed number's highest bit changed, which is filling in most last ones."""
     for i in range(len(table)):
         yield table[:i] + [(table[i] + 1) % 2 ** 64] + table[i + 1:]
+    for i in packed_places(table):
+        yield table[:i] + [table[i] ^ 2 ** 63] + table[i + 1:]
 
 
 def samples():

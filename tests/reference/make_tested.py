@@ -21,7 +21,7 @@ use Rattle.format.specs.Bits.{bitAt, ub}
 use Rattle.format.specs.Formats.{times}
 use Rattle.format.specs.Items.{readVar, readLE, readText, readFlag, readItem, run}
 use Rattle.format.specs.Bodies.{allFlags, rows, readBlock, readPart, readBody}
-use Rattle.format.specs.FileAndTags.{classOf, walk}
+use Rattle.format.specs.FileAndTags.{classOf, eights, walk}
 use Rattle.format.specs.Reasons.{startFault, walkFile, Result, gives, refuses, readFile}
 
 -- a file in an order and at a level, and what it gives
@@ -37,7 +37,7 @@ tests =
 
 BOTTOM = """
 pub tested : map (λ (t : Test). readFile (t .order) (t .level) (t .file)) tests ≡ map (λ (t : Test). t .result) tests
-unfolding readFile walkFile startFault classOf walk readBody readPart readBlock allFlags rows run times readItem readVar readLE readText readFlag ub bitAt
+unfolding readFile walkFile startFault classOf walk readBody readPart readBlock allFlags rows run times readItem readVar readLE readText readFlag ub bitAt eights
 tested = refl
 """
 

@@ -1,6 +1,10 @@
 """An independent reference of the PAG reader and writer, made from document 01
-and from document 02's C-18 (bit order) and C-11 (long headers on short
-bodies).
+and from document 02's C-18 (bit order), C-11 (long headers on short bodies)
+and C-17 (packed opaque bodies).
+
+`read` and `write` speak packed tables. Beside them stand `read_plain` and
+`write_plain` for the table of document 01, where an opaque tag's values are its
+body bytes, and `pack` and `unpack` between the two.
 
 Lines in quotation marks in the comments are their sentences.
 Decision n is point n of docs/DECISIONS.md.
@@ -9,6 +13,7 @@ Decision n is point n of docs/DECISIONS.md.
 FILE_LIMIT = 16777216       # "A file has at most 16,777,216 bytes."
 TOP_LEVEL = 1023            # "A level from 0 to 1023 goes with each call"
 LONG_LENGTH = 63            # "Length 63 means that a .. 32-bit body length follows"
+BYTES_A_NUMBER = 8          # C-17: "eight bytes to a number"
 TOP_DEPTH = 8               # "A container at depth 8 is refused."
 TOP_COUNT = 4096            # "Frames are 1 to 4,096; verbs and fonts 0 to 4,096."
 WORD = 1 << 64              # "A negative number is kept modulo 2^64"
@@ -54,8 +59,8 @@ BLOCKS = {
          ('expansion', 'Simple', 'Float')),
 }
 
-# The plain bodies, item by item (1 has its own function).
-PLAIN = {
+# The bodies that are rows of items (1 has its own function).
+ITEMS = {
     3: ('I32', 'I32', 'Time', 'Float', 'Color'),
     7: ('Color', 'I32', 'I32'),
     11: ('U32',),
@@ -99,6 +104,85 @@ def check_call(order, level=0):
         raise Refusal(1)
     if order not in (HIGH_FIRST, LOW_FIRST):
         raise Refusal(24)
+
+
+# ---------------------------------------------------------------- opaque bodies
+
+def plain_values(body):
+    """Document 01: "An opaque tag's values are its body bytes." """
+    return list(body)
+
+
+def packed_values(body):
+    """C-17: "its byte length and then eight bytes to a number, lowest byte
+    first, the last number filled with zeros" """
+    pieces = [body[place:place + BYTES_A_NUMBER] for place in range(0, len(body), BYTES_A_NUMBER)]
+    return [len(body)] + [int.from_bytes(piece, 'little') for piece in pieces]
+
+
+def plain_body(values):
+    """The body with these plain values; without one, 20."""
+    if not all(0 <= value <= 255 for value in values):
+        raise no_file()
+    return bytes(values)
+
+
+def packed_body(values):
+    """The body with these packed values. C-17: "a table with non-zero filling
+    or a count that doesn't fit is impossible (20)" """
+    length = Numbers(values).take()
+    numbers = values[1:]
+    if len(numbers) != (length + BYTES_A_NUMBER - 1) // BYTES_A_NUMBER:
+        raise no_file()
+    filled = b''.join(number.to_bytes(BYTES_A_NUMBER, 'little') for number in numbers)
+    body, filling = filled[:length], filled[length:]
+    if any(filling):
+        raise no_file()
+    return body
+
+
+class Form:
+    """How an opaque body stands in a table: its values, and the way back."""
+
+    def __init__(self, values, body):
+        self.values, self.body = values, body
+
+
+PLAIN_FORM = Form(plain_values, plain_body)
+PACKED_FORM = Form(packed_values, packed_body)
+
+
+def tags_of(table):
+    """The code, the state and the values of each tag of a table; 20 where the
+    counts don't fit its length."""
+    numbers = Numbers(table, 1)
+    while not numbers.used_up():
+        code, state = numbers.take(), numbers.take()
+        yield code, state, numbers.take_slice(numbers.take())
+
+
+def turned(table, old, new):
+    """The table with its opaque bodies in another form: those of the tags with
+    an even state. None where a body or a count of it is impossible."""
+    out = list(table[:1])
+    try:
+        for code, state, values in tags_of(table):
+            if state % 2 == 0:
+                values = new.values(old.body(values))
+            out += [code, state, len(values), *values]
+    except Refusal:
+        return None
+    return out
+
+
+def pack(table):
+    """The packed table of a plain one."""
+    return turned(table, PLAIN_FORM, PACKED_FORM)
+
+
+def unpack(table):
+    """The plain table of a packed one."""
+    return turned(table, PACKED_FORM, PLAIN_FORM)
 
 
 # ---------------------------------------------------------------- reading
@@ -382,7 +466,7 @@ def read_leaf(order, code, body):
     elif code == 1:
         read_fonts(reader)
     else:
-        for data_type in PLAIN.get(code, ()):
+        for data_type in ITEMS.get(code, ()):
             read_item(reader, data_type)
     reader.align()              # "also at a body's end"; decision 4: 15, then 18
     if reader.bytes_left():
@@ -394,7 +478,7 @@ def read_body(order, code, body):
     """The values of a body alone, at level 1023. For 2 and 5 the values are
     the container's own items; what follows them is not looked at."""
     if code not in COVERED:
-        return ('values', list(body))
+        return ('values', packed_values(body))
     if code == 0 and body:
         return ('fault', 10)
     try:
@@ -408,7 +492,7 @@ def read_body(order, code, body):
 def read_container_items(code, body):
     """Byte items, so any order reads them alike."""
     reader = BodyReader(HIGH_FIRST, body)
-    for data_type in PLAIN[code]:
+    for data_type in ITEMS[code]:
         read_item(reader, data_type)
     return reader
 
@@ -418,10 +502,11 @@ def little_endian(data, place, size):
 
 
 class FileReader:
-    """A walk of the tag lists of one file at one level and in one order."""
+    """A walk of the tag lists of one file at one level and in one order, for a
+    table with its opaque bodies in one form."""
 
-    def __init__(self, level, order, data):
-        self.level, self.order, self.data = level, order, data
+    def __init__(self, level, order, data, form):
+        self.level, self.order, self.data, self.form = level, order, data, form
         self.table = [data[8]]
         self.rows = []
 
@@ -470,7 +555,7 @@ class FileReader:
         state = tag_state(tag_is_read(self.level, code), size, length)
         try:
             if not tag_is_read(self.level, code):
-                self.put_tag(code, state, body)
+                self.put_tag(code, state, self.form.values(body))
             elif code in CONTAINERS:
                 items = read_container_items(code, body)
                 self.put_tag(code, state, items.values)
@@ -497,18 +582,23 @@ def check_file_header(data):
         raise Refusal(5)
 
 
-def read(level, order, data):
+def read(level, order, data, form=PACKED_FORM):
     """('table', numbers, tag rows) or ('refused', reason, number); the rooms
     (19) are the caller's."""
     data = bytes(data)
     try:
         check_call(order, level)
         check_file_header(data)
-        reader = FileReader(level, order, data)
+        reader = FileReader(level, order, data, form)
         reader.tag_list(9, len(data), 0, None)
     except Refusal as refusal:
         return ('refused', refusal.reason, refusal.number)
     return ('table', reader.table, reader.rows)
+
+
+def read_plain(level, order, data):
+    """The same with the table of document 01."""
+    return read(level, order, data, PLAIN_FORM)
 
 
 # ---------------------------------------------------------------- writing
@@ -761,19 +851,12 @@ def write_values(order, code, values):
     elif code == 1:
         write_fonts(writer)
     else:
-        for data_type in PLAIN.get(code, ()):
+        for data_type in ITEMS.get(code, ()):
             write_item(writer, data_type)
     writer.align()
     if not writer.numbers.used_up():
         raise no_file()
     return bytes(writer.out)
-
-
-def write_opaque(values):
-    """"An opaque tag's values are its body bytes." """
-    if not all(0 <= value <= 255 for value in values):
-        raise no_file()
-    return bytes(values)
 
 
 def write_tag_header(code, length, claimed):
@@ -786,7 +869,7 @@ def write_tag_header(code, length, claimed):
     return (code * 64 + LONG_LENGTH).to_bytes(2, 'little') + length.to_bytes(4, 'little')
 
 
-def write_list(level, order, numbers, depth):
+def write_list(level, order, numbers, depth, form):
     """The bytes of one tag list, its End included."""
     out = bytearray()
     while True:
@@ -797,26 +880,26 @@ def write_list(level, order, numbers, depth):
             raise no_file()
         values = numbers.take_slice(numbers.take())
         if not is_read:
-            body = write_opaque(values)
+            body = form.body(values)
         else:
             body = write_values(order, code, values)
         if is_read and code in CONTAINERS:
             if depth == TOP_DEPTH:
                 raise no_file()
-            body += write_list(level, order, numbers, depth + 1)
+            body += write_list(level, order, numbers, depth + 1, form)
         out += write_tag_header(code, len(body), claimed) + body
         if code == 0:
             return bytes(out)
 
 
-def write(level, order, table):
+def write(level, order, table, form=PACKED_FORM):
     """('file', bytes) or ('refused', 1, 24 or 20, 0); the output's room (21)
     is the caller's. "the whole lent table slice is the table" """
     numbers = Numbers(table)
     try:
         check_call(order, level)
         compression = numbers.take(most=255)
-        tags = write_list(level, order, numbers, 0)
+        tags = write_list(level, order, numbers, 0, form)
         length = 9 + len(tags)
         if not numbers.used_up() or length > FILE_LIMIT:
             raise no_file()
@@ -826,21 +909,24 @@ def write(level, order, table):
     return ('file', header + tags)
 
 
+def write_plain(level, order, table):
+    """The same from the table of document 01."""
+    return write(level, order, table, PLAIN_FORM)
+
+
 # ---------------------------------------------------------------- listing
 
 def tag_lines(table, rows):
-    """"per tag depth, place, header size, body length, code, state, values" """
-    numbers = Numbers(table, 1)
-    for depth, code, place, size, length in rows:
-        numbers.take(code, code)
-        state = numbers.take()
-        values = numbers.take_slice(numbers.take())
-        yield [depth, place, size, length, code, state] + list(values)
+    """"per tag depth, place, header size, body length, code, state, values"
+    of a packed table. C-17: "the listing keeps printing one byte a field" """
+    for (depth, code, place, size, length), tag in zip(rows, tags_of(unpack(table)), strict=True):
+        assert tag[0] == code
+        yield [depth, place, size, length, code, tag[1], *tag[2]]
 
 
 def listing(data):
     """The listing program's output for these bytes of standard input: "the
-    programs are high first"."""
+    programs are high first". C-17: "19 counts packed numbers" """
     if len(data) > LISTING_BYTES:
         return 'too long\n'
     answer = read(TOP_LEVEL, HIGH_FIRST, data)

@@ -2,16 +2,18 @@
 -- Each number that code computes is a variable, tied by an equation: omega proves the equation, and what a callee ensures fits as it stands.
 use Prim.Native.Nat.{ℕ, zero, suc, _+_, _-_, _*_, _/_, _%_, _^_, _≤_, _<_}
 use mathlib.Core.Path.{_≡_, refl, sym, ap, ap₂, _∙_, subst}
-use mathlib.Core.List.{List, []}
+use mathlib.Core.List.{List, [], _∷_}
 use mathlib.Core.Bool.{Bool, true, false}
 use native.Mathlib.Nat.{add-zero, add-suc, add-assoc, mul-assoc, mul-one, one-mul, pow-suc, mod-eq-of-lt, mod-eq-sub-mod, div-one, zero-div}
 use native.Mathlib.Omega.{arith}
-use lib.ListN.{length, getD, List·getD-eq-default}
+use lib.ListN.{length, getD, drop, length-drop, List·getD-eq-default}
+use lib.Seq.{getD-drop, drop-cons, drop-length}
 use lib.Arith.{digits-div, digits-mod}
 use lib.Pow.{pow-lt, pow-mono}
 use lib.Dec.{leb, ltb, eqb}
 use borrow.Author.Tests.{le-leb, lt-leb, leb-true, ltb-true, ltb-false, ne-eqb}
 use Rattle.format.specs.Bits.{Order, high, low, bitAt, ub}
+use Rattle.format.specs.FileAndTags.{le64}
 use Rattle.format.specs.WritingItems.{below}
 use Rattle.format.specs.Items.{Num, num, bad, mapNum, readUB, signExtend, skipped, readAlign}
 use Rattle.format.specs.Reading.{shows, stop}
@@ -97,6 +99,50 @@ eight-low b i h0 h1 h2 h3 h4 h5 h6 h7 =
     let e5 = ub-less b (8 * (i + 3)) 40 (i + 2) e4 (omega arith) h2 in
     let e6 = ub-less b (8 * (i + 2)) 48 (i + 1) e5 (omega arith) h1 in
     ub-less b (8 * (i + 1)) 56 i e6 (omega arith) h0
+
+-- and as the little-endian number of the definitions
+pub eight-little : (b : List ℕ) (i : ℕ) {b0 b1 b2 b3 b4 b5 b6 b7 : ℕ} → IsByte b i b0 → IsByte b (i + 1) b1 → IsByte b (i + 2) b2 → IsByte b (i + 3) b3 → IsByte b (i + 4) b4 → IsByte b (i + 5) b5 → IsByte b (i + 6) b6 → IsByte b (i + 7) b7
+    → ((((((b7 * 256 + b6) * 256 + b5) * 256 + b4) * 256 + b3) * 256 + b2) * 256 + b1) * 256 + b0 ≡ le64 (drop i b)
+eight-little b i h0 h1 h2 h3 h4 h5 h6 h7 =
+    rw (
+      getD-drop 4 (drop i b) 0 0,
+      getD-drop 4 (drop i b) 1 0,
+      getD-drop 4 (drop i b) 2 0,
+      getD-drop 4 (drop i b) 3 0,
+      getD-drop i b 0 0,
+      getD-drop i b 1 0,
+      getD-drop i b 2 0,
+      getD-drop i b 3 0,
+      getD-drop i b 4 0,
+      getD-drop i b 5 0,
+      getD-drop i b 6 0,
+      getD-drop i b 7 0,
+      add-zero i,
+      ← h0 .0,
+      ← h1 .0,
+      ← h2 .0,
+      ← h3 .0,
+      ← h4 .0,
+      ← h5 .0,
+      ← h6 .0,
+      ← h7 .0,
+    )
+    (omega arith)
+
+-- fewer than eight, down from the last one: one more before the r so far
+little-more : (x : ℕ) (r : List ℕ) → length r < 8 → le64 r * 256 + x ≡ le64 (x ∷ r)
+little-more x r h =
+    let z : getD r 7 0 ≡ 0 = List·getD-eq-default r 0 (omega arith) in
+    rw (getD-drop 4 r 0 0, getD-drop 4 r 1 0, getD-drop 4 r 2 0, getD-drop 4 r 3 0, getD-drop 3 r 0 0, getD-drop 3 r 1 0, getD-drop 3 r 2 0, getD-drop 3 r 3 0, z) (omega arith)
+
+pub few-little : (b : List ℕ) (i j : ℕ) {x y : ℕ} → i + 1 ≡ j → j ≤ length b → length b < 8 → x ≡ le64 (drop j b) → y ≡ getD b i 0 → x * 256 + y ≡ le64 (drop i b)
+few-little b i j s l h e f =
+    let one : i + 1 ≡ suc i = omega arith in
+    let d : drop i b ≡ getD b i 0 ∷ drop (suc i) b = drop-cons b i 0 (omega arith) in
+    ap₂ (λ (v w : ℕ). v * 256 + w) (e ∙ ap (λ (k : ℕ). le64 (drop k b)) (sym s ∙ one)) f ∙ little-more (getD b i 0) (drop (suc i) b) (rw length-drop (omega arith)) ∙ ap le64 (sym d)
+
+pub few-none : (b : List ℕ) → 0 ≡ le64 (drop (length b) b)
+few-none b = sym (ap le64 (drop-length b))
 
 -- each of them is cut out of their number; turned, the first counts most
 byte-of : (b : List ℕ) (i k l : ℕ) {x : ℕ} → x ≡ ub low b (8 * i) 64 → 8 * k + 8 + l ≡ 64 → x / 2 ^ (8 * k) % 2 ^ 8 ≡ ub high b (8 * (i + k)) 8

@@ -1,9 +1,10 @@
 // UB and SB fields, read by the bytes that they touch.
 ghost use mathlib.Core.Path.{_≡_};
 ghost use Prim.Native.Nat.{_+_, _-_, _*_, _/_, _%_, _^_, _<_, _≤_, min};
-ghost use lib.ListN.{length};
+ghost use lib.ListN.{length, drop};
 ghost use Rattle.format.specs.Bits.{low, ub as fieldAt};
 ghost use Rattle.format.specs.Items.{readUB, readSB, readWidth, signExtend};
+ghost use Rattle.format.specs.FileAndTags.{le64};
 ghost use Rattle.format.specs.WritingItems.{below as belowOf};
 ghost use Rattle.bits.specs.Places.{PlaceIn, numOf, orderOf, turnedOf, orderedBy};
 use crate::BitPlace;
@@ -30,9 +31,9 @@ pub(crate) fn bits_below(order: Order, before: u64, behind: u64) -> u64
 }
 
 // The bytes of a slice of fewer than eight as one number, the first of them lowest; zeros stand past the end.
-fn few(bytes: &[u8]) -> u64
+pub fn few(bytes: &[u8]) -> u64
     requires { ⌜ length (now bytes) < 8 ⌝ }
-    ensures { λ r. ⌜ r ≡ fieldAt low (now (bytes .entry)) 0 64 ⌝ }
+    ensures { λ r. ⌜ (r ≡ fieldAt low (now (bytes .entry)) 0 64) × (r ≡ le64 (now (bytes .entry))) ⌝ }
 {
     let mut left = bytes.len();
     let mut sum = 0;
@@ -44,9 +45,9 @@ fn few(bytes: &[u8]) -> u64
 }
 
 // Eight bytes as one number, the first of them lowest, by one load.
-fn eight(bytes: &[u8], i: usize) -> u64
+pub fn eight(bytes: &[u8], i: usize) -> u64
     requires { ⌜ i + 8 ≤ length (now bytes) ⌝ }
-    ensures { λ r. ⌜ r ≡ fieldAt low (now (bytes .entry)) (8 * i) 64 ⌝ }
+    ensures { λ r. ⌜ (r ≡ fieldAt low (now (bytes .entry)) (8 * i) 64) × (r ≡ le64 (drop i (now (bytes .entry)))) ⌝ }
 {
     let b0 = wide(bytes[i]);
     let b1 = wide(bytes[i + 1]);

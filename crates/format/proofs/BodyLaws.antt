@@ -16,10 +16,10 @@ use Rattle.format.specs.Bodies.{Body, fixed, attributes, readPart, usedU
 use Rattle.format.specs.Possible.{Possible, this, cannot}
 use Rattle.format.specs.WritingItems.{Written, wrote, writeItem}
 use Rattle.format.specs.WritingFormats.{onward}
-use Rattle.format.specs.WritingBodies.{writePart, pack, packed, writeBody}
+use Rattle.format.specs.WritingBodies.{writePart, bytesOf, wholeBytes, writeBody}
 use Rattle.format.proofs.BitLaws.{length-dig}
 use Rattle.format.proofs.BlockLaws.{trip-block}
-use Rattle.format.proofs.ByteLaws.{has-pack, pack-has, pack-bytes, length-pack}
+use Rattle.format.proofs.ByteLaws.{has-bytes-of, bytes-of-has, bytes-of-bytes, length-bytes-of}
 use Rattle.format.proofs.ItemLaws.{trip-item, round-trip}
 use Rattle.format.proofs.Trip.{Trip, There, Back, trip-seq}
 
@@ -48,11 +48,11 @@ module _ (o : Order) where
   unfolding readBody writeBody readItem
   body-there y b a = go (endR y b 0 .ended) refl
     where
-      at : (q : ℕ) → q ≡ 8 * length b → There o b 0 q (endR y b 0 .shown) (endW y) → packed o (endW y (endR y b 0 .shown) 0) ≡ this b
+      at : (q : ℕ) → q ≡ 8 * length b → There o b 0 q (endR y b 0 .shown) (endW y) → wholeBytes o (endW y (endR y b 0 .shown) 0) ≡ this b
       at q e u =
           let w : endW y (endR y b 0 .shown) 0 ≡ this (wrote (endR y b 0 .shown) (u .bits) []) = rw append-nil at (u .again []) in
           let n : length (u .bits) / 8 ≡ length b = omega (arith, u .ends) in
-          rw (w, n, pack-has o b (u .bits) a (omega (arith, u .ends)) (u .has))
+          rw (w, n, bytes-of-has o b (u .bits) a (omega (arith, u .ends)) (u .has))
 
       test : (q : ℕ) → There o b 0 q (endR y b 0 .shown) (endW y) → (c : Bool) → eqb q (8 * length b) ≡ c → ReadIf y b (endR y b 0 .shown) (pick c (At q) (Fault 18))
       test q u false e = tt
@@ -80,17 +80,17 @@ module _ (o : Order) where
   unfolding readBody writeBody readItem
   write-if y ns = go (endW y ns 0) refl
     where
-      go : (w : Possible Written) → endW y ns 0 ≡ w → WriteIf y ns (packed o (endW y ns 0))
+      go : (w : Possible Written) → endW y ns 0 ≡ w → WriteIf y ns (wholeBytes o (endW y ns 0))
       go cannot eq = rw eq tt
       go (this (wrote xs bs (z ∷ ys))) eq = rw eq tt
       go (this (wrote xs bs [])) eq =
           let k : ℕ = length bs / 8 in
           let v : Back o ns xs bs [] 0 (endR y) = rw eq at (trip-end y .back ns 0) in
           let n : 8 * k ≡ length bs = rw eq at (whole-bytes (writePart o y ns 0)) in
-          let r : endR y (pack o k bs) 0 ≡ shows xs (0 + length bs) = v .reads (pack o k bs) (has-pack o k bs (sym n)) in
+          let r : endR y (bytesOf o k bs) 0 ≡ shows xs (0 + length bs) = v .reads (bytesOf o k bs) (has-bytes-of o k bs (sym n)) in
           let m : ns ≡ xs = v .parts ∙ append-nil xs in
           let z : 0 + length bs ≡ length bs = omega arith in
-          rw eq (pack-bytes o k bs, rw (r, length-pack, n, m, eq-eqb (0 + length bs) (length bs) (omega arith), z))
+          rw eq (bytes-of-bytes o k bs, rw (r, length-bytes-of, n, m, eq-eqb (0 + length bs) (length bs) (omega arith), z))
 
   pub body-back : (y : Body) (b ns : List ℕ) → writeBody o y ns ≡ this b → AllBytes b × (readBody o y b ≡ shows ns (8 * length b))
   body-back y b ns h = subst (WriteIf y ns) h (write-if y ns)

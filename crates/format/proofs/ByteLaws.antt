@@ -12,7 +12,7 @@ use native.Mathlib.Nat.{add-zero, mod-eq-of-lt, pow-suc, mul-comm, mod-one, div-
 use native.Mathlib.Omega.{arith}
 use Rattle.format.specs.Bits.{AllBytes, Order, high, low, weight, bitAt, ub}
 use Rattle.format.specs.WritingItems.{dig}
-use Rattle.format.specs.WritingBodies.{bit, val, pack}
+use Rattle.format.specs.WritingBodies.{bit, val, bytesOf}
 use Rattle.format.proofs.BitLaws.{Has, join-lt, has-ub, first-join, rest-join}
 use Rattle.format.proofs.Trip.{has-le, has-append, has-split}
 
@@ -94,38 +94,38 @@ ub-val o b p (suc n) [] h l = absurd (omega arith)
 ub-val o b p (suc n) (y ∷ bs) h l = rw (l .0, ub-val o b (suc p) n bs (omega arith) (l .1))
 
 -- ---- packed bits are there
-pub has-pack : (o : Order) (k : ℕ) (bs : List Bool) → length bs ≡ 8 * k → Has o (pack o k bs) 0 bs
-unfolding pack
-has-pack o zero [] h = omega arith
-has-pack o zero (y ∷ bs) h = absurd (omega arith)
-has-pack o (suc k) bs h =
+pub has-bytes-of : (o : Order) (k : ℕ) (bs : List Bool) → length bs ≡ 8 * k → Has o (bytesOf o k bs) 0 bs
+unfolding bytesOf
+has-bytes-of o zero [] h = omega arith
+has-bytes-of o zero (y ∷ bs) h = absurd (omega arith)
+has-bytes-of o (suc k) bs h =
     let x : ℕ = val o 8 bs in
-    let r : List ℕ = pack o k (drop 8 bs) in
+    let r : List ℕ = bytesOf o k (drop 8 bs) in
     let e : ub o (x ∷ r) 0 8 ≡ x = ub-byte o (x ∷ r) 0 ∙ mod-eq-of-lt (val-lt o 8 bs) in
     let f : Has o (x ∷ r) 0 (take 8 bs) = rw (e, dig-val o 8 bs (omega arith)) at (has-ub o (x ∷ r) 0 8 (omega arith)) in
-    let g : Has o (x ∷ r) 8 (drop 8 bs) = shift o x r 0 (drop 8 bs) (has-pack o k (drop 8 bs) (rw length-drop (omega arith))) in
+    let g : Has o (x ∷ r) 8 (drop 8 bs) = shift o x r 0 (drop 8 bs) (has-bytes-of o k (drop 8 bs) (rw length-drop (omega arith))) in
     subst (λ (l : List Bool). Has o (x ∷ r) 0 l) (take-append-drop 8 bs)
     (has-append o (x ∷ r) 0 (take 8 bs) (drop 8 bs) f (rw (length-take-le 8 bs (omega arith)) g))
 
-pub pack-bytes : (o : Order) (k : ℕ) (bs : List Bool) → AllBytes (pack o k bs)
-unfolding pack
-pack-bytes o zero bs = tt
-pack-bytes o (suc k) bs = (val-lt o 8 bs, pack-bytes o k (drop 8 bs))
+pub bytes-of-bytes : (o : Order) (k : ℕ) (bs : List Bool) → AllBytes (bytesOf o k bs)
+unfolding bytesOf
+bytes-of-bytes o zero bs = tt
+bytes-of-bytes o (suc k) bs = (val-lt o 8 bs, bytes-of-bytes o k (drop 8 bs))
 
-pub length-pack : (o : Order) (k : ℕ) (bs : List Bool) → length (pack o k bs) ≡ k
-unfolding pack
-length-pack o zero bs = refl
-length-pack o (suc k) bs = ap suc (length-pack o k (drop 8 bs))
+pub length-bytes-of : (o : Order) (k : ℕ) (bs : List Bool) → length (bytesOf o k bs) ≡ k
+unfolding bytesOf
+length-bytes-of o zero bs = refl
+length-bytes-of o (suc k) bs = ap suc (length-bytes-of o k (drop 8 bs))
 
 -- and bytes that have these bits are the packed ones
-pub pack-has : (o : Order) (b : List ℕ) (bs : List Bool) → AllBytes b → length bs ≡ 8 * length b → Has o b 0 bs → pack o (length b) bs ≡ b
-unfolding pack
-pack-has o [] bs a h l = refl
-pack-has o (x ∷ b) bs a h l =
+pub bytes-of-has : (o : Order) (b : List ℕ) (bs : List Bool) → AllBytes b → length bs ≡ 8 * length b → Has o b 0 bs → bytesOf o (length b) bs ≡ b
+unfolding bytesOf
+bytes-of-has o [] bs a h l = refl
+bytes-of-has o (x ∷ b) bs a h l =
     let e : val o 8 bs ≡ x = sym (ub-val o (x ∷ b) 0 8 bs (omega arith) l) ∙ ub-byte o (x ∷ b) 0 ∙ mod-eq-of-lt (a .0) in
     let s : Has o (x ∷ b) 0 (take 8 bs) × Has o (x ∷ b) (0 + length (take 8 bs)) (drop 8 bs) = has-split o (x ∷ b) 0 (take 8 bs) (drop 8 bs) (subst (λ (k : List Bool). Has o (x ∷ b) 0 k) (sym (take-append-drop 8 bs)) l) in
     let t : Has o (x ∷ b) 8 (drop 8 bs) = rw (length-take-le 8 bs (omega arith)) at (s .1) in
-    ap₂ (λ (y : ℕ) (c : List ℕ). y ∷ c) e (pack-has o b (drop 8 bs) (a .1) (rw length-drop (omega arith)) (unshift o x b 0 (drop 8 bs) t))
+    ap₂ (λ (y : ℕ) (c : List ℕ). y ∷ c) e (bytes-of-has o b (drop 8 bs) (a .1) (rw length-drop (omega arith)) (unshift o x b 0 (drop 8 bs) t))
 
 -- ---- bytes in front of others
 pub bytes-append : (b c : List ℕ) → AllBytes b → AllBytes c → AllBytes (b ++ c)
@@ -151,12 +151,12 @@ has-more o b c p (y ∷ bs) h =
     (rw (List·getD-append b c 0 (p / 8) l) (h .0), has-more o b c (suc p) bs (h .1))
 
 -- the packed bits of a front are its bytes
-pub pack-front : (o : Order) (k : ℕ) (b : List ℕ) (bs : List Bool) → AllBytes b → k ≤ length b → length bs ≡ 8 * k → Has o b 0 bs → pack o k bs ≡ take k b
-unfolding pack
-pack-front o zero b bs a k h l = refl
-pack-front o (suc n) [] bs a k h l = absurd (omega arith)
-pack-front o (suc n) (x ∷ b) bs a k h l =
+pub bytes-of-front : (o : Order) (k : ℕ) (b : List ℕ) (bs : List Bool) → AllBytes b → k ≤ length b → length bs ≡ 8 * k → Has o b 0 bs → bytesOf o k bs ≡ take k b
+unfolding bytesOf
+bytes-of-front o zero b bs a k h l = refl
+bytes-of-front o (suc n) [] bs a k h l = absurd (omega arith)
+bytes-of-front o (suc n) (x ∷ b) bs a k h l =
     let e : val o 8 bs ≡ x = sym (ub-val o (x ∷ b) 0 8 bs (omega arith) l) ∙ ub-byte o (x ∷ b) 0 ∙ mod-eq-of-lt (a .0) in
     let s : Has o (x ∷ b) 0 (take 8 bs) × Has o (x ∷ b) (0 + length (take 8 bs)) (drop 8 bs) = has-split o (x ∷ b) 0 (take 8 bs) (drop 8 bs) (subst (λ (k : List Bool). Has o (x ∷ b) 0 k) (sym (take-append-drop 8 bs)) l) in
     let t : Has o (x ∷ b) 8 (drop 8 bs) = rw (length-take-le 8 bs (omega arith)) at (s .1) in
-    ap₂ (λ (y : ℕ) (c : List ℕ). y ∷ c) e (pack-front o n b (drop 8 bs) (a .1) (omega arith) (rw length-drop (omega arith)) (unshift o x b 0 (drop 8 bs) t))
+    ap₂ (λ (y : ℕ) (c : List ℕ). y ∷ c) e (bytes-of-front o n b (drop 8 bs) (a .1) (omega arith) (rw length-drop (omega arith)) (unshift o x b 0 (drop 8 bs) t))

@@ -1,5 +1,5 @@
 -- Document 01's worked files and items P1 to P11, as one table that the definitions compute; files and items in low order (C-18), files in an order
--- that is neither, and long headers on short bodies (C-11), alike.
+-- that is neither, long headers on short bodies (C-11) and packed bodies (C-17), alike.
 use Prim.Native.Nat.{ℕ, zero, suc}
 use mathlib.Core.List.{List, [], _∷_, _++_, map}
 use mathlib.Core.Path.{_≡_, refl}
@@ -8,8 +8,9 @@ use Rattle.format.specs.Reading.{Ending, At, Fault}
 use Rattle.format.specs.Formats.{Item, Format, item, _▸_, times}
 use Rattle.format.specs.Items.{readItem, readVar, readLE, readFlag, run, u32, i32, path}
 use Rattle.format.specs.Bodies.{textPathOption, maskBlock, readBlock, allFlags, rows, Body, fixed, attributes, readPart, readBody}
-use Rattle.format.specs.FileAndTags.{classOf, walk}
-use Rattle.format.specs.Reasons.{startFault, walkFile, Result, gives, refuses, readFile, readTags, accepted, Left, refusesWith, into}
+use Rattle.format.specs.FileAndTags.{classOf, eights, packed, walk}
+use Rattle.format.specs.TableOfNumbers.{spread, unpacked, changed, pack, unpack}
+use Rattle.format.specs.Reasons.{startFault, walkFile, Result, gives, refuses, readFile, readPlain, readTags, accepted, Left, refusesWith, into}
 
 -- a file at a level; a whole body; a format that need not use up its bytes
 pub data Case : Type 0 where
@@ -46,14 +47,14 @@ examples =
       given = file 1023 file1;
       gives = gives (0 ∷ 0 ∷ 1 ∷ 0 ∷ []);
     }
-    -- P2 and P3
+    -- P2 and P3: its middle, packed (C-17)
     ∷ record {
       given = file 1023 file2;
       gives = gives (0 ∷ 7 ∷ 1 ∷ 5 ∷ 255 ∷ 128 ∷ 0 ∷ 640 ∷ 18446744073709551615 ∷ 0 ∷ 1 ∷ 0 ∷ []);
     }
     ∷ record {
       given = file 6 file2;
-      gives = gives (0 ∷ 7 ∷ 0 ∷ 6 ∷ 255 ∷ 128 ∷ 0 ∷ 128 ∷ 10 ∷ 3 ∷ 0 ∷ 1 ∷ 0 ∷ []);
+      gives = gives (0 ∷ 7 ∷ 0 ∷ 2 ∷ 6 ∷ 3343632072959 ∷ 0 ∷ 1 ∷ 0 ∷ []);
     }
     -- P4 and P5, masks
     ∷ record {
@@ -80,7 +81,7 @@ examples =
     ∷ []
 
 pub P1-to-P11 : map (λ (x : Example). read 0 (x .given)) examples ≡ map (λ (x : Example). x .gives) examples
-unfolding readFile walkFile startFault classOf walk readBody readPart readBlock allFlags rows run times readItem readVar readFlag ub bitAt
+unfolding readFile walkFile startFault classOf walk readBody readPart readBlock allFlags rows run times readItem readVar readFlag ub bitAt eights
 P1-to-P11 = refl
 
 -- ---- Low order. "In low order the first bit read is the low bit of the byte and the lowest of its field; skipped bits are then the high ones."
@@ -150,14 +151,14 @@ lowExamples =
       given = body (fixed path) (0x02 ∷ 0xDB ∷ 0x0F ∷ 0x00 ∷ 0x00 ∷ 0x00 ∷ 0xF8 ∷ 0xFF ∷ 0xFF ∷ 0xFF ∷ 0x07 ∷ []);
       gives = gives (2 ∷ 3 ∷ 3 ∷ 32 ∷ 1 ∷ 18446744073709551615 ∷ []);
     }
-    -- files: the mask above; the same at level 13, where it is opaque, and its bytes know no order; P2, which has no bit fields
+    -- files: the mask above; the same at level 13, where it is opaque, and its bytes know no order (8 + 256 × 1 + 65536 × 128); P2, which has no bit fields
     ∷ record {
       given = file 1023 lowMask;
       gives = gives (0 ∷ 14 ∷ 1 ∷ 8 ∷ 1 ∷ 1 ∷ 0 ∷ 0 ∷ 0 ∷ 1 ∷ 128 ∷ 0 ∷ 0 ∷ 1 ∷ 0 ∷ []);
     }
     ∷ record {
       given = file 13 lowMask;
-      gives = gives (0 ∷ 14 ∷ 0 ∷ 3 ∷ 8 ∷ 1 ∷ 128 ∷ 0 ∷ 1 ∷ 0 ∷ []);
+      gives = gives (0 ∷ 14 ∷ 0 ∷ 2 ∷ 3 ∷ 8388872 ∷ 0 ∷ 1 ∷ 0 ∷ []);
     }
     ∷ record {
       given = file 1023 file2;
@@ -166,7 +167,7 @@ lowExamples =
     ∷ []
 
 pub low-examples : map (λ (x : Example). read 1 (x .given)) lowExamples ≡ map (λ (x : Example). x .gives) lowExamples
-unfolding readFile walkFile startFault classOf walk readBody readPart readBlock allFlags rows run times readItem readVar readLE readFlag ub bitAt
+unfolding readFile walkFile startFault classOf walk readBody readPart readBlock allFlags rows run times readItem readVar readLE readFlag ub bitAt eights
 low-examples = refl
 
 -- ---- An order that is neither: "24 for an order that is neither, tried after 1". P1; P1 at level 1024; no bytes, which is 2 in either order
@@ -210,7 +211,7 @@ longExamples =
     }
     ∷ record {
       given = file 6 longSolid;
-      gives = gives (0 ∷ 7 ∷ 2 ∷ 6 ∷ 255 ∷ 128 ∷ 0 ∷ 128 ∷ 10 ∷ 3 ∷ 0 ∷ 1 ∷ 0 ∷ []);
+      gives = gives (0 ∷ 7 ∷ 2 ∷ 2 ∷ 6 ∷ 3343632072959 ∷ 0 ∷ 1 ∷ 0 ∷ []);
     }
     ∷ record {
       given = file 1023 longContainer;
@@ -218,16 +219,16 @@ longExamples =
     }
     ∷ record {
       given = file 1 longContainer;
-      gives = gives (0 ∷ 2 ∷ 2 ∷ 7 ∷ 5 ∷ 63 ∷ 0 ∷ 0 ∷ 0 ∷ 0 ∷ 0 ∷ 0 ∷ 1 ∷ 0 ∷ []);
+      gives = gives (0 ∷ 2 ∷ 2 ∷ 2 ∷ 7 ∷ 16133 ∷ 0 ∷ 1 ∷ 0 ∷ []);
     }
     -- the opaque tag 8 with 62 bytes and with 63
     ∷ record {
       given = file 1023 (0x50 ∷ 0x41 ∷ 0x47 ∷ 0x01 ∷ 0x4F ∷ 0x00 ∷ 0x00 ∷ 0x00 ∷ 0x00 ∷ 0x3F ∷ 0x02 ∷ 0x3E ∷ 0x00 ∷ 0x00 ∷ 0x00 ∷ (zeros 62 ++ 0 ∷ 0 ∷ []));
-      gives = gives (0 ∷ 8 ∷ 2 ∷ 62 ∷ (zeros 62 ++ 0 ∷ 1 ∷ 0 ∷ []));
+      gives = gives (0 ∷ 8 ∷ 2 ∷ 9 ∷ 62 ∷ (zeros 8 ++ 0 ∷ 1 ∷ 0 ∷ []));
     }
     ∷ record {
       given = file 1023 (0x50 ∷ 0x41 ∷ 0x47 ∷ 0x01 ∷ 0x50 ∷ 0x00 ∷ 0x00 ∷ 0x00 ∷ 0x00 ∷ 0x3F ∷ 0x02 ∷ 0x3F ∷ 0x00 ∷ 0x00 ∷ 0x00 ∷ (zeros 63 ++ 0 ∷ 0 ∷ []));
-      gives = gives (0 ∷ 8 ∷ 0 ∷ 63 ∷ (zeros 63 ++ 0 ∷ 1 ∷ 0 ∷ []));
+      gives = gives (0 ∷ 8 ∷ 0 ∷ 9 ∷ 63 ∷ (zeros 8 ++ 0 ∷ 1 ∷ 0 ∷ []));
     }
     -- refusals: a long header that is cut, one with 62 and no body, End by one with 1
     ∷ record { given = file 1023 (0x50 ∷ 0x41 ∷ 0x47 ∷ 0x01 ∷ 0x0E ∷ 0x00 ∷ 0x00 ∷ 0x00 ∷ 0x00 ∷ 0x3F ∷ 0x02 ∷ 0x3E ∷ 0x00 ∷ 0x00 ∷ []); gives = refuses 6 9 }
@@ -236,13 +237,37 @@ longExamples =
     ∷ []
 
 pub long-examples : map (λ (x : Example). read 0 (x .given)) longExamples ≡ map (λ (x : Example). x .gives) longExamples
-unfolding readFile walkFile startFault classOf walk readBody readPart run times readItem readVar ub bitAt
+unfolding readFile walkFile startFault classOf walk readBody readPart run times readItem readVar ub bitAt eights
 long-examples = refl
 
 -- its row has header size 6
 pub long-row : readTags 0 1023 longEnd ≡ gives (0 ∷ 0 ∷ 9 ∷ 6 ∷ 0 ∷ [])
 unfolding readTags walkFile startFault classOf walk
 long-row = refl
+
+-- ---- Packed bodies (C-17). "Hold an opaque body as its byte length and then eight bytes to a number, lowest byte first, the last number filled with
+-- zeros." Of no bytes, one, eight and nine: 1 + 2 × 256 + … + 8 × 256 ^ 7 is 0807060504030201
+
+abbrev pub bodies : List (List ℕ)
+bodies = [] ∷ (200 ∷ []) ∷ (1 ∷ 2 ∷ 3 ∷ 4 ∷ 5 ∷ 6 ∷ 7 ∷ 8 ∷ []) ∷ (1 ∷ 2 ∷ 3 ∷ 4 ∷ 5 ∷ 6 ∷ 7 ∷ 8 ∷ 255 ∷ []) ∷ []
+
+abbrev pub packedBodies : List (List ℕ)
+packedBodies = (0 ∷ []) ∷ (1 ∷ 200 ∷ []) ∷ (8 ∷ 0x0807060504030201 ∷ []) ∷ (9 ∷ 0x0807060504030201 ∷ 255 ∷ []) ∷ []
+
+pub packed-examples : (map packed bodies ≡ packedBodies) × (map unpacked packedBodies ≡ bodies)
+unfolding eights spread
+packed-examples = (refl, refl)
+
+-- P3's plain table is document 01's own: 7, 0, 6, and the six bytes; `pack` and `unpack` turn the two into each other
+abbrev plain3 : List ℕ
+plain3 = 0 ∷ 7 ∷ 0 ∷ 6 ∷ 255 ∷ 128 ∷ 0 ∷ 128 ∷ 10 ∷ 3 ∷ 0 ∷ 1 ∷ 0 ∷ []
+
+abbrev packed3 : List ℕ
+packed3 = 0 ∷ 7 ∷ 0 ∷ 2 ∷ 6 ∷ 3343632072959 ∷ 0 ∷ 1 ∷ 0 ∷ []
+
+pub plain-P3 : (readPlain 0 6 file2 ≡ gives plain3) × (pack plain3 ≡ packed3) × (unpack packed3 ≡ plain3)
+unfolding readPlain walkFile startFault classOf walk eights changed spread
+plain-P3 = (refl, refl, refl)
 
 -- the room: P1 needs four numbers, and its tag table five; what is lent past these stays, and a refusal changes nothing
 pub record RoomExample : Type 0 where

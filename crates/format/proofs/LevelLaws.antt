@@ -16,7 +16,7 @@ use Rattle.format.specs.Reading.{Ending, At, Fault}
 use Rattle.format.specs.Formats.{Format}
 use Rattle.format.specs.Items.{run}
 use Rattle.format.specs.Bodies.{readBody}
-use Rattle.format.specs.FileAndTags.{Class, opaque, end, container, known, codes, classOf, isEnd, isContainer, longOnShort, stateOf, Tag, Outcome, whole, fault, Walk, broken, chain, Head, head, noHead, rawHead, passes, readHead, Owner, file, inside, TagInside, endAt, noTags, front, opened, within, afterTag, tagThen, oneTag, walk, walkList}
+use Rattle.format.specs.FileAndTags.{Class, opaque, end, container, known, codes, classOf, isEnd, isContainer, longOnShort, stateOf, packed, Tag, Outcome, whole, fault, Walk, broken, chain, Head, head, noHead, rawHead, passes, readHead, Owner, file, inside, TagInside, endAt, noTags, front, opened, within, afterTag, tagThen, oneTag, walk, walkList}
 use Rattle.format.specs.Reasons.{startFault, walkFile}
 use Rattle.format.specs.Levels.{endOf, veil, hideFrom, hide, InHidden, here, later, Refuses, alike, apart, Levels}
 use Rattle.format.proofs.WalkLaws.{run-le, RawFits, raw-fits, Between, between-wider, FaultIn, Before, before-later, Placed, placed-within, placed-after, placed}
@@ -241,7 +241,7 @@ module _ (ch cl : ℕ → Class) (lo : ℕ)
 
           by : (C : Class) → Kin lo f a (tagThen d code a size (length body) st (within o (RH left) C a (a + size) body) Hw) (tagThen d code a size (length body) st (within o (RL left) C a (a + size) body) Lw)
               (tagThen d code a size (length body) st (within o (RH left) C a (a + size) body) Hw .ended)
-          by opaque = sure body (noTags whole) (noTags whole) tt (refl, refl)
+          by opaque = sure (packed body) (noTags whole) (noTags whole) tt (refl, refl)
           by end = sure [] (noTags whole) (noTags whole) tt (refl, refl)
           by (known y) = sure (readBody o y body .shown) (noTags (endAt a (readBody o y body .ended))) (noTags (endAt a (readBody o y body .ended))) tt (kin-none lo f (a + size) (endAt a (readBody o y body .ended)))
           by (container g) = deep g (run o body (front g) 0 .shown) (run o body (front g) 0 .ended) refl
@@ -296,7 +296,7 @@ module _ (ch cl : ℕ → Class) (lo : ℕ)
               (chain (record { depth = 8 - left; code = code; place = a; headerSize = size; bodyLength = len; state = s; values = vs } ∷ []) whole (RL left c (a + size + len) left-over))
               (tagThen (8 - left) code a size len st i (RH left c (a + size + len) left-over) .ended))
               (state-veiled (ch code) (longOnShort size len))
-              (rw body-length at (part-plain f (a + size) body body-part))
+              (ap packed (rw body-length at (part-plain f (a + size) body body-part)))
               (kin-veiled lo f (record { depth = 8 - left; code = code; place = a; headerSize = size; bodyLength = len; state = st; values = i .values })
               (a + size + len + length left-over) (i .walk) (RH left c (a + size + len) left-over) (RL left c (a + size + len) left-over) big (omega arith)
               (rw body-length at (placed-within o ch (RH (pred left)) (puts (pred left)) (ch code) a (a + size) body (omega arith)))

@@ -1,9 +1,10 @@
--- The theorems: document 01's examples; the round trip; two levels of one file; how much room tables need; the reasons of refusals; a good start; what an answer says.
+-- The theorems: document 01's examples; the round trip; two levels of one file; the plain table and the packed one; how much room tables need; the reasons of refusals; a good start; what an answer says.
 pub mod Examples
 pub mod Tested
 pub mod RoundTrip
 pub mod Promises
 pub mod LevelLaws
+pub mod PlainLaws
 pub mod RoomLaws
 pub mod ReasonLaws
 pub mod StartLaws
@@ -24,4 +25,5 @@ pub mod BlockLaws
 pub mod BodyLaws
 pub mod HeadLaws
 pub mod StateLaws
+pub mod PackLaws
 pub mod ListTrip

@@ -15,8 +15,8 @@ use Rattle.format.specs.Items.{run}
 use Rattle.format.specs.FileAndTags.{Class, opaque, end, container, known, isEnd, Walk, broken, Head, head, noHead, stateOf, readHead, Owner, inside, blame, TagInside, front, opened, within, afterTag, tagThen, oneTag, walk, walkList}
 use Rattle.format.specs.WritingFormats.{unrun}
 use Rattle.format.specs.Possible.{Possible, this, cannot}
-use Rattle.format.specs.WritingBodies.{packed, writeBody}
-use Rattle.format.specs.WritingFiles.{Made, made, claims, fitsState, spellHead, fitsHead, allBytes, bodyOf, joined, fronted, fill, outTag, headed, outOne, unwalk, unwalkList}
+use Rattle.format.specs.WritingBodies.{wholeBytes, writeBody}
+use Rattle.format.specs.WritingFiles.{Made, made, claims, fitsState, spellHead, fitsHead, unpackedAs, bodyOf, joined, fronted, fill, outTag, headed, outOne, unwalk, unwalkList}
 use Rattle.format.proofs.WalkLaws.{Fits, head-fits}
 
 -- ---- reading
@@ -99,15 +99,15 @@ short-joined n xs b cannot h = tt
 module _ (o : Order) (class : ℕ → Class) where
   -- what is left is no longer than what was given
   module _ (U : ℕ → List ℕ → Possible Made) (short : (left : ℕ) (ns : List ℕ) → Short (length ns) (U left ns)) where
+    short-body : (left s n : ℕ) (vs ys : List ℕ) (b : Possible (List ℕ)) → Short (length ys) (bodyOf (s ∷ n ∷ vs) b ys)
+    short-body left s n vs ys (this b) = omega arith
+    short-body left s n vs ys cannot = tt
+
     short-fill : (left : ℕ) (cl : Class) (s n : ℕ) (vs ys : List ℕ) → Short (length ys) (fill o (U (pred left)) left cl s n vs ys)
-    short-fill left opaque s n vs ys = short-pick _ (allBytes vs) (this (made (s ∷ n ∷ vs) vs ys)) (omega arith)
+    short-fill left opaque s n vs ys = short-body left s n vs ys (unpackedAs vs)
     short-fill left end s n vs ys = short-pick _ (eqb n 0) (this (made (s ∷ n ∷ vs) [] ys)) (omega arith)
-    short-fill left (known y) s n vs ys = go (writeBody o y vs)
-      where
-        go : (b : Possible (List ℕ)) → Short (length ys) (bodyOf (s ∷ n ∷ vs) b ys)
-        go (this b) = omega arith
-        go cannot = tt
-    short-fill left (container f) s n vs ys = go (eqb left 0) (packed o (unrun o (front f) vs 0))
+    short-fill left (known y) s n vs ys = short-body left s n vs ys (writeBody o y vs)
+    short-fill left (container f) s n vs ys = go (eqb left 0) (wholeBytes o (unrun o (front f) vs 0))
       where
         go : (c : Bool) (b : Possible (List ℕ)) → Short (length ys) (pick c cannot (fronted (s ∷ n ∷ vs) b (U (pred left) ys)))
         go true b = tt
@@ -146,7 +146,7 @@ module _ (o : Order) (class : ℕ → Class) where
     fill-alike left end s n vs ys l = refl
     fill-alike left (known y) s n vs ys l = refl
     fill-alike left (container f) s n vs ys l =
-        ap (λ (x : Possible Made). pick (eqb left 0) cannot (fronted (s ∷ n ∷ vs) (packed o (unrun o (front f) vs 0)) x)) (alike (pred left) ys l)
+        ap (λ (x : Possible Made). pick (eqb left 0) cannot (fronted (s ∷ n ∷ vs) (wholeBytes o (unrun o (front f) vs 0)) x)) (alike (pred left) ys l)
 
     tag-alike : (left : ℕ) (cl : Class) (ns : List ℕ) → length ns ≤ m → outTag o (U (pred left)) left cl ns ≡ outTag o (U′ (pred left)) left cl ns
     tag-alike left cl [] l = refl

@@ -14,44 +14,25 @@ use Rattle.format.specs.Reading.{Ending, At, Fault, shows, stop}
 use Rattle.format.specs.Formats.{Format, the}
 use Rattle.format.specs.Items.{skipped, readItem, run}
 use Rattle.format.specs.Bodies.{readBody}
-use Rattle.format.specs.FileAndTags.{Class, opaque, end, container, known, isEnd, isContainer, isRead, longOnShort, stateOf, Tag, Outcome, whole, fault, Walk, chain, Head, head, noHead, rawHead, passes, readHead, Owner, inside, TagInside, front, opened, within, atEnd, afterTag, tagThen, oneTag, walkList}
+use Rattle.format.specs.FileAndTags.{Class, opaque, end, container, known, isEnd, isContainer, isRead, longOnShort, stateOf, packed, Tag, Outcome, whole, fault, Walk, chain, Head, head, noHead, rawHead, passes, readHead, Owner, inside, TagInside, front, opened, within, atEnd, afterTag, tagThen, oneTag, walkList}
 use Rattle.format.specs.TableOfNumbers.{numbers}
 use Rattle.format.specs.Possible.{Possible, this, cannot}
 use Rattle.format.specs.WritingItems.{Written, wrote, writeItem}
 use Rattle.format.specs.WritingFormats.{unrun}
-use Rattle.format.specs.WritingBodies.{pack, writeBody}
-use Rattle.format.specs.WritingFiles.{Made, made, claims, fitsState, spellHead, fitsHead, allBytes, joined, fill, outTag, headed, outOne, unwalkList}
+use Rattle.format.specs.WritingBodies.{bytesOf, writeBody}
+use Rattle.format.specs.WritingFiles.{Made, made, claims, fitsState, spellHead, fitsHead, unpackedAs, joined, fill, outTag, headed, outOne, unwalkList}
 use Rattle.format.proofs.BitLaws.{length-dig}
 use Rattle.format.proofs.BodyLaws.{body-there, body-back, ReadIf}
-use Rattle.format.proofs.ByteLaws.{has-pack, pack-bytes, length-pack, bytes-append, bytes-take, bytes-drop, has-more, pack-front}
+use Rattle.format.proofs.ByteLaws.{has-bytes-of, bytes-of-bytes, length-bytes-of, bytes-append, bytes-take, bytes-drop, has-more, bytes-of-front}
 use Rattle.format.proofs.EngineLaws.{numbers-append}
 use Rattle.format.proofs.HeadLaws.{Lengths, head-back, claim-back, HeadIf, head-there, spell-two, spell-bytes}
 use Rattle.format.proofs.ItemLaws.{round-trip}
 use Rattle.format.proofs.StateLaws.{state-fits, state-claims}
+use Rattle.format.proofs.PackLaws.{unpacked-there, PackedIf, unpacked-back}
 use Rattle.format.proofs.ListLaws.{list-nil, list-one, unlist-nil, unlist-one}
 use Rattle.format.proofs.Trip.{There, Back, has-le}
 use Rattle.format.proofs.WalkLaws.{Fits, head-fits}
 use Rattle.format.proofs.Absurd.{clash}
-
-all-bytes : (b : List ℕ) → AllBytes b → allBytes b ≡ true
-all-bytes [] h = refl
-all-bytes (x ∷ b) h = rw (lt-ltb x 256 (h .0)) (all-bytes b (h .1))
-
-abbrev If : Bool → Type 0 → Type 0
-If true A = A
-If false A = Unit {0}
-
-if-map : (c : Bool) (A B : Type 0) → (A → B) → If c A → If c B
-if-map true A B f h = f h
-if-map false A B f h = tt
-
-bytes-all : (b : List ℕ) → If (allBytes b) (AllBytes b)
-bytes-all [] = tt
-bytes-all (x ∷ b) = go (ltb x 256) refl (bytes-all b)
-  where
-    go : (c : Bool) → ltb x 256 ≡ c → If (allBytes b) (AllBytes b) → If (pick (ltb x 256) (allBytes b) false) (AllBytes (x ∷ b))
-    go true e h = rw e (if-map (allBytes b) (AllBytes b) (AllBytes (x ∷ b)) (λ l. (ltb-true x 256 e, l)) h)
-    go false e h = rw e tt
 
 -- the values are cut off and put back
 cut-back : (n : ℕ) (vs ys : List ℕ) → length vs ≡ n → (take n (vs ++ ys) ≡ vs) × (drop n (vs ++ ys) ≡ ys) × (leb n (length (vs ++ ys)) ≡ true)
@@ -119,7 +100,7 @@ module _ (o : Order) (class : ℕ → Class) where
         → WholeIf (within o (walkList o class (pred left)) cl a s body .walk .ended)
         (Again (outTag o (unwalkList o class (pred left)) left cl) (inNumbers st (within o (walkList o class (pred left)) cl a s body)) body)
     tag-there left opaque st a s body k l h he hc =
-        again-fill o (unwalkList o class (pred left)) left opaque st body [] body k (λ ys. rw (all-bytes body h, append-nil body))
+        again-fill o (unwalkList o class (pred left)) left opaque st (packed body) [] body k (λ ys. rw (unpacked-there body h, append-nil))
     tag-there left end st a s [] k l h he hc = again-fill o (unwalkList o class (pred left)) left end st [] [] [] k (λ ys. refl)
     tag-there left end st a s (x ∷ body) k l h he hc =
         absurd (let t : ltb 0 (suc (length body)) ≡ true = lt-ltb 0 (suc (length body)) (omega arith) in clash cc)
@@ -148,7 +129,7 @@ module _ (o : Order) (class : ℕ → Class) where
         inner p xs cs v u i = again-fill o W left (container f) st xs cs body k (λ ys.
             let q : unrun o (front f) xs 0 ≡ this (wrote xs (u .bits) []) = rw append-nil at (u .again []) in
             let n : length (u .bits) / 8 ≡ p / 8 = omega (arith, u .ends) in
-            let z : pack o (p / 8) (u .bits) ≡ take (p / 8) body = pack-front o (p / 8) body (u .bits) h (omega (arith, u .ends, has-le o body 0 (u .bits) (u .has))) (omega (arith, u .ends)) (u .has) in
+            let z : bytesOf o (p / 8) (u .bits) ≡ take (p / 8) body = bytes-of-front o (p / 8) body (u .bits) h (omega (arith, u .ends, has-le o body 0 (u .bits) (u .has))) (omega (arith, u .ends)) (u .has) in
             rw (hc, q, n, z, i ys, take-append-drop (p / 8) body))
 
         deep : (p : ℕ) (xs : List ℕ) → There o body 0 p xs (λ ns p. unrun o (front f) ns p) → 8 * (p / 8) ≡ p → (w : Walk)
@@ -278,11 +259,11 @@ module _ (o : Order) (class : ℕ → Class) where
 
   fill-back : (left : ℕ) (cl : Class) (s k : ℕ) (vs ys : List ℕ) → fitsState cl s ≡ true → length vs ≡ k → ListIf (pred left) ys (unwalkList o class (pred left) ys)
       → TagIf left cl (s ∷ k ∷ (vs ++ ys)) (fill o (unwalkList o class (pred left)) left cl s k vs ys)
-  fill-back left opaque s k vs ys e l i = go (allBytes vs) refl (bytes-all vs)
+  fill-back left opaque s k vs ys e l i = go (unpackedAs vs) refl (unpacked-back vs)
     where
-      go : (d : Bool) → allBytes vs ≡ d → If d (AllBytes vs) → TagIf left opaque (s ∷ k ∷ (vs ++ ys)) (fill o (unwalkList o class (pred left)) left opaque s k vs ys)
-      go false e′ h = rw e′ tt
-      go true e′ h = rw e′ (refl, h, refl, refl, λ a s′. (refl, rw (l, append-nil)), e)
+      go : (d : Possible (List ℕ)) → unpackedAs vs ≡ d → PackedIf vs d → TagIf left opaque (s ∷ k ∷ (vs ++ ys)) (fill o (unwalkList o class (pred left)) left opaque s k vs ys)
+      go cannot e′ h = rw e′ tt
+      go (this b) e′ h = rw e′ (refl, h .0, refl, refl, λ a s′. (refl, ap (λ (z : List ℕ). s ∷ length z ∷ (z ++ [])) (h .1) ∙ rw (l, append-nil)), e)
   fill-back left end s k vs ys e l i = go (eqb k 0) refl vs l
     where
       go : (d : Bool) → eqb k 0 ≡ d → (vs : List ℕ) → length vs ≡ k → TagIf left end (s ∷ k ∷ (vs ++ ys)) (fill o (unwalkList o class (pred left)) left end s k vs ys)
@@ -306,15 +287,15 @@ module _ (o : Order) (class : ℕ → Class) where
 
       join : (xs cs body ys′ : List ℕ) (bs : List Bool) → eqb left 0 ≡ false → 8 * (length bs / 8) ≡ length bs → Back o vs xs bs [] 0 (λ b p. run o b (front f) p)
           → (ys ≡ cs ++ ys′) × AllBytes body × ((c : Owner) (a : ℕ) → Spelt cs (R c a body))
-          → TagIf left (container f) (s ∷ k ∷ (vs ++ ys)) (this (made (s ∷ k ∷ (vs ++ cs)) (pack o (length bs / 8) bs ++ body) ys′))
+          → TagIf left (container f) (s ∷ k ∷ (vs ++ ys)) (this (made (s ∷ k ∷ (vs ++ cs)) (bytesOf o (length bs / 8) bs ++ body) ys′))
       join xs cs body ys′ bs h m u i =
-          let b : List ℕ = pack o (length bs / 8) bs in
-          let r : run o (b ++ body) (front f) 0 ≡ shows xs (0 + length bs) = u .reads (b ++ body) (has-more o b body 0 bs (has-pack o (length bs / 8) bs (sym m))) in
-          let d : drop (length bs / 8) (b ++ body) ≡ body = rw length-pack at (drop-append-seam b body) in
+          let b : List ℕ = bytesOf o (length bs / 8) bs in
+          let r : run o (b ++ body) (front f) 0 ≡ shows xs (0 + length bs) = u .reads (b ++ body) (has-more o b body 0 bs (has-bytes-of o (length bs / 8) bs (sym m))) in
+          let d : drop (length bs / 8) (b ++ body) ≡ body = rw length-bytes-of at (drop-append-seam b body) in
           let z : (0 + length bs) / 8 ≡ length bs / 8 = omega arith in
           let x : xs ≡ vs = sym (u .parts ∙ append-nil xs) in (
             rw (i .0, append-assoc vs cs ys′),
-            bytes-append b body (pack-bytes o (length bs / 8) bs) (i .1),
+            bytes-append b body (bytes-of-bytes o (length bs / 8) bs) (i .1),
             refl,
             h,
             λ a s′. rw (r, z, d, x, ← l) (i .2 (inside a) (s′ + length bs / 8) .0, ap (λ (q : List ℕ). s ∷ length vs ∷ (vs ++ q)) (i .2 (inside a) (s′ + length bs / 8) .1)),

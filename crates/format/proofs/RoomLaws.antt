@@ -1,9 +1,9 @@
 -- The room that tables need (C-21): `table-room` and `tags-room`, at the end. The lists' bound holds for every ending.
 use Prim.Native.Nat.{ℕ, zero, suc, pred, _+_, _-_, _*_, _/_, _≤_}
-use mathlib.Core.List.{List, [], _∷_, _++_, append-nil}
+use mathlib.Core.List.{List, [], _∷_, _++_, append-nil, map}
 use mathlib.Core.Path.{_≡_, refl, ap, subst}
 use mathlib.Core.Bool.{Bool, true, false}
-use lib.ListN.{length, getD, take, drop, length-append, length-drop}
+use lib.ListN.{length, getD, take, drop, length-append, length-take, length-drop}
 use lib.Seq.{length-take-le}
 use lib.Dec.{ltb, eqb}
 use borrow.Author.Tests.{eqb-true}
@@ -14,13 +14,15 @@ use Rattle.format.specs.Reading.{Ending, At, Fault, Reading, shows, stop
 use Rattle.format.specs.Formats.{Item, nothing, item, _▸_, times, the}
 use Rattle.format.specs.Items.{skipped, readItem, run, u32, i32, time, float, byte, color, string, count}
 use Rattle.format.specs.Bodies.{fontTables, compositionAttributes, solidColor, Kind, Value, Fixed, BitFlag, Simple, Discrete, Attribute, flagsOf, content, allFlags, rows, handOn, readBlock, Body, fixed, attributes, readPart, usedUp, readBody}
-use Rattle.format.specs.FileAndTags.{Class, opaque, end, container, known, codes, classOf, isEnd, Tag, Outcome, whole, fault, Walk, broken, chain, Head, head, noHead, stateOf, readHead, Owner, file, inside, TagInside, front, opened, within, afterTag, tagThen, oneTag, walk, walkList}
-use Rattle.format.specs.TableOfNumbers.{numbers, table, tagTable}
-use Rattle.format.specs.Reasons.{startFault, walkFile, gives, result, readFile, readTags}
+use Rattle.format.specs.FileAndTags.{Class, opaque, end, container, known, codes, classOf, isEnd, Tag, Outcome, whole, fault, Walk, broken, chain, Head, head, noHead, isRead, longOnShort, stateOf, readHead, Owner, file, inside, TagInside, front, opened, within, afterTag, tagThen, oneTag, walk, walkList}
+use Rattle.format.specs.TableOfNumbers.{numbers, table, isOpaque, bodyIn, plainTag, plainTable, tagTable}
+use Rattle.format.specs.Reasons.{startFault, walkFile, gives, result, readFile, readPlain, readTags}
 use Rattle.format.specs.WritingBodies.{writePart}
 use Rattle.format.proofs.BlockLaws.{as-many}
 use Rattle.format.proofs.BodyLaws.{trip-part}
 use Rattle.format.proofs.EngineLaws.{numbers-append}
+use Rattle.format.proofs.PackLaws.{length-eights}
+use Rattle.format.proofs.StateLaws.{state-opaque}
 use Rattle.format.proofs.StartLaws.{good-start}
 use Rattle.format.proofs.SizeLaws.{FairEnd, FairReading, Fair, fair-item, fair-nothing, fair-echo, fair-more, fair-then, fair-seq, fair-times, fair-byte, fair-content, fair-only}
 use Rattle.format.proofs.Trip.{There, has-le}
@@ -40,9 +42,22 @@ abbrev pub fixedCount : List Attribute → ℕ
 fixedCount [] = 0
 fixedCount (a ∷ attrs) = fixedBy (a .kind) + fixedCount attrs
 
--- n bytes of room give at most 8 × n numbers and n / 2 tags, whatever the ending
+-- the bytes of a tag's body if it is opaque, and of all of them
+abbrev opaqueBytes : Tag → ℕ
+opaqueBytes t = pick (isOpaque (t .state)) (t .bodyLength) 0
+
+abbrev allOpaque : List Tag → ℕ
+allOpaque [] = 0
+allOpaque (t ∷ ts) = opaqueBytes t + allOpaque ts
+
+all-opaque-append : (ts us : List Tag) → allOpaque (ts ++ us) ≡ allOpaque ts + allOpaque us
+all-opaque-append [] us = omega arith
+all-opaque-append (t ∷ ts) us = omega (arith, all-opaque-append ts us)
+
+-- n bytes of room give at most 8 × n numbers, also if the bytes of opaque bodies are counted beside their packed numbers, and n / 2 tags, whatever
+-- the ending
 pub record Room (n : ℕ) (w : Walk) : Type 0 where
-  pub count : length (numbers (w .tags)) ≤ 8 * n
+  pub count : length (numbers (w .tags)) + allOpaque (w .tags) ≤ 8 * n
   pub tags : 2 * length (w .tags) ≤ n
 
 module _ (o : Order) where
@@ -173,13 +188,13 @@ module _ (o : Order) where
 
   -- ---- lists
   module _ (class : ℕ → Class) (fair : (code : ℕ) → FairClass (class code)) where
-    -- the numbers of what stands in a tag, but for its state and count
+    -- the numbers of what stands in a tag, but for its state and count, and the bytes of the opaque bodies in it
     abbrev inside-count : TagInside → ℕ
-    inside-count i = length (i .values) + length (numbers (i .walk .tags))
+    inside-count i = length (i .values) + length (numbers (i .walk .tags)) + allOpaque (i .walk .tags)
 
     within-room : (R : Owner → ℕ → List ℕ → Walk) → ((c : Owner) (a : ℕ) (r : List ℕ) → Room (length r) (R c a r)) → (cl : Class) → FairClass cl → (a s : ℕ) (body : List ℕ)
-        → (inside-count (within o R cl a s body) ≤ 8 * length body + 13) × (2 * length (within o R cl a s body .walk .tags) ≤ length body)
-    within-room R u opaque h a s body = (omega arith, omega arith)
+        → (inside-count (within o R cl a s body) + pick (eqb (isRead cl) 0) (length body) 0 ≤ 8 * length body + 13) × (2 * length (within o R cl a s body .walk .tags) ≤ length body)
+    within-room R u opaque h a s body = (omega (arith, length-eights ((length body + 7) / 8) body), omega arith)
     within-room R u end h a s body = (omega arith, omega arith)
     within-room R u (known y) h a s body = (omega (arith, body-room y h body), omega arith)
     within-room R u (container f) h a s body = go (run o body (front f) 0 .ended) refl
@@ -189,7 +204,7 @@ module _ (o : Order) where
         xs = run o body (front f) 0 .shown
 
         go : (z : Ending) → run o body (front f) 0 .ended ≡ z → FairEnd 0 (8 * length body) 0 (length xs) z
-            → (inside-count (opened R a s body xs z) ≤ 8 * length body + 13) × (2 * length (opened R a s body xs z .walk .tags) ≤ length body)
+            → (inside-count (opened R a s body xs z) + 0 ≤ 8 * length body + 13) × (2 * length (opened R a s body xs z .walk .tags) ≤ length body)
         go (Fault e) eq v = (omega arith, omega arith)
         go (At p) eq v =
             let l : (0 ≤ p) × (p ≤ 8 * length body) = run-le o body (front f) 0 p (omega arith) eq in
@@ -202,7 +217,7 @@ module _ (o : Order) where
     after-room true c a (x ∷ r) next u = record { count = omega arith; tags = omega arith }
 
     -- a tag whose header and body have n bytes, and what follows it in m bytes
-    then-room : (d code a size len s m : ℕ) (i : TagInside) (w : Walk) → 2 ≤ size → inside-count i ≤ 8 * len + 13 → 2 * length (i .walk .tags) ≤ len → Room m w
+    then-room : (d code a size len s m : ℕ) (i : TagInside) (w : Walk) → 2 ≤ size → inside-count i + pick (isOpaque s) len 0 ≤ 8 * len + 13 → 2 * length (i .walk .tags) ≤ len → Room m w
         → Room (size + len + m) (tagThen d code a size len s i w)
     then-room d code a size len s m i w l h k u = go (i .walk .ended)
       where
@@ -218,6 +233,7 @@ module _ (o : Order) where
             length-append (i .values) (numbers (i .walk .tags ++ w .tags)),
             ap length (numbers-append (i .walk .tags) (w .tags)),
             length-append (numbers (i .walk .tags)) (numbers (w .tags)),
+            all-opaque-append (i .walk .tags) (w .tags),
           );
           tags = omega (arith, u .tags, length-append (i .walk .tags) (w .tags));
         }
@@ -238,11 +254,11 @@ module _ (o : Order) where
             let body : List ℕ = take len (drop size (x ∷ r)) in
             let n : length body ≡ len = length-take-le len (drop size (x ∷ r)) (rw length-drop (omega (arith, h .1))) in
             let m : size + len + length (drop (size + len) (x ∷ r)) ≡ length (x ∷ r) = rw length-drop (omega (arith, h .1)) in
-            let v : (inside-count (within o (R (pred left)) (class code) a (a + size) body) ≤ 8 * length body + 13) × (2 * length (within o (R (pred left)) (class code) a (a + size) body .walk .tags) ≤ length body) =
+            let v : (inside-count (within o (R (pred left)) (class code) a (a + size) body) + pick (eqb (isRead (class code)) 0) (length body) 0 ≤ 8 * length body + 13) × (2 * length (within o (R (pred left)) (class code) a (a + size) body .walk .tags) ≤ length body) =
             within-room (R (pred left)) (λ c a r. u (pred left) c a r) (class code) (fair code) a (a + size) body in
             subst (λ (n : ℕ). Room n (oneTag o class R left c a (x ∷ r) (head code len size))) m
             (then-room (8 - left) code a size len (stateOf (class code) size len) (length (drop (size + len) (x ∷ r))) (within o (R (pred left)) (class code) a (a + size) body)
-            (afterTag (isEnd (class code)) c (a + size + len) (drop (size + len) (x ∷ r)) (R left c)) (h .0) (omega (arith, v .0)) (omega (arith, v .1))
+            (afterTag (isEnd (class code)) c (a + size + len) (drop (size + len) (x ∷ r)) (R left c)) (h .0) (rw (state-opaque (class code) (longOnShort size len)) (subst (λ (m : ℕ). inside-count (within o (R (pred left)) (class code) a (a + size) body) + pick (eqb (isRead (class code)) 0) m 0 ≤ 8 * m + 13) n (v .0))) (omega (arith, v .1))
             (after-room (isEnd (class code)) c (a + size + len) (drop (size + len) (x ∷ r)) (R left c) (u left c (a + size + len) (drop (size + len) (x ∷ r)))))
 
   -- at a level: a list, and the body of a tag that is read
@@ -280,6 +296,28 @@ table-room order level f t h = go (walkFile order level f .ended) (file-room ord
     go : (z : Outcome) → FileRoom f (walkFile order level f) z → result (table f (walkFile order level f)) z ≡ gives t → length t ≤ 8 * length f
     go (fault e n) u h = clash cc
     go whole u h = let q : t ≡ table f (walkFile order level f) = cc in rw q (omega (arith, u .0, u .1 .count, length-drop 9 f))
+
+-- a plain table has no more numbers than the packed one and the bytes of opaque bodies together
+plain-numbers : (f : List ℕ) (ts : List Tag) → length (numbers (map (plainTag f) ts)) ≤ length (numbers ts) + allOpaque ts
+plain-numbers f [] = omega arith
+plain-numbers f (t ∷ ts) = go (isOpaque (t .state)) (plain-numbers f ts)
+  where
+    body : length (bodyIn f t) ≤ t .bodyLength
+    body = omega (arith, length-take (t .bodyLength) (drop (t .place + t .headerSize) f))
+
+    go : (c : Bool) → length (numbers (map (plainTag f) ts)) ≤ length (numbers ts) + allOpaque ts
+        → suc (suc (suc (length (pick c (bodyIn f t) (t .values) ++ numbers (map (plainTag f) ts))))) ≤ suc (suc (suc (length (t .values ++ numbers ts)))) + (pick c (t .bodyLength) 0 + allOpaque ts)
+    go true u = omega (arith, body, length-append (bodyIn f t) (numbers (map (plainTag f) ts)), length-append (t .values) (numbers ts))
+    go false u = omega (arith, length-append (t .values) (numbers (map (plainTag f) ts)), length-append (t .values) (numbers ts))
+
+-- the plain table too
+pub plain-room : (order level : ℕ) (f t : List ℕ) → readPlain order level f ≡ gives t → length t ≤ 8 * length f
+unfolding readPlain
+plain-room order level f t h = go (walkFile order level f .ended) (file-room order level f) h
+  where
+    go : (z : Outcome) → FileRoom f (walkFile order level f) z → result (plainTable f (walkFile order level f)) z ≡ gives t → length t ≤ 8 * length f
+    go (fault e n) u h = clash cc
+    go whole u h = let q : t ≡ plainTable f (walkFile order level f) = cc in rw q (omega (arith, u .0, u .1 .count, length-drop 9 f, plain-numbers f (walkFile order level f .tags)))
 
 pub tag-table-length : (ts : List Tag) → length (tagTable ts) ≡ 5 * length ts
 tag-table-length [] = refl

@@ -5,6 +5,7 @@ use mathlib.Core.Bool.{Bool, true, false}
 use lib.Dec.{eqb}
 use Rattle.format.specs.Tests.{pick}
 use Rattle.format.specs.FileAndTags.{Class, opaque, end, container, known, isRead}
+use Rattle.format.specs.TableOfNumbers.{isOpaque}
 use Rattle.format.specs.WritingFiles.{claims, fitsState}
 
 -- a tag is opaque or read
@@ -23,6 +24,11 @@ state-fits cl false = read-or-not (λ n. eqb (n + 0) (n + pick (claims (n + 0)) 
 pub state-claims : (cl : Class) (claim : Bool) → claims (isRead cl + pick claim 2 0) ≡ claim
 state-claims cl true = read-or-not (λ n. claims (n + 2) ≡ true) refl refl cl
 state-claims cl false = read-or-not (λ n. claims (n + 0) ≡ false) refl refl cl
+
+-- it is even where the tag is opaque
+pub state-opaque : (cl : Class) (claim : Bool) → isOpaque (isRead cl + pick claim 2 0) ≡ eqb (isRead cl) 0
+state-opaque cl true = read-or-not (λ n. isOpaque (n + 2) ≡ eqb n 0) refl refl cl
+state-opaque cl false = read-or-not (λ n. isOpaque (n + 0) ≡ eqb n 0) refl refl cl
 
 -- without the 1 it is that of an opaque tag with the same header
 pub state-veiled : (cl : Class) (claim : Bool) → 2 * ((isRead cl + pick claim 2 0) / 2) ≡ isRead opaque + pick claim 2 0

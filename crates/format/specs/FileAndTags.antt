@@ -22,6 +22,9 @@ le16 r = getD r 0 0 + 256 * getD r 1 0
 abbrev pub le32 : List ℕ → ℕ
 le32 r = le16 r + 65536 * (getD r 2 0 + 256 * getD r 3 0)
 
+abbrev pub le64 : List ℕ → ℕ
+le64 r = le32 r + 4294967296 * le32 (drop 4 r)
+
 abbrev pub signatureRight : List ℕ → Bool
 signatureRight f = eqb (getD f 0 0) 0x50 and eqb (getD f 1 0) 0x41 and eqb (getD f 2 0) 0x47
 
@@ -205,9 +208,18 @@ abbrev pub opened : (Owner → ℕ → List ℕ → Walk) → ℕ → ℕ → Li
 opened R a s body xs (At p) = record { values = xs; walk = R (inside a) (s + toByte p) (drop (toByte p) body) }
 opened R a s body xs (Fault e) = record { values = xs; walk = broken e a }
 
+-- (C-17) Hold an opaque body as its byte length and then eight bytes to a number, lowest byte first, the last number filled with zeros: k numbers,
+-- and what stands past the end counts as 0
+unfoldable pub eights : ℕ → List ℕ → List ℕ
+eights zero b = []
+eights (suc k) b = le64 b ∷ eights k (drop 8 b)
+
+abbrev pub packed : List ℕ → List ℕ
+packed b = length b ∷ eights ((length b + 7) / 8) b
+
 -- by class: the tag at place a, with its body at s
 abbrev pub within : Order → (Owner → ℕ → List ℕ → Walk) → Class → ℕ → ℕ → List ℕ → TagInside
-within o R opaque a s body = record { values = body; walk = noTags whole }
+within o R opaque a s body = record { values = packed body; walk = noTags whole }
 within o R end a s body = record { values = []; walk = noTags whole }
 within o R (known y) a s body = record { values = readBody o y body .shown; walk = noTags (endAt a (readBody o y body .ended)) }
 within o R (container f) a s body = opened R a s body (run o body (front f) 0 .shown) (run o body (front f) 0 .ended)

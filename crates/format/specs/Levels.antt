@@ -3,17 +3,17 @@
 use Prim.Native.Nat.{ℕ, _+_, _*_, _/_, _≤_, _<_}
 use mathlib.Core.List.{List, [], _∷_}
 use mathlib.Core.Path.{_≡_}
-use lib.ListN.{take, drop}
 use lib.Dec.{ltb}
 use Rattle.format.specs.Tests.{pick}
-use Rattle.format.specs.FileAndTags.{Tag, Outcome, whole, fault}
+use Rattle.format.specs.FileAndTags.{packed, Tag, Outcome, whole, fault}
+use Rattle.format.specs.TableOfNumbers.{bodyIn}
 use Rattle.format.specs.Reasons.{walkFile}
 
 -- the place after a tag
 abbrev pub endOf : Tag → ℕ
 endOf t = t .place + t .headerSize + t .bodyLength
 
--- the tag made opaque: its state loses the 1 and (C-11) keeps the 2, and its values are the plain bytes of its body in the file f
+-- the tag made opaque: its state loses the 1 and (C-11) keeps the 2, and its values are the bytes of its body in the file f, (C-17) packed
 abbrev pub veil : List ℕ → Tag → Tag
 veil f t = record {
   depth = t .depth;
@@ -22,7 +22,7 @@ veil f t = record {
   headerSize = t .headerSize;
   bodyLength = t .bodyLength;
   state = 2 * (t .state / 2);
-  values = take (t .bodyLength) (drop (t .place + t .headerSize) f);
+  values = packed (bodyIn f t);
 }
 
 -- the tags in file order: those that start before e stand inside the last tag that was hidden, and are left out;

@@ -34,7 +34,7 @@ use lib.Dec.{ltb, leb, eqb}
 use Rattle.format.specs.Tests.{pick}
 use Rattle.format.specs.Bits.{AllBytes, orderNamed}
 use Rattle.format.specs.FileAndTags.{signatureRight, versionRight, lengthRight, classOf, Outcome, whole, fault, Walk, broken, file, walkList}
-use Rattle.format.specs.TableOfNumbers.{table, tagTable}
+use Rattle.format.specs.TableOfNumbers.{table, plainTable, tagTable}
 
 -- ---- 1 to 5 are tried in this order (0: none of them). (C-18) Refusals: 24 for an order that is neither, tried after 1. An order is a number
 -- here, as in a call.
@@ -69,6 +69,10 @@ result ns (fault e n) = refuses e n
 -- its table of numbers, and its tag table
 unfoldable pub readFile : ℕ → ℕ → List ℕ → Result
 readFile order level f = result (table f (walkFile order level f)) (walkFile order level f .ended)
+
+-- (C-17) its plain table: `read` and `write` speak of the packed one, which `pack` makes of this
+unfoldable pub readPlain : ℕ → ℕ → List ℕ → Result
+readPlain order level f = result (plainTable f (walkFile order level f)) (walkFile order level f .ended)
 
 unfoldable pub readTags : ℕ → ℕ → List ℕ → Result
 readTags order level f = result (tagTable (walkFile order level f .tags)) (walkFile order level f .ended)

@@ -48,15 +48,15 @@ val o zero bs = 0
 val o (suc n) bs = join o n (bit (getD bs 0 false)) (val o n (drop 1 bs))
 
 -- k bytes
-unfoldable pub pack : Order → ℕ → List Bool → List ℕ
-pack o zero bs = []
-pack o (suc k) bs = val o 8 bs ∷ pack o k (drop 8 bs)
+unfoldable pub bytesOf : Order → ℕ → List Bool → List ℕ
+bytesOf o zero bs = []
+bytesOf o (suc k) bs = val o 8 bs ∷ bytesOf o k (drop 8 bs)
 
 -- all numbers are used up
-abbrev pub packed : Order → Possible Written → Possible (List ℕ)
-packed o (this (wrote xs bs [])) = this (pack o (length bs / 8) bs)
-packed o (this (wrote xs bs (y ∷ ys))) = cannot
-packed o cannot = cannot
+abbrev pub wholeBytes : Order → Possible Written → Possible (List ℕ)
+wholeBytes o (this (wrote xs bs [])) = this (bytesOf o (length bs / 8) bs)
+wholeBytes o (this (wrote xs bs (y ∷ ys))) = cannot
+wholeBytes o cannot = cannot
 
 unfoldable pub writeBody : Order → Body → List ℕ → Possible (List ℕ)
-writeBody o y ns = packed o (onward (writePart o y ns 0) 0 (λ xs ys p. writeItem o Item.align ys p))
+writeBody o y ns = wholeBytes o (onward (writePart o y ns 0) 0 (λ xs ys p. writeItem o Item.align ys p))

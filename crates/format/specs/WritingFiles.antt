@@ -7,10 +7,11 @@ use lib.Dec.{ltb, leb, eqb}
 use Rattle.format.specs.Tests.{pick}
 use Rattle.format.specs.Bits.{Order, orderNamed}
 use Rattle.format.specs.Formats.{the}
-use Rattle.format.specs.FileAndTags.{Class, opaque, end, container, known, classOf, isEnd, isRead, front}
+use Rattle.format.specs.TableOfNumbers.{unpacked}
+use Rattle.format.specs.FileAndTags.{packed, Class, opaque, end, container, known, classOf, isEnd, isRead, front}
 use Rattle.format.specs.WritingFormats.{unrun}
 use Rattle.format.specs.Possible.{Possible, this, cannot}
-use Rattle.format.specs.WritingBodies.{packed, writeBody}
+use Rattle.format.specs.WritingBodies.{wholeBytes, writeBody}
 
 -- the numbers that were used up, the bytes that they are written as, and the numbers that are left
 pub data Made : Type 0 where
@@ -40,9 +41,15 @@ spellHead claim code len = pick claim (spellLong code len) (pick (ltb len 63) (s
 abbrev pub fitsHead : Bool → ℕ → ℕ → Bool
 fitsHead claim code len = pick (ltb code 1024) (ltb len (pick claim 63 (2 ^ 32))) false
 
-abbrev pub allBytes : List ℕ → Bool
-allBytes [] = true
-allBytes (x ∷ xs) = pick (ltb x 256) (allBytes xs) false
+abbrev pub same : List ℕ → List ℕ → Bool
+same [] [] = true
+same [] (y ∷ ys) = false
+same (x ∷ xs) [] = false
+same (x ∷ xs) (y ∷ ys) = pick (eqb x y) (same xs ys) false
+
+-- (C-17) an opaque body: bytes that are packed as these numbers
+unfoldable pub unpackedAs : List ℕ → Possible (List ℕ)
+unpackedAs vs = pick (same (packed (unpacked vs)) vs) (this (unpacked vs)) cannot
 
 -- the numbers xs, written as these bytes
 abbrev pub bodyOf : List ℕ → Possible (List ℕ) → List ℕ → Possible Made
@@ -60,10 +67,10 @@ fronted xs cannot m = cannot
 
 -- a tag with the state s, which fits, and the n values vs, before the numbers ys; a list is written by W; left: the depths below
 abbrev pub fill : Order → (List ℕ → Possible Made) → ℕ → Class → ℕ → ℕ → List ℕ → List ℕ → Possible Made
-fill o W left opaque s n vs ys = pick (allBytes vs) (this (made (s ∷ n ∷ vs) vs ys)) cannot
+fill o W left opaque s n vs ys = bodyOf (s ∷ n ∷ vs) (unpackedAs vs) ys
 fill o W left end s n vs ys = pick (eqb n 0) (this (made (s ∷ n ∷ vs) [] ys)) cannot
 fill o W left (known y) s n vs ys = bodyOf (s ∷ n ∷ vs) (writeBody o y vs) ys
-fill o W left (container f) s n vs ys = pick (eqb left 0) cannot (fronted (s ∷ n ∷ vs) (packed o (unrun o (front f) vs 0)) (W ys))
+fill o W left (container f) s n vs ys = pick (eqb left 0) cannot (fronted (s ∷ n ∷ vs) (wholeBytes o (unrun o (front f) vs 0)) (W ys))
 
 -- state, count and values of a tag
 abbrev pub outTag : Order → (List ℕ → Possible Made) → ℕ → Class → List ℕ → Possible Made

@@ -1,5 +1,6 @@
 pub mod TextLaws
 pub mod StepLaws
+pub mod PackedLaws
 pub mod Parts
 pub mod Listed
 pub mod Printed

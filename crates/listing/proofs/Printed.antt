@@ -7,8 +7,9 @@ use lib.ListN.{length, take, length-append}
 use borrow.Author.Tests.{le-ltb, lt-ltb, le-leb}
 use Rattle.format.specs.FileAndTags.{Tag, Outcome, whole, fault, Walk}
 use Rattle.format.specs.TableOfNumbers.{numbers, table, tagTable}
-use Rattle.format.specs.Reasons.{walkFile, Result, gives, result, readFile, readTags, accepted, Left, accepts, refusesWith, into}
+use Rattle.format.specs.Reasons.{walkFile, Result, gives, result, readFile, readTags, accepted, Left, accepts, refusesWith, into, IsFile}
 use Rattle.format.proofs.StartLaws.{good-start, whole-start}
+use Rattle.format.proofs.PlainLaws.{shown-file}
 use Rattle.format.proofs.CallLaws.{Filled, filled, Why, faulty, full, kept}
 use Rattle.format.proofs.Absurd.{clash}
 use Rattle.listing.specs.declared.Part.{Part}
@@ -76,13 +77,13 @@ module _ (f m g : List ℕ) (short : length f ≤ 32768) (room : length m ≡ 81
         let v : (3 * length (walked f .tags) ≤ length (numbers (walked f .tags))) × (length (tagTable (walked f .tags)) ≡ 5 * length (walked f .tags)) = tags-counted (walked f .tags) in
         ap (into g) tags-are ∙ rw (le-leb (length (tagTable (walked f .tags))) (length g) (omega (arith, table-left .2, v)))
 
-    -- and the listing of what both left is printed
-    pub listing-printed : (g′ : List ℕ) (j : ℕ) → into g (readTags 0 1023 f) ≡ accept j g′ → tableListing (length f) (take k m′) (take j g′) ≡ printed f
+    -- and the listing of what both left is printed. (Every input is bytes: `is_file` of crate answers.)
+    pub listing-printed : (g′ : List ℕ) (j : ℕ) → IsFile f → into g (readTags 0 1023 f) ≡ accept j g′ → tableListing (length f) (take k m′) (take j g′) ≡ printed f
     unfolding readFile
-    listing-printed g′ j h =
+    listing-printed g′ j b h =
         let a : gives (tagTable (walked f .tags)) ≡ gives (take j g′) = sym tags-are ∙ filled g (readTags 0 1023 f) (sym h) refl .shows in
         let v : take j g′ ≡ tagTable (walked f .tags) = cc in
-        rw (table-left .1, v) (listed f (walked f) (good-start 0 1023 f (whole-start 0 1023 f (table-left .0)) .version))
+        rw (table-left .1, v) (listed f (walked f) b (shown-file f 0 1023) (good-start 0 1023 f (whole-start 0 1023 f (table-left .0)) .version))
         ∙ sym (printed-table (table f (walked f)) (table-left .2) (ap (result (table f (walked f))) (table-left .0)))
 
 -- the input is longer

@@ -1,8 +1,8 @@
 -- The steps of a part, one by one: what the code's branches leave, and that the bound of `fill` does not matter.
-use Prim.Native.Nat.{ℕ, zero, suc, _+_, _-_, _≤_, _<_}
+use Prim.Native.Nat.{ℕ, zero, suc, _+_, _-_, _%_, _≤_, _<_}
 use mathlib.Core.Bool.{Bool, true, false}
 use mathlib.Core.List.{List, [], _∷_, _++_}
-use mathlib.Core.Path.{_≡_, refl, ap, sym, _∙_}
+use mathlib.Core.Path.{_≡_, refl, ap, ap₂, sym, _∙_}
 use native.Mathlib.Nat.{add-zero, add-assoc}
 use native.Mathlib.Omega.{arith}
 use lib.ListN.{length, getD, length-append}
@@ -10,10 +10,11 @@ use lib.Seq.{sets}
 use lib.Dec.{ltb, leb, eqb}
 use borrow.Author.Tests.{eqb-true, ltb-true, lt-ltb, le-ltb, le-leb, lt-leb, eq-eqb, ne-eqb}
 use Rattle.format.specs.Tests.{pick, _and_}
+use Rattle.format.specs.TableOfNumbers.{isOpaque, eightOf}
 use Rattle.format.proofs.Absurd.{clash}
 use Rattle.table.proofs.EngineLaws.{sets-append}
 use Rattle.listing.specs.declared.Cursor.{Cursor}
-use Rattle.listing.specs.Steps.{Laid, laid, lays, field, tabbed, ender, Step, cursor, firstStep, headStep, valueStep, step, more, stay, joined, fill, partOf, AfterPart, afterPart, textOver}
+use Rattle.listing.specs.Steps.{Laid, laid, lays, field, tabbed, ender, byteFields, Step, cursor, firstStep, afterHead, headStep, numberStep, bytesStep, valueStep, step, more, stay, joined, fill, partOf, AfterPart, afterPart, textOver}
 use Rattle.listing.proofs.TextLaws.{lays-then}
 
 -- ---- the two texts that several calls write
@@ -24,10 +25,18 @@ first-laid n b t k x {u} {v} {i} {j} d e f g =
     (lays-then u j (tabbed (1 ∷ n ∷ [])) (field (getD t 0 0) 10) e (g ∙ ap (λ (y : ℕ). lays v i (field y 10)) f))
 
 pub head-laid : (b t g : List ℕ) (k i m a c d e f s q l : ℕ) {u : List ℕ} {j : ℕ} {z : Laid} → a ≡ getD g m 0 → c ≡ getD g (m + 2) 0 → d ≡ getD g (m + 3) 0 → e ≡ getD g (m + 4) 0
-    → f ≡ getD t i 0 → laid u j ≡ lays b k (tabbed (a ∷ c ∷ d ∷ e ∷ f ∷ [])) → s ≡ getD t (i + 1) 0 → l ≡ getD t (i + 2) 0 → q ≡ ender l → z ≡ lays u j (field s q) → z ≡ lays b k (headStep t g i m .text)
-head-laid b t g k i m a c d e f s q l a′ c′ d′ e′ f′ h s′ l′ q′ z =
-    lays-then b k (tabbed (getD g m 0 ∷ getD g (m + 2) 0 ∷ getD g (m + 3) 0 ∷ getD g (m + 4) 0 ∷ getD t i 0 ∷ [])) (field (getD t (i + 1) 0) (ender (getD t (i + 2) 0)))
-    (rw (a′, c′, d′, e′, f′) at h) (rw (s′, q′, l′) at z)
+    → f ≡ getD t i 0 → laid u j ≡ lays b k (tabbed (a ∷ c ∷ d ∷ e ∷ f ∷ [])) → s ≡ getD t (i + 1) 0 → l ≡ afterHead t i (m + 5) .left → q ≡ ender l → z ≡ lays u j (field s q)
+    → z ≡ lays b k (headStep t g i m .text)
+head-laid b t g k i m a c d e f s q l {u} {j} a′ c′ d′ e′ f′ h s′ l′ q′ z =
+    lays-then b k (tabbed (getD g m 0 ∷ getD g (m + 2) 0 ∷ getD g (m + 3) 0 ∷ getD g (m + 4) 0 ∷ getD t i 0 ∷ [])) (field (getD t (i + 1) 0) (ender (afterHead t i (m + 5) .left)))
+    (rw (a′, c′, d′, e′, f′) at h) (z ∙ ap₂ (λ (x y : ℕ). lays u j (field x y)) s′ (q′ ∙ ap ender l′))
+
+-- ---- a tag's values, or its body: as the code's test says
+pub after-opaque : (t : List ℕ) (k m s l : ℕ) → s ≡ getD t (k + 1) 0 → s % 2 ≡ 0 → l ≡ getD t (k + 3) 0 → cursor (k + 4) m l true ≡ afterHead t k m
+after-opaque t k m s l d e f = rw (sym d, eq-eqb (s % 2) 0 e, f)
+
+pub after-read : (t : List ℕ) (k m s l : ℕ) → s ≡ getD t (k + 1) 0 → (s % 2 ≡ 0 → ⊥) → l ≡ getD t (k + 2) 0 → cursor (k + 3) m l false ≡ afterHead t k m
+after-read t k m s l d e f = rw (sym d, ne-eqb (s % 2) 0 e, f)
 
 -- ---- a cursor's step, by what the code's tests tell
 module _ (n : ℕ) (t g : List ℕ) (c : Cursor) where
@@ -39,7 +48,7 @@ module _ (n : ℕ) (t g : List ℕ) (c : Cursor) where
   unfolding step
   step-head h e = rw (ne-eqb (c .number) 0 h, eq-eqb (c .left) 0 e)
 
-  pub step-value : (c .number ≡ 0 → ⊥) → (c .left ≡ 0 → ⊥) → step n t g c ≡ valueStep t (c .number) (c .row) (c .left)
+  pub step-value : (c .number ≡ 0 → ⊥) → (c .left ≡ 0 → ⊥) → step n t g c ≡ valueStep t c
   unfolding step
   step-value h i = rw (ne-eqb (c .number) 0 h, ne-eqb (c .left) 0 i)
 
@@ -48,11 +57,18 @@ module _ (n : ℕ) (t g : List ℕ) (c : Cursor) where
   unfolding step
   step-further = go (eqb (c .number) 0) refl (eqb (c .left) 0)
     where
-      go : (a : Bool) → eqb (c .number) 0 ≡ a → (b : Bool)
-          → c .number < pick a (firstStep n t) (pick b (headStep t g (c .number) (c .row)) (valueStep t (c .number) (c .row) (c .left))) .to .number
+      head : (o : Bool) → c .number < pick o (cursor (c .number + 4) (c .row + 5) (getD t (c .number + 3) 0) true) (cursor (c .number + 3) (c .row + 5) (getD t (c .number + 2) 0) false) .number
+      head true = omega arith
+      head false = omega arith
+
+      value : (p : Bool) → c .number < pick p (bytesStep t (c .number) (c .row) (c .left)) (numberStep t (c .number) (c .row) (c .left)) .to .number
+      value true = omega arith
+      value false = omega arith
+
+      go : (a : Bool) → eqb (c .number) 0 ≡ a → (b : Bool) → c .number < pick a (firstStep n t) (pick b (headStep t g (c .number) (c .row)) (valueStep t c)) .to .number
       go true e b = omega (arith, eqb-true (c .number) 0 e)
-      go false e true = omega arith
-      go false e false = omega arith
+      go false e true = head (isOpaque (getD t (c .number + 1) 0))
+      go false e false = value (c .packed)
 
 -- ---- what a step leaves
 pub after-text : (b : List ℕ) (k : ℕ) (s : Step) {u : List ℕ} {j : ℕ} {d : Cursor} → laid u j ≡ lays b k (s .text) → d ≡ s .to → afterPart u j d ≡ textOver b k s
@@ -60,18 +76,23 @@ unfolding textOver lays
 after-text b k s e f = λ i. afterPart (e i .lent) (e i .next) (f i)
 
 module _ (n : ℕ) (b t g : List ℕ) (k : ℕ) (c : Cursor) where
-  pub first-done : {u : List ℕ} {j : ℕ} → c .number ≡ 0 → laid u j ≡ lays b k (firstStep n t .text) → afterPart u j (cursor 1 0 0) ≡ textOver b k (step n t g c)
+  pub first-done : {u : List ℕ} {j : ℕ} → c .number ≡ 0 → laid u j ≡ lays b k (firstStep n t .text) → afterPart u j (cursor 1 0 0 false) ≡ textOver b k (step n t g c)
   first-done h e = after-text b k (firstStep n t) e refl ∙ ap (textOver b k) (sym (step-first n t g c h))
 
-  pub head-done : (x : ℕ) {u : List ℕ} {j : ℕ} → (c .number ≡ 0 → ⊥) → c .left ≡ 0 → laid u j ≡ lays b k (headStep t g (c .number) (c .row) .text) → x ≡ getD t (c .number + 2) 0
-      → afterPart u j (cursor (c .number + 3) (c .row + 5) x) ≡ textOver b k (step n t g c)
-  head-done x h i e f =
-      after-text b k (headStep t g (c .number) (c .row)) e (ap (cursor (c .number + 3) (c .row + 5)) f) ∙ ap (textOver b k) (sym (step-head n t g c h i))
+  pub head-done : {z : AfterPart} → (c .number ≡ 0 → ⊥) → c .left ≡ 0 → z ≡ textOver b k (headStep t g (c .number) (c .row)) → z ≡ textOver b k (step n t g c)
+  head-done h i e = e ∙ ap (textOver b k) (sym (step-head n t g c h i))
 
-  pub value-done : (x y : ℕ) {u : List ℕ} {j : ℕ} → (c .number ≡ 0 → ⊥) → (c .left ≡ 0 → ⊥) → x ≡ getD t (c .number) 0 → y ≡ ender (c .left - 1) → laid u j ≡ lays b k (field x y)
-      → afterPart u j (cursor (c .number + 1) (c .row) (c .left - 1)) ≡ textOver b k (step n t g c)
-  value-done x y h i e f d =
-      after-text b k (valueStep t (c .number) (c .row) (c .left)) (d ∙ rw (e, f)) refl ∙ ap (textOver b k) (sym (step-value n t g c h i))
+  pub value-done : {z : AfterPart} → (c .number ≡ 0 → ⊥) → (c .left ≡ 0 → ⊥) → z ≡ textOver b k (valueStep t c) → z ≡ textOver b k (step n t g c)
+  value-done h i e = e ∙ ap (textOver b k) (sym (step-value n t g c h i))
+
+module _ (b t : List ℕ) (k : ℕ) (c : Cursor) where
+  pub number-done : (x y : ℕ) {u : List ℕ} {j : ℕ} → c .packed ≡ false → x ≡ getD t (c .number) 0 → y ≡ ender (c .left - 1) → laid u j ≡ lays b k (field x y)
+      → afterPart u j (cursor (c .number + 1) (c .row) (c .left - 1) (c .packed)) ≡ textOver b k (valueStep t c)
+  number-done x y h e f d = rw h (after-text b k (numberStep t (c .number) (c .row) (c .left)) (d ∙ rw (e, f)) refl)
+
+  pub bytes-done : (x l : ℕ) {u : List ℕ} {j : ℕ} → c .packed ≡ true → x ≡ getD t (c .number) 0 → l ≡ c .left - 8 → laid u j ≡ lays b k (byteFields (eightOf x) (c .left))
+      → afterPart u j (cursor (c .number + 1) (c .row) l (c .packed)) ≡ textOver b k (valueStep t c)
+  bytes-done x l h e f d = rw h (after-text b k (bytesStep t (c .number) (c .row) (c .left)) (d ∙ rw e) (rw f))
 
 -- ---- there is more, or not
 pub more-yes : (t g : List ℕ) (c : Cursor) → c .number < length t → c .row ≤ length g → more t g c ≡ true

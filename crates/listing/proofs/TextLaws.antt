@@ -54,6 +54,10 @@ pub decimal-most : (n : ℕ) → n < 2 ^ 64 → length (decimal n) ≤ 20
 unfolding decimal
 decimal-most n h = digits-most 19 n n (omega arith)
 
+decimal-byte : (n : ℕ) → n < 256 → length (decimal n) ≤ 3
+unfolding decimal
+decimal-byte n h = digits-most 2 n n (omega arith)
+
 -- ---- text laid over lent bytes
 
 pub laid-eq : {b c : List ℕ} {j k : ℕ} → b ≡ c → j ≡ k → laid b j ≡ laid c k
@@ -91,6 +95,11 @@ decimal-length n h = ap length (decimal-more n h) ∙ length-append (decimal (n 
 pub field-ended : (b : List ℕ) (k n end : ℕ) {u : List ℕ} {j : ℕ} → laid u j ≡ lays b k (decimal n) → laid (set u j end) (j + 1) ≡ lays b k (field n end)
 unfolding field
 field-ended b k n end {u} {j} e = lays-then b k (decimal n) (end ∷ []) e (lays-byte u j end)
+
+-- a byte's field has 4 bytes at most
+pub byte-next : (b : List ℕ) (k r n end : ℕ) {u : List ℕ} {j : ℕ} → laid u j ≡ lays b k (field n end) → n ≡ r % 256 → j ≤ k + 4
+unfolding field
+byte-next b k r n end e h = omega (arith, lays-next b k (decimal n ++ end ∷ []) e, length-append (decimal n) (end ∷ []), decimal-byte n (omega (arith, h)))
 
 -- ---- what is still to come, from index i on: numbers that a tab ends each, or bytes as they are
 pub tabbed-next : (b ns : List ℕ) (k i : ℕ) {u : List ℕ} {j : ℕ} {z : Laid} → i < length ns

@@ -5,6 +5,7 @@ use lib.ListN.{length, getD}
 use lib.Dec.{ltb}
 use Rattle.format.specs.Tests.{pick}
 use Rattle.format.specs.FileAndTags.{compression, Tag, Walk}
+use Rattle.format.specs.TableOfNumbers.{plainTag}
 use Rattle.format.specs.Reasons.{Result, gives, refuses, walkFile, readFile}
 use Rattle.listing.specs.Decimal.{decimal}
 
@@ -25,9 +26,9 @@ abbrev pub tagLines : List Tag → List ℕ
 tagLines [] = []
 tagLines (t ∷ ts) = tagLine t ++ tagLines ts
 
--- the listing of the file f, whose walk is w
+-- the listing of the file f, whose walk is w. (C-17) It keeps printing one byte a field: an opaque tag's values are its body bytes (`plainTag`)
 unfoldable pub listing : List ℕ → Walk → List ℕ
-listing f w = firstLine f ++ tagLines (w .tags)
+listing f w = firstLine f ++ tagLines (map (plainTag f) (w .tags))
 
 -- ---- A refusal is one line: `refused`, reason, number.
 unfoldable pub refusal : ℕ → ℕ → List ℕ
@@ -38,6 +39,7 @@ abbrev pub tooLong : List ℕ
 tooLong = line (0x74 ∷ 0x6F ∷ 0x6F ∷ 0x20 ∷ 0x6C ∷ 0x6F ∷ 0x6E ∷ 0x67 ∷ []) []
 
 -- ---- The program reads at most 32,768 bytes at level 1023; a file needing more than 8,192 numbers is refused by 19.
+-- (C-17) 19 counts packed numbers.
 abbrev pub answered : List ℕ → Result → List ℕ
 answered f (gives t) = pick (ltb 8192 (length t)) (refusal 19 (length t)) (listing f (walkFile 0 1023 f))
 answered f (refuses e n) = refusal e n

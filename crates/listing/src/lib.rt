@@ -1,20 +1,23 @@
 // The listing: text made from the two tables.
 ghost use mathlib.Core.Path.{_≡_};
-ghost use Prim.Native.Nat.{_+_, _≤_, _<_};
+ghost use Prim.Native.Nat.{_+_, _-_, _≤_, _<_};
 ghost use lib.ListN.{length, getD};
 ghost use Rattle.listing.specs.Listing.{refusal, tooLong};
-ghost use Rattle.listing.specs.Steps.{laid, lays, ender, firstStep, headStep, step, partOf, partLeaves, textOver};
+ghost use Rattle.listing.specs.Steps.{laid, lays, ender, byteFields, firstStep, afterHead, headStep, valueStep, step, partOf, partLeaves, textOver};
+ghost use Rattle.format.specs.TableOfNumbers.{eightOf};
 use fields::put_field;
 use fields::put_tabbed;
 use fields::put_word;
 
 mod fields;
 
-// Where a part of the listing starts: indexes in the table and the tag table, and how many values are left in the record.
+// Where a part of the listing starts: indexes in the table and the tag table, how many fields are left in the record, and whether these are the
+// bytes of a packed body.
 pub struct Cursor {
     pub number: usize,
     pub row: usize,
     pub left: u64,
+    pub packed: bool,
 }
 
 // How many bytes a part of the listing used, and where the next part starts.
@@ -59,6 +62,28 @@ fn put_first(len: u64, table: &[u64], out: &mut [u8], from: usize) -> usize
     put_field(out, numbers_end, number_at(table, 0), 10)
 }
 
+// What follows a tag's head: its values, or the bytes of an opaque body, behind its length. The tag's numbers stand at `index`; an even state says that it is
+// opaque. `row` is the next tag's.
+fn after_head(table: &[u64], index: usize, row: usize) -> Cursor
+    requires { ⌜ index < length (now table) ⌝ }
+    ensures { λ r. ⌜ r ≡ afterHead (now (table .entry)) index row ⌝ }
+{
+    if number_at(table, index + 1) % 2 == 0 {
+        return Cursor {
+            number: index + 4,
+            row: row,
+            left: number_at(table, index + 3),
+            packed: true,
+        };
+    }
+    Cursor {
+        number: index + 3,
+        row: row,
+        left: number_at(table, index + 2),
+        packed: false,
+    }
+}
+
 // A tag's first six fields: its row stands at `row` of the tag table, its numbers at `index` of the table.
 fn put_head(
     table: &[u64],
@@ -67,9 +92,9 @@ fn put_head(
     row: usize,
     out: &mut [u8],
     from: usize,
-) -> usize
+) -> Part
     requires { ⌜ (from + 128 ≤ length (now out)) × (index < length (now table)) × (row ≤ length (now rows)) ⌝ }
-    ensures { λ r. ⌜ (laid (now (out .exit)) r ≡ lays (now (out .entry)) from (headStep (now (table .entry)) (now (rows .entry)) index row .text)) × (r ≤ from + 128) ⌝ }
+    ensures { λ r. ⌜ (partLeaves (now (out .exit)) r ≡ textOver (now (out .entry)) from (headStep (now (table .entry)) (now (rows .entry)) index row)) × (r .used ≤ from + 128) ⌝ }
 {
     let numbers = [
         row_at(rows, row),
@@ -79,15 +104,66 @@ fn put_head(
         number_at(table, index),
     ];
     let numbers_end = put_tabbed(out, from, &numbers);
-    put_field(
-        out,
-        numbers_end,
-        number_at(table, index + 1),
-        ender_of(number_at(table, index + 2)),
-    )
+    let to = after_head(table, index, row + 5);
+    let end = ender_of(to.left);
+    let used = put_field(out, numbers_end, number_at(table, index + 1), end);
+    Part { used: used, to: to }
 }
 
-// One step: the first line, a tag's first six fields, or one value. Six fields of 20 digits have 126 bytes with what ends each, so 128 are enough.
+// The bytes of a packed number as fields, the lowest first, up to the last of the record. With what ends each they have 32 bytes at most.
+fn put_bytes(number: u64, left: u64, out: &mut [u8], from: usize) -> usize
+    requires { ⌜ from + 128 ≤ length (now out) ⌝ }
+    ensures { λ r. ⌜ (laid (now (out .exit)) r ≡ lays (now (out .entry)) from (byteFields (eightOf number) left)) × (r ≤ from + 128) ⌝ }
+{
+    let mut index = from;
+    let mut rest = number;
+    let mut i = 0;
+    while i < 8 && i < left {
+        index = put_field(out, index, rest % 256, ender_of(left - i - 1));
+        rest = rest / 256;
+        i += 1;
+    }
+    index
+}
+
+// How many fields are left after those of a packed number.
+fn left_after_eight(left: u64) -> u64
+    ensures { λ r. ⌜ r ≡ left - 8 ⌝ }
+{
+    if left < 8 { 0 } else { left - 8 }
+}
+
+// The number at a cursor, where fields are left: one value, or bytes of a packed body.
+fn put_value(table: &[u64], cursor: Cursor, out: &mut [u8], from: usize) -> Part
+    requires { ⌜ (from + 128 ≤ length (now out)) × (cursor .number < length (now table)) × (0 < cursor .left) ⌝ }
+    ensures { λ r. ⌜ (partLeaves (now (out .exit)) r ≡ textOver (now (out .entry)) from (valueStep (now (table .entry)) cursor)) × (r .used ≤ from + 128) ⌝ }
+{
+    let left = cursor.left;
+    let number = number_at(table, cursor.number);
+    let next = cursor.number + 1;
+    if cursor.packed {
+        return Part {
+            used: put_bytes(number, left, out, from),
+            to: Cursor {
+                number: next,
+                row: cursor.row,
+                left: left_after_eight(left),
+                packed: cursor.packed,
+            },
+        };
+    }
+    Part {
+        used: put_field(out, from, number, ender_of(left - 1)),
+        to: Cursor {
+            number: next,
+            row: cursor.row,
+            left: left - 1,
+            packed: cursor.packed,
+        },
+    }
+}
+
+// One step: the first line, a tag's first six fields, or what one number shows. Six fields of 20 digits have 126 bytes with what ends each, so 128 are enough.
 fn put_step(
     len: u64,
     table: &[u64],
@@ -100,39 +176,21 @@ fn put_step(
     ensures { λ r. ⌜ (partLeaves (now (out .exit)) r ≡ textOver (now (out .entry)) from (step len (now (table .entry)) (now (rows .entry)) cursor)) × (r .used ≤ from + 128) ⌝ }
 {
     let index = cursor.number;
-    let row = cursor.row;
-    let left = cursor.left;
     if index == 0 {
-        let used = put_first(len, table, out, from);
         return Part {
-            used: used,
+            used: put_first(len, table, out, from),
             to: Cursor {
                 number: 1,
                 row: 0,
                 left: 0,
+                packed: false,
             },
         };
     }
-    if left == 0 {
-        let used = put_head(table, index, rows, row, out, from);
-        return Part {
-            used: used,
-            to: Cursor {
-                number: index + 3,
-                row: row + 5,
-                left: number_at(table, index + 2),
-            },
-        };
+    if cursor.left == 0 {
+        return put_head(table, index, rows, cursor.row, out, from);
     }
-    let used = put_field(out, from, number_at(table, index), ender_of(left - 1));
-    Part {
-        used: used,
-        to: Cursor {
-            number: index + 1,
-            row: row,
-            left: left - 1,
-        },
-    }
+    put_value(table, cursor, out, from)
 }
 
 // The part of the listing that starts at a cursor, of a file of `len` bytes: as many steps as the lent bytes have room for.

@@ -84,6 +84,7 @@ fn print_parts(len: u64, table: &[u64], rows: &[u32], out: &mut [u8]) {
         number: 0,
         row: 0,
         left: 0,
+        packed: false,
     };
     while cursor.number < table.len() {
         let part = listing::put_part(len, table, rows, cursor, out);

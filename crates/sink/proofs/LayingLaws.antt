@@ -15,7 +15,7 @@ use Rattle.format.specs.Bits.{Order, high, low, join}
 use Rattle.format.specs.Items.{skipped}
 use Rattle.format.specs.WritingItems.{dig, first, rest, glue}
 use Rattle.format.proofs.BitLaws.{bit-of, length-dig, first-lt, rest-lt, join-rest, glue-lt, dig-append}
-use Rattle.format.specs.WritingBodies.{bit, val, pack}
+use Rattle.format.specs.WritingBodies.{bit, val, bytesOf}
 use Rattle.format.specs.Tests.{pick}
 use Rattle.format.proofs.ByteLaws.{val-lt, dig-val}
 use Rattle.sink.specs.Laying.{State, mk, push, lay, Holds, Skipped, Split}
@@ -196,15 +196,15 @@ lay-byte o u i v h e d =
     rw (e, d)
     (lay-full o u 7 (8 * i) 0 v (omega arith) h ∙ mk-eq (ap₂ (set u) (omega arith) (rw z (glue-alone o 8 v))) refl refl)
 
-pub lay-pack : (o : Order) (u : List ℕ) (i k : ℕ) (bs : List Bool) → length bs ≡ 8 * k → lay o (mk u (8 * i) 0) bs ≡ mk (sets u i (pack o k bs)) (8 * (i + k)) 0
-unfolding pack
-lay-pack o u i zero bs h = let e : bs ≡ [] = drop-of-length-le bs {i = 0} (omega arith) in rw (e, lay-none, add-zero)
-lay-pack o u i (suc k) bs h =
+pub lay-bytes-of : (o : Order) (u : List ℕ) (i k : ℕ) (bs : List Bool) → length bs ≡ 8 * k → lay o (mk u (8 * i) 0) bs ≡ mk (sets u i (bytesOf o k bs)) (8 * (i + k)) 0
+unfolding bytesOf
+lay-bytes-of o u i zero bs h = let e : bs ≡ [] = drop-of-length-le bs {i = 0} (omega arith) in rw (e, lay-none, add-zero)
+lay-bytes-of o u i (suc k) bs h =
     let v : ℕ = val o 8 bs in
     let s : bs ≡ dig o 8 v ++ drop 8 bs = sym (take-append-drop 8 bs) ∙ ap (λ (x : List Bool). x ++ drop 8 bs) (sym (dig-val o 8 bs (omega arith))) in
     ap (lay o (mk u (8 * i) 0)) s ∙ lay-append o (mk u (8 * i) 0) (dig o 8 v) (drop 8 bs)
     ∙ ap (λ (st : State). lay o st (drop 8 bs)) (lay-byte o u i v (val-lt o 8 bs) refl refl ∙ mk-eq refl (omega arith) refl)
-    ∙ lay-pack o (set u i v) (suc i) k (drop 8 bs) (rw length-drop (omega arith))
+    ∙ lay-bytes-of o (set u i v) (suc i) k (drop 8 bs) (rw length-drop (omega arith))
     ∙ mk-eq refl (omega arith) refl
 
 -- ---- past the end of the output
@@ -216,8 +216,8 @@ flow-out o u i n v x y h s d =
     let f : i * 8 ≡ 8 * i = omega arith in
     let g : 8 * (i + n / 8) ≡ (i + n / 8) * 8 = omega arith in
     let whole : lay o (mk u (i * 8) 0) bs ≡ mk u ((i + n / 8) * 8) 0 =
-    ap (λ (z : ℕ). lay o (mk u z 0) bs) f ∙ lay-pack o u i (n / 8) bs (length-dig o (n / 8 * 8) x ∙ mul-comm (n / 8) 8)
-    ∙ mk-eq (sets-out u i (pack o (n / 8) bs) h) g refl in
+    ap (λ (z : ℕ). lay o (mk u z 0) bs) f ∙ lay-bytes-of o u i (n / 8) bs (length-dig o (n / 8 * 8) x ∙ mul-comm (n / 8) 8)
+    ∙ mk-eq (sets-out u i (bytesOf o (n / 8) bs) h) g refl in
     ap₂ (λ (j z : ℕ). lay o (mk u (i * 8) 0) (dig o j z)) c (s .glued)
     ∙ ap (lay o (mk u (i * 8) 0)) (dig-append o (n / 8 * 8) (n % 8) x y (s .first) (s .last))
     ∙ lay-append o (mk u (i * 8) 0) bs (dig o (n % 8) y)

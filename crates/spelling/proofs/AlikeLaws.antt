@@ -12,9 +12,9 @@ use Rattle.format.specs.Items.{run}
 use Rattle.format.specs.Possible.{Possible, this, cannot}
 use Rattle.format.specs.WritingItems.{dig, Written, wrote}
 use Rattle.format.specs.WritingFormats.{unrun}
-use Rattle.format.specs.WritingBodies.{bit, pack}
+use Rattle.format.specs.WritingBodies.{bit, bytesOf}
 use Rattle.format.proofs.BitLaws.{Has, length-dig}
-use Rattle.format.proofs.ByteLaws.{has-pack, length-pack}
+use Rattle.format.proofs.ByteLaws.{has-bytes-of, length-bytes-of}
 use Rattle.format.proofs.ItemLaws.{round-trip}
 use Rattle.format.proofs.Trip.{has-split, There, ThereIf, Back}
 use Rattle.sink.specs.Laying.{State}
@@ -42,21 +42,21 @@ module _ (o : Order) (p : ℕ) (bs : List Bool) where
   all = dig o p 0 ++ (bs ++ dig o (7 * size) 0)
 
   holder : List ℕ
-  holder = pack o size all
+  holder = bytesOf o size all
 
   holds : Has o holder p bs
   unfolding holder size all
   holds =
       let l : length all ≡ 8 * size =
       omega (arith, length-append (dig o p 0) (bs ++ dig o (7 * size) 0), length-append bs (dig o (7 * size) 0), length-dig o p 0, length-dig o (7 * size) 0) in
-      let h : Has o holder 0 all = has-pack o size all l in
+      let h : Has o holder 0 all = has-bytes-of o size all l in
       let s : Has o holder (0 + length (dig o p 0)) (bs ++ dig o (7 * size) 0) = has-split o holder 0 (dig o p 0) (bs ++ dig o (7 * size) 0) h .1 in
       let e : 0 + length (dig o p 0) ≡ p = omega (arith, length-dig o p 0) in
       has-split o holder p bs (dig o (7 * size) 0) (subst (λ (q : ℕ). Has o holder q (bs ++ dig o (7 * size) 0)) e s) .0
 
   wide : p ≤ 8 * length holder
   unfolding holder size
-  wide = omega (arith, length-pack o size all)
+  wide = omega (arith, length-bytes-of o size all)
 
 module _ (o : Order) (f g : Format) (alike : (b : List ℕ) (p : ℕ) → run o b f p ≡ run o b g p) where
   same-way : (ns : List ℕ) (p : ℕ) (xs : List ℕ) (bs : List Bool) (ys : List ℕ) → unrun o f ns p ≡ this (wrote xs bs ys) → unrun o g ns p ≡ this (wrote xs bs ys)

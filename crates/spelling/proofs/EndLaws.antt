@@ -17,13 +17,13 @@ use Rattle.format.specs.FileAndTags.{front}
 use Rattle.format.specs.Possible.{Possible, this, cannot}
 use Rattle.format.specs.WritingItems.{dig, Written, wrote, writeItem}
 use Rattle.format.specs.WritingFormats.{onward, unrun}
-use Rattle.format.specs.WritingBodies.{packed, pack}
+use Rattle.format.specs.WritingBodies.{wholeBytes, bytesOf}
 use Rattle.format.proofs.BitLaws.{length-dig}
-use Rattle.format.proofs.ByteLaws.{length-pack}
+use Rattle.format.proofs.ByteLaws.{length-bytes-of}
 use Rattle.sink.specs.Lain.{Lain, lain, lies, longest}
 use Rattle.sink.specs.Laying.{State, mk, at, lay, Holds, Skipped}
 use Rattle.sink.specs.declared.Sink.{Sink}
-use Rattle.sink.proofs.LayingLaws.{lay-append, lay-pack, lay-place}
+use Rattle.sink.proofs.LayingLaws.{lay-append, lay-bytes-of, lay-place}
 use Rattle.spelling.specs.Ends.{skippedTo, concluded, FineAfter}
 use Rattle.spelling.specs.Writing.{Seen, here, seen, ends, writtenOver, ran, limit, Fine}
 use Rattle.spelling.specs.declared.Put.{Put}
@@ -49,12 +49,12 @@ module _ (o : Order) (f : Format) (vs : List ℕ) where
     close (this (here s k)) = pick (eqb k (length vs)) (this (lain (s .bytes) (s .place / 8))) cannot
     close cannot = cannot
 
-    any-end : lies out a (packed o (unrun o (front f) vs 0)) ≡ close (writtenOver o st 0 (unrun o (front f) vs 0))
+    any-end : lies out a (wholeBytes o (unrun o (front f) vs 0)) ≡ close (writtenOver o st 0 (unrun o (front f) vs 0))
     unfolding lies writtenOver ends st close
     any-end = go (unrun o (front f) vs 0) refl
       where
         wrote-so : (xs : List ℕ) (bs : List Bool) (ys : List ℕ) → vs ≡ xs ++ ys → length bs % 8 ≡ 0 → (c : Bool) → leb (lay o st bs .place) limit ≡ c
-            → lies out a (packed o (this (wrote xs bs ys))) ≡ close (pick c (this (here (lay o st bs) (0 + length xs))) cannot)
+            → lies out a (wholeBytes o (this (wrote xs bs ys))) ≡ close (pick c (this (here (lay o st bs) (0 + length xs))) cannot)
         wrote-so xs bs [] e m c q = fits c q
           where
             k : ℕ
@@ -63,28 +63,28 @@ module _ (o : Order) (f : Format) (vs : List ℕ) where
             pl : lay o st bs .place ≡ 8 * a + length bs
             pl = lay-place o st bs
 
-            ln : length (pack o k bs) ≡ k
-            ln = length-pack o k bs
+            ln : length (bytesOf o k bs) ≡ k
+            ln = length-bytes-of o k bs
 
             jn : eqb (0 + length xs) (length vs) ≡ true
             jn = eq-eqb (0 + length xs) (length vs) (omega (arith, ap length e, length-append xs []))
 
             fits : (c : Bool) → leb (lay o st bs .place) limit ≡ c
-                → pick (leb (a + length (pack o k bs)) longest) (this (lain (sets out a (pack o k bs)) (a + length (pack o k bs)))) cannot ≡ close (pick c (this (here (lay o st bs) (0 + length xs))) cannot)
+                → pick (leb (a + length (bytesOf o k bs)) longest) (this (lain (sets out a (bytesOf o k bs)) (a + length (bytesOf o k bs)))) cannot ≡ close (pick c (this (here (lay o st bs) (0 + length xs))) cannot)
             fits true q =
-                let s : lay o st bs ≡ mk (sets out a (pack o k bs)) (8 * (a + k)) 0 = lay-pack o out a k bs (omega arith) in
-                let l : leb (a + length (pack o k bs)) longest ≡ true = le-leb (a + length (pack o k bs)) longest (omega (arith, leb-true (lay o st bs .place) limit q, pl, ln)) in
-                let d : 8 * (a + k) / 8 ≡ a + length (pack o k bs) = omega (arith, ln) in
+                let s : lay o st bs ≡ mk (sets out a (bytesOf o k bs)) (8 * (a + k)) 0 = lay-bytes-of o out a k bs (omega arith) in
+                let l : leb (a + length (bytesOf o k bs)) longest ≡ true = le-leb (a + length (bytesOf o k bs)) longest (omega (arith, leb-true (lay o st bs .place) limit q, pl, ln)) in
+                let d : 8 * (a + k) / 8 ≡ a + length (bytesOf o k bs) = omega (arith, ln) in
                 rw (l, jn, s, d)
             fits false q =
-                let l : leb (a + length (pack o k bs)) longest ≡ false = lt-leb (a + length (pack o k bs)) longest (omega (arith, leb-false (lay o st bs .place) limit q, pl, ln)) in
+                let l : leb (a + length (bytesOf o k bs)) longest ≡ false = lt-leb (a + length (bytesOf o k bs)) longest (omega (arith, leb-false (lay o st bs .place) limit q, pl, ln)) in
                 rw l
         wrote-so xs bs (z ∷ ys) e m true q =
             let n : eqb (0 + length xs) (length vs) ≡ false = ne-eqb (0 + length xs) (length vs) (λ d. omega (arith, ap length e, length-append xs (z ∷ ys))) in
             rw n
         wrote-so xs bs (z ∷ ys) e m false q = refl
 
-        go : (w : Possible Written) → unrun o (front f) vs 0 ≡ w → lies out a (packed o w) ≡ close (writtenOver o st 0 w)
+        go : (w : Possible Written) → unrun o (front f) vs 0 ≡ w → lies out a (wholeBytes o w) ≡ close (writtenOver o st 0 w)
         go cannot e = refl
         go (this (wrote xs bs ys)) e = wrote-so xs bs ys (parts o (front f) vs 0 xs ys bs e) (whole xs bs ys e) (leb (lay o st bs .place) limit) refl
 
@@ -110,12 +110,12 @@ module _ (o : Order) (f : Format) (vs : List ℕ) where
         go cannot = refl
         go (this (wrote xs bs ys)) = lim xs bs (leb (lay o st bs .place) limit) refl
 
-    pub front-law : lies out a (packed o (unrun o (front f) vs 0)) ≡ concluded o (length vs) (ran o vs (mk out (8 * a) 0) 0 f)
+    pub front-law : lies out a (wholeBytes o (unrun o (front f) vs 0)) ≡ concluded o (length vs) (ran o vs (mk out (8 * a) 0) 0 f)
     unfolding st
     front-law = any-end ∙ ap (λ (w : Possible Written). close (writtenOver o st 0 w)) (sym (shifted a)) ∙ skip-last
 
     -- as the code has it
-    pub front-done : {x : Possible Lain} {s : Possible Seen} {q : ℕ} → q ≡ 8 * a → x ≡ concluded o (length vs) s → s ≡ ran o vs (mk out q 0) 0 f → x ≡ lies out a (packed o (unrun o (front f) vs 0))
+    pub front-done : {x : Possible Lain} {s : Possible Seen} {q : ℕ} → q ≡ 8 * a → x ≡ concluded o (length vs) s → s ≡ ran o vs (mk out q 0) 0 f → x ≡ lies out a (wholeBytes o (unrun o (front f) vs 0))
     front-done p e d = e ∙ ap (concluded o (length vs)) (d ∙ ap (λ (q : ℕ). ran o vs (mk out q 0) 0 f) p) ∙ sym front-law
 
 -- past the longest file there is no place

@@ -1,11 +1,11 @@
--- One tag: its bytes copied one by one, its values by its class, and its code, state and count stored before them last.
-use Prim.Native.Nat.{ℕ, suc, _+_, _-_, _*_, _≤_, min}
+-- One tag: an opaque body packed, its values by its class, and its code, state and count stored before them last.
+use Prim.Native.Nat.{ℕ, suc, _+_, _-_, _*_, _/_, _≤_, _<_, min}
 use mathlib.Core.List.{List, [], _∷_}
-use mathlib.Core.Path.{_≡_, refl, ap, sym, _∙_}
+use mathlib.Core.Path.{_≡_, refl, ap, sym, subst, _∙_}
 use mathlib.Core.Bool.{Bool, true, false}
 use native.Mathlib.Omega.{arith}
-use lib.ListN.{length, set, length-set}
-use lib.Seq.{sets, length-sets}
+use lib.ListN.{length, take, drop, set, length-set, length-drop}
+use lib.Seq.{sets, length-sets, take-all}
 use lib.Dec.{eqb}
 use borrow.Author.Tests.{eqb-true}
 use Rattle.format.specs.Bits.{Order}
@@ -13,7 +13,8 @@ use Rattle.format.specs.Tests.{pick}
 use Rattle.format.specs.Reading.{Ending, At, Fault, Reading, shows}
 use Rattle.format.specs.Items.{run}
 use Rattle.format.specs.Bodies.{aligned, Body, toEnd, usedUp, readBody}
-use Rattle.format.specs.FileAndTags.{front}
+use Rattle.format.specs.FileAndTags.{le64, eights, packed, front}
+use Rattle.format.proofs.PackLaws.{length-eights, eights-at}
 use Rattle.format.proofs.WalkLaws.{run-le}
 use Rattle.format.proofs.Absurd.{clash}
 use Rattle.fixed.specs.Fixed.{fixedOf}
@@ -26,7 +27,7 @@ use Rattle.bits.specs.declared.Aligned.the-variants.{Clean}
 use Rattle.bits.proofs.StoreLaws.{sets-out}
 use Rattle.bits.proofs.FieldLaws.{align-clean}
 use Rattle.table.proofs.EngineLaws.{state, state-eq, after-none}
-use Rattle.table.proofs.StoringLaws.{Storing, storing-done}
+use Rattle.table.proofs.StoringLaws.{Storing, storing-next, storing-done}
 use Rattle.table.proofs.TextLaws.{set-sets}
 use Rattle.table.proofs.RunLaws.{align-none}
 use Rattle.bodies.specs.Shown.{shownIndex, shownLeaves}
@@ -35,10 +36,31 @@ use Rattle.classes.specs.declared.Class.{Class}
 use Rattle.classes.specs.declared.Class.the-variants.{Opaque, End, Container, Fixed, Attributes}
 use Rattle.tags.specs.Shown.{valuesOf, headed}
 
--- ---- bytes, one by one: all are stored, or there is no more room
-pub copied : (t₀ b : List ℕ) (k : ℕ) {t : List ℕ} {i m : ℕ} → Storing t₀ b k t i → m ≡ min (length b) (length t - k) → m ≤ i → state t (k + length b) (At 0) ≡ shownOver t₀ k (shows b 0)
+-- ---- a body's length, and behind it eight bytes to a number: all are stored, or there is no more room
+abbrev pub eightsOf : List ℕ → List ℕ
+eightsOf b = eights ((length b + 7) / 8) b
+
+pub packed-done : (t₀ b : List ℕ) (k : ℕ) {u t : List ℕ} {n i j : ℕ} → n ≡ length b → u ≡ set t₀ k n → Storing u (eightsOf b) (k + 1) t i
+    → min ((length b + 7) / 8) (length t - (k + 1)) ≤ i → j ≡ k + 1 + (length b + 7) / 8 → state t j (At 0) ≡ shownOver t₀ k (shows (packed b) 0)
 unfolding shownOver
-copied t₀ b k {t} {i} {m} g h l = state-eq (storing-done t₀ b k g h l) refl refl
+packed-done t₀ b k {u} {t} {n} {i} {j} z e g l q =
+    let w : length (eightsOf b) ≡ (length b + 7) / 8 = length-eights ((length b + 7) / 8) b in
+    let one : k + 1 ≡ suc k = omega arith in
+    state-eq (storing-done u (eightsOf b) (k + 1) g {m = min (length (eightsOf b)) (length t - (k + 1))} refl (rw w l) ∙ rw (one, e, z)) (q ∙ omega (arith, w)) refl
+
+-- the next number, of eight bytes; and the last one
+pub packed-next : (b : List ℕ) (k : ℕ) {u t : List ℕ} {i x : ℕ} → Storing u (eightsOf b) k t i → i < (length b + 7) / 8 → x ≡ le64 (drop (8 * i) b) → Storing u (eightsOf b) k (set t (k + i) x) (i + 1)
+packed-next b k {u} {t} {i} g h e =
+    storing-next u (eightsOf b) k g (omega (arith, length-eights ((length b + 7) / 8) b)) (e ∙ sym (eights-at ((length b + 7) / 8) b i h))
+
+pub stored-length : (t₀ xs : List ℕ) (k n : ℕ) {u t : List ℕ} {i : ℕ} → u ≡ set t₀ k n → Storing u xs (k + 1) t i → length t ≡ length t₀
+stored-length t₀ xs k n e g = g .size ∙ ap length e ∙ length-set t₀ k n
+
+-- the bytes behind the last whole eight
+pub packed-last : (b : List ℕ) (k : ℕ) {u t : List ℕ} {i m x : ℕ} → Storing u (eightsOf b) k t i → i ≡ m → m < (length b + 7) / 8 → x ≡ le64 (take (length b - 8 * m) (drop (8 * m) b)) → Storing u (eightsOf b) k (set t (k + m) x) (i + 1)
+packed-last b k {u} {t} {i} {m} {x} g n h e =
+    let all : take (length b - 8 * m) (drop (8 * m) b) ≡ drop (8 * m) b = take-all (length b - 8 * m) (drop (8 * m) b) (rw length-drop (omega arith)) in
+    subst (λ (j : ℕ). Storing u (eightsOf b) k (set t (k + j) x) (i + 1)) n (packed-next b k g (omega arith) (e ∙ ap le64 all ∙ ap (λ (j : ℕ). le64 (drop (8 * j) b)) (sym n)))
 
 -- ---- a reading that showed nothing more
 pub none-left : (t : List ℕ) (k : ℕ) {q : ℕ} {r : Reading} → r ≡ shows [] q → state t k (At q) ≡ shownOver t k r

@@ -6,15 +6,15 @@ use Rattle.format.specs.Bits.{Order}
 use Rattle.format.specs.Reading.{Reading, shows}
 use Rattle.format.specs.Items.{run}
 use Rattle.format.specs.Bodies.{readBody}
-use Rattle.format.specs.FileAndTags.{front}
+use Rattle.format.specs.FileAndTags.{packed, front}
 use Rattle.classes.specs.declared.Class.{Class}
 use Rattle.classes.specs.declared.Class.the-variants.{Opaque, End, Container, Fixed, Attributes}
 use Rattle.fixed.specs.Fixed.{fixedOf}
 use Rattle.bodies.specs.Leaf.{leafBody}
 
--- the values, and how their reading ended: an opaque tag's are its body's bytes, End has none, a container's stand before its list
+-- the values, and how their reading ended: an opaque tag's are its body, packed, End has none, a container's stand before its list
 abbrev pub valuesOf : Order → Class → ℕ → List ℕ → Reading
-valuesOf o Opaque code body = shows body 0
+valuesOf o Opaque code body = shows (packed body) 0
 valuesOf o End code body = shows [] 0
 valuesOf o Container code body = run o body (front (fixedOf code)) 0
 valuesOf o Fixed code body = readBody o (leafBody code) body

@@ -7,7 +7,7 @@ ghost use lib.Seq.{sets};
 ghost use Rattle.format.specs.Reading.{shows};
 ghost use Rattle.format.specs.Items.{run};
 ghost use Rattle.format.specs.Tests.{pick};
-ghost use Rattle.format.specs.FileAndTags.{isRead, longOnShort, front};
+ghost use Rattle.format.specs.FileAndTags.{isRead, longOnShort, packed, front};
 ghost use Rattle.table.specs.State.{shownOver};
 ghost use Rattle.classes.specs.Classes.{bare};
 ghost use Rattle.fixed.specs.Fixed.{fixedOf};
@@ -18,24 +18,38 @@ use bits::Aligned;
 use bits::BitPlace;
 use bits::BytePlace;
 use bits::Order;
+use bits::fields;
 use bodies::Shown;
 use classes::Class;
 use table::Run;
 
-// The bytes of an opaque body: those that there is room for, in one plain loop. Nothing in them is read.
-fn copy_bytes(body: &[u8], table: &mut [u64], from: usize) -> Shown
+// An opaque body, packed: its length, and then eight bytes to a number, by one load where eight are there. Where there is no room, no byte of it is touched.
+fn pack_bytes(body: &[u8], table: &mut [u64], from: usize) -> Shown
     requires { ⌜ (length (now body) < 2 ^ 60) × (from < 2 ^ 61) ⌝ }
-    ensures { λ r. ⌜ shownLeaves (now (table .exit)) r ≡ shownOver (now (table .entry)) from (shows (now (body .entry)) 0) ⌝ }
+    ensures { λ r. ⌜ shownLeaves (now (table .exit)) r ≡ shownOver (now (table .entry)) from (shows (packed (now (body .entry))) 0) ⌝ }
 {
-    let count = body.len();
-    let stored = table::room_for(table.len(), from, count);
+    let len = body.len();
+    let whole = len / 8;
+    let first = from + 1;
+    let behind = first + (len + 7) / 8;
+    table::put(table, from, len as u64);
+    let stored = table::room_for(table.len(), first, whole);
     let mut i = 0;
     while i < stored {
-        let index = from + i;
-        table[index] = bits::wide(body[i]);
+        let index = first + i;
+        table[index] = fields::eight(body, 8 * i);
         i += 1;
     }
-    Shown::Done(BytePlace(0), from + count)
+    let last = first + whole;
+    if last == behind {
+        return Shown::Done(BytePlace(0), behind);
+    }
+    if table.len() <= last {
+        return Shown::Done(BytePlace(0), behind);
+    }
+    let rest = 8 * whole;
+    table[last] = fields::few(&body[rest..]);
+    Shown::Done(BytePlace(0), behind)
 }
 
 // What stands in a container before its list, up to the whole byte where that starts.
@@ -65,7 +79,7 @@ fn read_tag_values(
     ensures { λ r. ⌜ shownLeaves (now (table .exit)) r ≡ shownOver (now (table .entry)) from (valuesOf (orderOf order) class code (now (body .entry))) ⌝ }
 {
     match class {
-        Class::Opaque => copy_bytes(body, table, from),
+        Class::Opaque => pack_bytes(body, table, from),
         Class::End => Shown::Done(BytePlace(0), from),
         Class::Container => read_front(order, code, body, table, from),
         Class::Fixed => bodies::read_body(order, code, body, table, from),

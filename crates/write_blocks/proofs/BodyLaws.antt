@@ -19,9 +19,9 @@ use Rattle.format.specs.FileAndTags.{front}
 use Rattle.format.specs.Possible.{Possible, this, cannot}
 use Rattle.format.specs.WritingItems.{dig, before, Written, wrote, put, single, writeItem, spellFlag}
 use Rattle.format.specs.WritingFormats.{adjoin, onward, unrun}
-use Rattle.format.specs.WritingBodies.{flagsIn, usedUp, writeBlock, writePart, pack, val, packed, writeBody}
+use Rattle.format.specs.WritingBodies.{flagsIn, usedUp, writeBlock, writePart, bytesOf, val, wholeBytes, writeBody}
 use Rattle.format.proofs.BitLaws.{length-dig}
-use Rattle.format.proofs.ByteLaws.{length-pack}
+use Rattle.format.proofs.ByteLaws.{length-bytes-of}
 use Rattle.format.proofs.Absurd.{clash}
 use Rattle.sink.specs.Lain.{Lain, lain, lies, lainAs, longest}
 use Rattle.sink.specs.Laying.{State, mk, at, lay, Holds, Skipped}
@@ -29,7 +29,7 @@ use Rattle.bits.specs.declared.BytePlace.{BytePlace}
 use Rattle.sink.specs.declared.Body.{Body}
 use Rattle.sink.specs.declared.Body.the-variants.{To, No as BodyNo}
 use Rattle.sink.specs.declared.Sink.{Sink}
-use Rattle.sink.proofs.LayingLaws.{lay-append, lay-pack, lay-place, lay-ok}
+use Rattle.sink.proofs.LayingLaws.{lay-append, lay-bytes-of, lay-place, lay-ok}
 use Rattle.table.proofs.EngineLaws.{sets-append}
 use Rattle.spelling.specs.Ends.{concluded}
 use Rattle.spelling.specs.Writing.{Seen, here, ran, Fine}
@@ -126,22 +126,22 @@ some-flags o (a ∷ ks) (φ ∷ φs) e = go (hasFlag (a .kind)) refl e (some-fla
     go false q d rest = some-rest (flagSpelling o (a .kind) φ) (flagBits o ks φs) (rest d)
 
 -- ---- bytes of two lists of bits
-pack-append : (o : Order) (m n : ℕ) (bs cs : List Bool) → length bs ≡ 8 * m → pack o (m + n) (bs ++ cs) ≡ pack o m bs ++ pack o n cs
-unfolding pack val
-pack-append o zero n [] cs h = ap (λ (k : ℕ). pack o k cs) (zero-add n)
-pack-append o zero n (b ∷ bs) cs h = absurd (omega arith)
-pack-append o (suc m) n (b₀ ∷ b₁ ∷ b₂ ∷ b₃ ∷ b₄ ∷ b₅ ∷ b₆ ∷ b₇ ∷ bs) cs h =
+bytes-of-append : (o : Order) (m n : ℕ) (bs cs : List Bool) → length bs ≡ 8 * m → bytesOf o (m + n) (bs ++ cs) ≡ bytesOf o m bs ++ bytesOf o n cs
+unfolding bytesOf val
+bytes-of-append o zero n [] cs h = ap (λ (k : ℕ). bytesOf o k cs) (zero-add n)
+bytes-of-append o zero n (b ∷ bs) cs h = absurd (omega arith)
+bytes-of-append o (suc m) n (b₀ ∷ b₁ ∷ b₂ ∷ b₃ ∷ b₄ ∷ b₅ ∷ b₆ ∷ b₇ ∷ bs) cs h =
     let e : suc m + n ≡ suc (m + n) = omega arith in
-    ap (λ (k : ℕ). pack o k (b₀ ∷ b₁ ∷ b₂ ∷ b₃ ∷ b₄ ∷ b₅ ∷ b₆ ∷ b₇ ∷ bs ++ cs)) e
-    ∙ ap (λ (l : List ℕ). val o 8 (b₀ ∷ b₁ ∷ b₂ ∷ b₃ ∷ b₄ ∷ b₅ ∷ b₆ ∷ b₇ ∷ []) ∷ l) (pack-append o m n bs cs (omega arith))
-pack-append o (suc m) n [] cs h = absurd (omega arith)
-pack-append o (suc m) n (b₀ ∷ []) cs h = absurd (omega arith)
-pack-append o (suc m) n (b₀ ∷ b₁ ∷ []) cs h = absurd (omega arith)
-pack-append o (suc m) n (b₀ ∷ b₁ ∷ b₂ ∷ []) cs h = absurd (omega arith)
-pack-append o (suc m) n (b₀ ∷ b₁ ∷ b₂ ∷ b₃ ∷ []) cs h = absurd (omega arith)
-pack-append o (suc m) n (b₀ ∷ b₁ ∷ b₂ ∷ b₃ ∷ b₄ ∷ []) cs h = absurd (omega arith)
-pack-append o (suc m) n (b₀ ∷ b₁ ∷ b₂ ∷ b₃ ∷ b₄ ∷ b₅ ∷ []) cs h = absurd (omega arith)
-pack-append o (suc m) n (b₀ ∷ b₁ ∷ b₂ ∷ b₃ ∷ b₄ ∷ b₅ ∷ b₆ ∷ []) cs h = absurd (omega arith)
+    ap (λ (k : ℕ). bytesOf o k (b₀ ∷ b₁ ∷ b₂ ∷ b₃ ∷ b₄ ∷ b₅ ∷ b₆ ∷ b₇ ∷ bs ++ cs)) e
+    ∙ ap (λ (l : List ℕ). val o 8 (b₀ ∷ b₁ ∷ b₂ ∷ b₃ ∷ b₄ ∷ b₅ ∷ b₆ ∷ b₇ ∷ []) ∷ l) (bytes-of-append o m n bs cs (omega arith))
+bytes-of-append o (suc m) n [] cs h = absurd (omega arith)
+bytes-of-append o (suc m) n (b₀ ∷ []) cs h = absurd (omega arith)
+bytes-of-append o (suc m) n (b₀ ∷ b₁ ∷ []) cs h = absurd (omega arith)
+bytes-of-append o (suc m) n (b₀ ∷ b₁ ∷ b₂ ∷ []) cs h = absurd (omega arith)
+bytes-of-append o (suc m) n (b₀ ∷ b₁ ∷ b₂ ∷ b₃ ∷ []) cs h = absurd (omega arith)
+bytes-of-append o (suc m) n (b₀ ∷ b₁ ∷ b₂ ∷ b₃ ∷ b₄ ∷ []) cs h = absurd (omega arith)
+bytes-of-append o (suc m) n (b₀ ∷ b₁ ∷ b₂ ∷ b₃ ∷ b₄ ∷ b₅ ∷ []) cs h = absurd (omega arith)
+bytes-of-append o (suc m) n (b₀ ∷ b₁ ∷ b₂ ∷ b₃ ∷ b₄ ∷ b₅ ∷ b₆ ∷ []) cs h = absurd (omega arith)
 
 -- ---- the block's bytes
 -- bytes before others
@@ -151,20 +151,20 @@ ahead xs cannot = cannot
 
 -- as many bytes as the flags take
 flag-size : (o : Order) (bs : List Bool) → length (flagBytes o bs) ≡ (length bs + 7) / 8
-flag-size o bs = length-pack o ((length bs + 7) / 8) (bs ++ dig o (skipped (length bs)) 0)
+flag-size o bs = length-bytes-of o ((length bs + 7) / 8) (bs ++ dig o (skipped (length bs)) 0)
 
 flag-whole : (o : Order) (bs : List Bool) → length (bs ++ dig o (skipped (length bs)) 0) ≡ 8 * ((length bs + 7) / 8)
 flag-whole o bs = omega (arith, length-append bs (dig o (skipped (length bs)) 0), length-dig o (skipped (length bs)) 0)
 
-packed-ahead : (o : Order) (bs : List Bool) (w : Possible Written) → ((xs : List ℕ) (cs : List Bool) (ys : List ℕ) → w ≡ this (wrote xs cs ys) → length cs % 8 ≡ 0)
-    → packed o (adjoin [] (bs ++ dig o (skipped (length bs)) 0) w) ≡ ahead (flagBytes o bs) (packed o w)
-packed-ahead o bs cannot h = refl
-packed-ahead o bs (this (wrote xs cs (y ∷ ys))) h = refl
-packed-ahead o bs (this (wrote xs cs [])) h =
+whole-bytes-ahead : (o : Order) (bs : List Bool) (w : Possible Written) → ((xs : List ℕ) (cs : List Bool) (ys : List ℕ) → w ≡ this (wrote xs cs ys) → length cs % 8 ≡ 0)
+    → wholeBytes o (adjoin [] (bs ++ dig o (skipped (length bs)) 0) w) ≡ ahead (flagBytes o bs) (wholeBytes o w)
+whole-bytes-ahead o bs cannot h = refl
+whole-bytes-ahead o bs (this (wrote xs cs (y ∷ ys))) h = refl
+whole-bytes-ahead o bs (this (wrote xs cs [])) h =
     let m : length cs % 8 ≡ 0 = h xs cs [] refl in
     let e : length ((bs ++ dig o (skipped (length bs)) 0) ++ cs) / 8 ≡ (length bs + 7) / 8 + length cs / 8 =
     omega (arith, length-append (bs ++ dig o (skipped (length bs)) 0) cs, flag-whole o bs) in
-    ap this (ap (λ (n : ℕ). pack o n ((bs ++ dig o (skipped (length bs)) 0) ++ cs)) e ∙ pack-append o ((length bs + 7) / 8) (length cs / 8) (bs ++ dig o (skipped (length bs)) 0) cs (flag-whole o bs))
+    ap this (ap (λ (n : ℕ). bytesOf o n ((bs ++ dig o (skipped (length bs)) 0) ++ cs)) e ∙ bytes-of-append o ((length bs + 7) / 8) (length cs / 8) (bs ++ dig o (skipped (length bs)) 0) cs (flag-whole o bs))
 
 module _ (o : Order) (ks : List Attribute) (t : List ℕ) where
   -- the contents, with the skip to a whole byte at their end
@@ -186,7 +186,7 @@ module _ (o : Order) (ks : List Attribute) (t : List ℕ) where
   block-none : flagBits o ks (flagsIn o ks t) ≡ cannot → writeBody o (attributes ks) t ≡ cannot
   unfolding writeBody writePart writeBlock
   block-none e =
-      ap (λ (w : Possible Written). packed o (onward w 0 (λ xs ys p. writeItem o Item.align ys p)))
+      ap (λ (w : Possible Written). wholeBytes o (onward w 0 (λ xs ys p. writeItem o Item.align ys p)))
       (flags-spelt o ks (flagsIn o ks t) 0 _ ∙ ap (λ (b : Possible (List Bool)). spelled b (λ bs. adjoin [] bs (unrun o (rows ks (flagsIn o ks t)) t (0 + length bs)))) e)
 
   contents-flags : (bs : List Bool) → adjoin [] bs (onward (unrun o (rows ks (flagsIn o ks t)) t (0 + length bs)) (0 + length bs) (λ xs ys p. writeItem o Item.align ys p))
@@ -196,13 +196,13 @@ module _ (o : Order) (ks : List Attribute) (t : List ℕ) where
       ap (λ (n : ℕ). adjoin [] bs (unrun o (front (rows ks (flagsIn o ks t))) t n)) (zero-add (length bs))
       ∙ ap (adjoin [] bs) (contents-after (length bs)) ∙ adjoin-twice bs [] (dig o (skipped (length bs)) 0) (contents 0)
 
-  block-some : (bs : List Bool) → flagBits o ks (flagsIn o ks t) ≡ this bs → writeBody o (attributes ks) t ≡ ahead (flagBytes o bs) (packed o (contents 0))
+  block-some : (bs : List Bool) → flagBits o ks (flagsIn o ks t) ≡ this bs → writeBody o (attributes ks) t ≡ ahead (flagBytes o bs) (wholeBytes o (contents 0))
   unfolding writeBody writePart writeBlock
   block-some bs e =
-      ap (λ (w : Possible Written). packed o (onward w 0 (λ xs ys p. writeItem o Item.align ys p)))
+      ap (λ (w : Possible Written). wholeBytes o (onward w 0 (λ xs ys p. writeItem o Item.align ys p)))
       (flags-spelt o ks (flagsIn o ks t) 0 _ ∙ ap (λ (b : Possible (List Bool)). spelled b (λ bs. adjoin [] bs (unrun o (rows ks (flagsIn o ks t)) t (0 + length bs)))) e)
-      ∙ ap (packed o) (onward-adjoin bs (unrun o (rows ks (flagsIn o ks t)) t (0 + length bs)) 0 (λ xs ys p. writeItem o Item.align ys p) ∙ contents-flags bs)
-      ∙ packed-ahead o bs (contents 0) contents-whole
+      ∙ ap (wholeBytes o) (onward-adjoin bs (unrun o (rows ks (flagsIn o ks t)) t (0 + length bs)) 0 (λ xs ys p. writeItem o Item.align ys p) ∙ contents-flags bs)
+      ∙ whole-bytes-ahead o bs (contents 0) contents-whole
 
 -- ---- flags put before bytes that stand one after a
 -- contents up to stop, with their flags
@@ -256,7 +256,7 @@ module _ (o : Order) (ks : List Attribute) (t : List ℕ) (any : anyFlag ks ≡ 
       go cannot e = ap (lies out a) (block-none o ks t e)
       go (this bs) e =
           ap (lies out a) (block-some o ks t bs e)
-          ∙ lies-closed out a (flagBytes o bs) (packed o (contents o ks t 0)) (some-bytes bs e)
+          ∙ lies-closed out a (flagBytes o bs) (wholeBytes o (contents o ks t 0)) (some-bytes bs e)
           ∙ ap (closed a (flagBytes o bs)) (front-law o (rows ks (flagsIn o ks t)) t out (a + 1))
           ∙ more bs (ran o t (mk out (8 * (a + 1)) 0) 0 (rows ks (flagsIn o ks t)))
 
@@ -271,7 +271,7 @@ module _ (o : Order) (ks : List Attribute) (t : List ℕ) (any : anyFlag ks ≡ 
 
       go : (b : Possible (List Bool)) → flagBits o ks (flagsIn o ks t) ≡ b → lies out a (writeBody o (attributes ks) t) ≡ cannot
       go cannot e = ap (lies out a) (block-none o ks t e)
-      go (this bs) e = ap (lies out a) (block-some o ks t bs e) ∙ more (flagBytes o bs) (packed o (contents o ks t 0)) (some-bytes bs e)
+      go (this bs) e = ap (lies out a) (block-some o ks t bs e) ∙ more (flagBytes o bs) (wholeBytes o (contents o ks t 0)) (some-bytes bs e)
 
 -- ---- as the code has it: the bytes moved up, the flags' bits, and the skip after them
 module _ (o : Order) (l : List ℕ) (a : ℕ) (f : Flags) (some : 0 < f .width) where
@@ -301,7 +301,7 @@ module _ (o : Order) (l : List ℕ) (a : ℕ) (f : Flags) (some : 0 < f .width) 
       whole =
           ap₂ (λ (x : State) (n : ℕ). lay o x (dig o n 0)) e place
           ∙ sym (lay-append o (mk u (8 * a) 0) (bitsOf o f) (dig o (skipped (length (bitsOf o f))) 0))
-          ∙ lay-pack o u a ((length (bitsOf o f) + 7) / 8) (bitsOf o f ++ dig o (skipped (length (bitsOf o f))) 0) (flag-whole o (bitsOf o f))
+          ∙ lay-bytes-of o u a ((length (bitsOf o f) + 7) / 8) (bitsOf o f ++ dig o (skipped (length (bitsOf o f))) 0) (flag-whole o (bitsOf o f))
 
   pub put-done : (n more end : ℕ) (u w v : List ℕ) (s : Sink) (byte bit : ℕ) {q : ℕ} → q ≡ 8 * a → more ≡ (f .width + 7) / 8 - 1 → end ≡ a + 1 + n + more → end ≤ longest
       → u ≡ sets l (a + 1 + more) (take n (drop (a + 1) l)) → at w s ≡ lay o (mk u q 0) (bitsOf o f) → Skipped o (at w s) v byte bit → this (lain v end) ≡ underFlags l a (flagBytes o (bitsOf o f)) n
@@ -370,9 +370,9 @@ module _ (o : Order) (ks : List Attribute) (t : List ℕ) (any : anyFlag ks ≡ 
         pub block-room : Held f × (0 < f .width) × (f .width ≤ 18) × (a + 1 ≤ stop) × (stop ≤ longest)
         block-room =
             let some : 0 < length (bitsOf o f) = rw (parts .0) at (some-flags o ks (flagsIn o ks t) any) in
-            let at-end : this (lain v stop) ≡ lies out (a + 1) (packed o (unrun o (front (rows ks (flagsIn o ks t))) t 0)) =
+            let at-end : this (lain v stop) ≡ lies out (a + 1) (wholeBytes o (unrun o (front (rows ks (flagsIn o ks t))) t 0)) =
             ap (lainAs v) (sym z) ∙ h ∙ ap (concluded o (length t)) (sym (parts .1)) ∙ sym (front-law o (rows ks (flagsIn o ks t)) t out (a + 1)) in
-            let between = lies-between out (a + 1) (packed o (unrun o (front (rows ks (flagsIn o ks t))) t 0)) v stop at-end in
+            let between = lies-between out (a + 1) (wholeBytes o (unrun o (front (rows ks (flagsIn o ks t))) t 0)) v stop at-end in
             (ready .0, omega (arith, some, length-dig o (f .width) (f .bits)), ready .1, between .0, between .1)
 
         pub block-done : {x : Possible Lain} → x ≡ underFlags v a (flagBytes o (bitsOf o f)) (stop - (a + 1)) → x ≡ lies out a (writeBody o (attributes ks) t)

@@ -11,7 +11,7 @@ use Rattle.format.specs.Items.{skipped}
 use Rattle.format.specs.Bodies.{Kind, Value, Fixed, BitFlag, Simple, Discrete, Attribute}
 use Rattle.format.specs.Possible.{Possible, this, cannot}
 use Rattle.format.specs.WritingItems.{dig, glue, before, spellFlag}
-use Rattle.format.specs.WritingBodies.{pack}
+use Rattle.format.specs.WritingBodies.{bytesOf}
 use Rattle.write_blocks.specs.declared.Flags.{Flags}
 use Rattle.write_blocks.specs.declared.Flagged.{Flagged}
 use Rattle.write_blocks.specs.declared.Flagged.the-variants.{With, No}
@@ -37,7 +37,7 @@ flagBits o (a ∷ ks) (φ ∷ φs) = joined (flagSpelling o (a .kind) φ) (flagB
 
 -- the bytes that flags take, with zero bits up to a whole one
 abbrev pub flagBytes : Order → List Bool → List ℕ
-flagBytes o bs = pack o ((length bs + 7) / 8) (bs ++ dig o (skipped (length bs)) 0)
+flagBytes o bs = bytesOf o ((length bs + 7) / 8) (bs ++ dig o (skipped (length bs)) 0)
 
 -- some attribute has a flag bit: not all are Fixed
 abbrev pub hasFlag : Kind → Bool

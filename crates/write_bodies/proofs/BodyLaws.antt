@@ -10,7 +10,7 @@ use Rattle.format.specs.Bodies.{Attribute, layerAttributes, textPathOption, mas
 use Rattle.format.specs.FileAndTags.{front}
 use Rattle.format.specs.WritingFormats.{unrun}
 use Rattle.format.specs.Possible.{Possible}
-use Rattle.format.specs.WritingBodies.{writePart, packed, writeBody}
+use Rattle.format.specs.WritingBodies.{writePart, wholeBytes, writeBody}
 use Rattle.attributes.specs.Rows.{attributesOf}
 use Rattle.fixed.specs.Fixed.{fixedOf}
 use Rattle.bodies.specs.Leaf.{isBlock, leafBody}
@@ -33,6 +33,6 @@ module _ (o : Order) (vs out : List ℕ) (a code : ℕ) {x : Possible Lain} wher
   unfolding leafBody
   body-block c e h = rw c (h ∙ ap (λ (l : List Attribute). lies out a (writeBody o (attributes l) vs)) e)
 
-  pub body-fixed : isBlock code ≡ false → x ≡ lies out a (packed o (unrun o (front (fixedOf code)) vs 0)) → x ≡ lies out a (writeBody o (leafBody code) vs)
+  pub body-fixed : isBlock code ≡ false → x ≡ lies out a (wholeBytes o (unrun o (front (fixedOf code)) vs 0)) → x ≡ lies out a (writeBody o (leafBody code) vs)
   unfolding leafBody writeBody writePart unrun
   body-fixed c h = rw c h

@@ -3,7 +3,7 @@ ghost use mathlib.Core.Path.{_≡_};
 ghost use Prim.Native.Nat.{_≤_};
 ghost use Rattle.format.specs.FileAndTags.{front};
 ghost use Rattle.format.specs.WritingFormats.{unrun};
-ghost use Rattle.format.specs.WritingBodies.{packed, writeBody};
+ghost use Rattle.format.specs.WritingBodies.{wholeBytes, writeBody};
 ghost use Rattle.bits.specs.Places.{orderOf};
 ghost use Rattle.fixed.specs.Fixed.{fixedOf};
 ghost use Rattle.bodies.specs.Leaf.{leafBody};
@@ -16,7 +16,7 @@ use sink::Sink;
 // What stands before a container's list, from a byte place on. No file is longer than 16,777,216 bytes.
 pub fn write_front(order: Order, code: u32, values: &[u64], out: &mut [u8], at: BytePlace) -> Body
     requires { ⌜ at .0 ≤ 16777218 ⌝ }
-    ensures { λ r. ⌜ lainAs (now (out .exit)) r ≡ lies (now (out .entry)) (at .0) (packed (orderOf order) (unrun (orderOf order) (front (fixedOf code)) (now (values .entry)) 0)) ⌝ }
+    ensures { λ r. ⌜ lainAs (now (out .exit)) r ≡ lies (now (out .entry)) (at .0) (wholeBytes (orderOf order) (unrun (orderOf order) (front (fixedOf code)) (now (values .entry)) 0)) ⌝ }
 {
     if 16777216 < at.0 {
         return Body::No;

@@ -15,8 +15,8 @@ use Rattle.format.specs.Formats.{the}
 use Rattle.format.specs.FileAndTags.{container, classOf, isEnd, isRead, front}
 use Rattle.format.specs.WritingFormats.{unrun}
 use Rattle.format.specs.Possible.{Possible, this, cannot}
-use Rattle.format.specs.WritingBodies.{packed, writeBody}
-use Rattle.format.specs.WritingFiles.{Made, made, allBytes, claims, fitsState, spellHead, fitsHead, bodyOf, fronted, fill, outTag, headed, unwalkList}
+use Rattle.format.specs.WritingBodies.{wholeBytes, writeBody}
+use Rattle.format.specs.WritingFiles.{Made, made, unpackedAs, claims, fitsState, spellHead, fitsHead, bodyOf, fronted, fill, outTag, headed, unwalkList}
 use Rattle.format.proofs.ListLaws.{unlist-nil, unlist-one}
 use Rattle.format.proofs.ListTrip.{ListIf, list-back}
 use Rattle.format.proofs.Absurd.{clash}
@@ -93,17 +93,13 @@ module _ (o : Order) (code left s n : ℕ) (vs ys : List ℕ) (W : List ℕ → 
 
   fill-is : (class : Class) → Deep class left
       → coded code (fill o W left (classBy class code) s n vs ys) ≡ withList (contains class) W (bodyOf (code ∷ s ∷ n ∷ vs) (valuesIn o class code vs) ys)
-  fill-is Opaque h = go (allBytes vs)
-    where
-      go : (y : Bool) → coded code (pick y (this (made (s ∷ n ∷ vs) vs ys)) cannot) ≡ bodyOf (code ∷ s ∷ n ∷ vs) (pick y (this vs) cannot) ys
-      go true = refl
-      go false = refl
+  fill-is Opaque h = leaf-body (unpackedAs vs)
   fill-is End h = rw counted (go (eqb n 0))
     where
       go : (y : Bool) → coded code (pick y (this (made (s ∷ n ∷ vs) [] ys)) cannot) ≡ bodyOf (code ∷ s ∷ n ∷ vs) (pick y (this []) cannot) ys
       go true = refl
       go false = refl
-  fill-is Container h = rw (ne-eqb left 0 (h refl)) (go (packed o (unrun o (front (fixedOf code)) vs 0)) (W ys) refl)
+  fill-is Container h = rw (ne-eqb left 0 (h refl)) (go (wholeBytes o (unrun o (front (fixedOf code)) vs 0)) (W ys) refl)
     where
       go : (z : Possible (List ℕ)) (m : Possible Made) → W ys ≡ m → coded code (fronted (s ∷ n ∷ vs) z (W ys)) ≡ andThen (bodyOf (code ∷ s ∷ n ∷ vs) z ys) W
       go (this b) (this (made xs′ b′ ys′)) e = rw e

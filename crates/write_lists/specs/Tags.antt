@@ -10,8 +10,8 @@ use Rattle.format.specs.Bits.{Order}
 use Rattle.format.specs.FileAndTags.{isRead, front}
 use Rattle.format.specs.WritingFormats.{unrun}
 use Rattle.format.specs.Possible.{Possible, this, cannot}
-use Rattle.format.specs.WritingBodies.{packed, writeBody}
-use Rattle.format.specs.WritingFiles.{Made, made, allBytes, bodyOf, fitsHead, spellHead}
+use Rattle.format.specs.WritingBodies.{wholeBytes, writeBody}
+use Rattle.format.specs.WritingFiles.{Made, made, unpackedAs, bodyOf, fitsHead, spellHead}
 use Rattle.classes.specs.declared.Class.{Class}
 use Rattle.classes.specs.declared.Class.the-variants.{Opaque, End, Container, Fixed, Attributes}
 use Rattle.classes.specs.Classes.{bare}
@@ -23,20 +23,11 @@ use Rattle.write_lists.specs.declared.Wrote.{Wrote}
 use Rattle.write_lists.specs.declared.Wrote.the-variants.{Done, Impossible}
 use Rattle.write_lists.specs.Stood.{Stood, stood}
 
--- an opaque tag's values are its body
-abbrev pub asBytes : List ℕ → Possible (List ℕ)
-asBytes vs = pick (allBytes vs) (this vs) cannot
-
--- the answer of a function that lays numbers as bytes, and what it leaves: the numbers, if all of them are bytes
-abbrev pub LaidAs : Bool → List ℕ → List ℕ → Type 0
-LaidAs true vs u = (allBytes vs ≡ true) × (u ≡ vs)
-LaidAs false vs u = allBytes vs ≡ false
-
 -- what a tag's values are written as; of a container they stand before its list
 abbrev pub valuesIn : Order → Class → ℕ → List ℕ → Possible (List ℕ)
-valuesIn o Opaque code vs = asBytes vs
+valuesIn o Opaque code vs = unpackedAs vs
 valuesIn o End code vs = pick (eqb (length vs) 0) (this []) cannot
-valuesIn o Container code vs = packed o (unrun o (front (fixedOf code)) vs 0)
+valuesIn o Container code vs = wholeBytes o (unrun o (front (fixedOf code)) vs 0)
 valuesIn o Fixed code vs = writeBody o (leafBody code) vs
 valuesIn o Attributes code vs = writeBody o (leafBody code) vs
 

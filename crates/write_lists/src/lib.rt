@@ -5,13 +5,13 @@ ghost use mathlib.Core.Path.{_≡_};
 ghost use Prim.Native.Nat.{_+_, _≤_, _<_};
 ghost use lib.ListN.{length, getD, drop};
 ghost use Rattle.format.specs.FileAndTags.{classOf};
-ghost use Rattle.format.specs.WritingFiles.{allBytes, claims, unwalkList};
+ghost use Rattle.format.specs.WritingFiles.{claims, unwalkList};
 ghost use Rattle.bits.specs.Places.{orderOf};
 ghost use Rattle.classes.specs.Classes.{contains, ends};
 ghost use Rattle.sink.specs.Lain.{longest, lies, lainAs};
 ghost use Rattle.write_heads.specs.Heads.{keptBytes};
 ghost use Rattle.write_lists.specs.Stood.{over, stoodAs};
-ghost use Rattle.write_lists.specs.Tags.{asBytes, LaidAs, valuesIn, begun, shutAs, After};
+ghost use Rattle.write_lists.specs.Tags.{valuesIn, begun, shutAs, After};
 use bits::BytePlace;
 use bits::Order;
 use classes::Class;
@@ -21,63 +21,6 @@ use sink::Body;
 pub enum Wrote {
     Done(BytePlace, usize),
     Impossible,
-}
-
-// Bytes from numbers, up to the first number that is none. The two have one length and are plain locals in the loop: no room is tested.
-fn lay_bytes(values: &[u64], out: &mut [u8]) -> bool
-    requires { ⌜ length (now values) ≡ length (now out) ⌝ }
-    ensures { λ r. ⌜ LaidAs r (now (values .entry)) (now (out .exit)) ⌝ }
-{
-    let count = values.len();
-    let mut i = 0;
-    while i < count {
-        let value = values[i];
-        if 255 < value {
-            return false;
-        }
-        out[i] = value as u8;
-        i += 1;
-    }
-    true
-}
-
-// Whether these numbers are bytes: those for which there is no room.
-fn are_bytes(values: &[u64]) -> bool
-    ensures { λ r. ⌜ r ≡ allBytes (now (values .entry)) ⌝ }
-{
-    let count = values.len();
-    let mut i = 0;
-    while i < count {
-        if 255 < values[i] {
-            return false;
-        }
-        i += 1;
-    }
-    true
-}
-
-// The values of an opaque tag are its bytes.
-fn copy_bytes(values: &[u64], out: &mut [u8], at: BytePlace) -> Body
-    requires { ⌜ at .0 ≤ longest ⌝ }
-    ensures { λ r. ⌜ lainAs (now (out .exit)) r ≡ lies (now (out .entry)) (at .0) (asBytes (now (values .entry))) ⌝ }
-{
-    let count = values.len();
-    let from = at.0;
-    if 16777216 - from < count {
-        return Body::No;
-    }
-    let room = table::room_for(out.len(), from, count);
-    if 0 < room {
-        let to = from + room;
-        if !lay_bytes(&values[0..room], &mut out[from..to]) {
-            return Body::No;
-        }
-    }
-    if are_bytes(&values[room..]) {
-        let stop = from + count;
-        return Body::To(BytePlace(stop));
-    }
-    Body::No
 }
 
 // The values of a tag, by its class.
@@ -93,7 +36,7 @@ fn write_tag_values(
     ensures { λ r. ⌜ lainAs (now (out .exit)) r ≡ lies (now (out .entry)) (at .0) (valuesIn (orderOf order) class code (now (values .entry))) ⌝ }
 {
     match class {
-        Class::Opaque => copy_bytes(values, out, at),
+        Class::Opaque => write_opaque::unpack_bytes(values, out, at),
         Class::End => if values.len() == 0 {
             Body::To(at)
         } else {

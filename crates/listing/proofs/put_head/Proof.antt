@@ -1,11 +1,14 @@
 use denote.Ref.{now}
-use mathlib.Core.Path.{refl, _∙_}
+use mathlib.Core.Path.{refl, ap, _∙_}
 use native.Mathlib.Omega.{arith}
-use Rattle.listing.proofs.StepLaws.{head-laid}
+use Rattle.listing.specs.declared.Cursor.{Cursor}
+use Rattle.listing.specs.Steps.{headStep}
+use Rattle.listing.proofs.StepLaws.{head-laid, after-text}
 use Rattle.listing.proofs.put_head.Statement.{statement}
 use Rattle.listing.proofs.put_head.Tie as tie
 use Rattle.listing.proofs.put_head.Reads as reads
 use Rattle.listing.proofs.put_head.Lts as lts
+use Rattle.listing.proofs.after_head.Reads as after-head-reads
 use Rattle.listing.proofs.ender_of.Reads as ender-of-reads
 use Rattle.listing.proofs.fields.put_field.Reads as put-field-reads
 use Rattle.listing.proofs.fields.put_tabbed.Reads as put-tabbed-reads
@@ -42,20 +45,20 @@ slice-aggregate-put-tabbed c = refl
 put-tabbed-requires : tie.Need-put-tabbed-requires
 put-tabbed-requires c κs = omega (arith, c .before .before .before .before .before .before .before .before .before .before .pre .0)
 
-add-number-at : tie.Need-add-number-at
-add-number-at c = omega (arith, c .before .before .before .before .before .before .before .before .before .before .before .before .before .before .pre .1)
+add-after-head : tie.Need-add-after-head
+add-after-head c = omega (arith, c .before .before .before .before .before .before .before .before .before .before .before .before .before .pre .2)
 
-number-at-requires-2 : tie.Need-number-at-requires-2
-number-at-requires-2 c κs = tt
-
-add-number-at-2 : tie.Need-add-number-at-2
-add-number-at-2 c = omega (arith, c .before .before .before .before .before .before .before .before .before .before .before .before .before .before .before .pre .1)
-
-number-at-requires-3 : tie.Need-number-at-requires-3
-number-at-requires-3 c κs = tt
+after-head-requires : tie.Need-after-head-requires
+after-head-requires c κs = c .before .before .before .before .before .before .before .before .before .before .before .before .before .pre .1
 
 ender-of-requires : tie.Need-ender-of-requires
 ender-of-requires c κs = tt
+
+add-number-at : tie.Need-add-number-at
+add-number-at c = omega (arith, c .before .before .before .before .before .before .before .before .before .before .before .before .before .before .before .before .pre .1)
+
+number-at-requires-2 : tie.Need-number-at-requires-2
+number-at-requires-2 c κs = tt
 
 put-field-requires : tie.Need-put-field-requires
 put-field-requires c κs = omega (arith, c .before .before .before .before .before .before .before .before .before .before .before .before .before .before .before .before .before .pre .0, c .before .before .before .before .before .before .put-tabbed .ensures .1, c .before .before .before .before .before .before .put-tabbed .kept .0)
@@ -65,9 +68,10 @@ same-length c = c .before .before .put-field .kept .0 ∙ c .before .before .bef
 
 returns : tie.Need-returns
 returns c = (
-  head-laid (now (c .before .before .before .before .before .before .before .before .before .before .before .before .before .before .before .before .before .before .before .before .args .out)) (now (c .before .before .before .before .before .before .before .before .before .before .before .before .before .before .before .before .before .before .before .before .args .table)) (now (c .before .before .before .before .before .before .before .before .before .before .before .before .before .before .before .before .before .before .before .before .args .rows)) (c .before .before .before .before .before .before .before .before .before .before .before .before .before .before .before .before .before .before .before .before .args .from) (c .before .before .before .before .before .before .before .before .before .before .before .before .before .before .before .before .before .before .before .before .args .index) (c .before .before .before .before .before .before .before .before .before .before .before .before .before .before .before .before .before .before .before .before .args .row) (c .before .before .before .before .before .before .before .before .before .before .before .before .before .before .before .before .row-at .result) (c .before .before .before .before .before .before .before .before .before .before .before .before .before .before .before .row-at2 .result) (c .before .before .before .before .before .before .before .before .before .before .before .before .before .before .row-at3 .result) (c .before .before .before .before .before .before .before .before .before .before .before .before .before .row-at4 .result) (c .before .before .before .before .before .before .before .before .before .before .before .before .number-at .result)
-      (c .before .before .before .before .before .number-at2 .result) (c .before .before .before .ender-of .result) (c .before .before .before .before .number-at3 .result) (c .before .before .before .before .before .before .before .before .before .before .before .before .before .before .before .before .row-at .ensures) (c .before .before .before .before .before .before .before .before .before .before .before .before .before .before .before .row-at2 .ensures) (c .before .before .before .before .before .before .before .before .before .before .before .before .before .before .row-at3 .ensures) (c .before .before .before .before .before .before .before .before .before .before .before .before .before .row-at4 .ensures) (c .before .before .before .before .before .before .before .before .before .before .before .before .number-at .ensures) (c .before .before .before .before .before .before .before .before .before .put-tabbed .ensures .0)
-      (c .before .before .before .before .before .number-at2 .ensures) (c .before .before .before .before .number-at3 .ensures) (c .before .before .before .ender-of .ensures) (c .before .before .put-field .ensures .0),
+  after-text (now (c .before .before .before .before .before .before .before .before .before .before .before .before .before .before .before .before .before .before .before .before .args .out)) (c .before .before .before .before .before .before .before .before .before .before .before .before .before .before .before .before .before .before .before .before .args .from) (headStep (now (c .before .before .before .before .before .before .before .before .before .before .before .before .before .before .before .before .before .before .before .before .args .table)) (now (c .before .before .before .before .before .before .before .before .before .before .before .before .before .before .before .before .before .before .before .before .args .rows)) (c .before .before .before .before .before .before .before .before .before .before .before .before .before .before .before .before .before .before .before .before .args .index) (c .before .before .before .before .before .before .before .before .before .before .before .before .before .before .before .before .before .before .before .before .args .row))
+      (head-laid (now (c .before .before .before .before .before .before .before .before .before .before .before .before .before .before .before .before .before .before .before .before .args .out)) (now (c .before .before .before .before .before .before .before .before .before .before .before .before .before .before .before .before .before .before .before .before .args .table)) (now (c .before .before .before .before .before .before .before .before .before .before .before .before .before .before .before .before .before .before .before .before .args .rows)) (c .before .before .before .before .before .before .before .before .before .before .before .before .before .before .before .before .before .before .before .before .args .from) (c .before .before .before .before .before .before .before .before .before .before .before .before .before .before .before .before .before .before .before .before .args .index) (c .before .before .before .before .before .before .before .before .before .before .before .before .before .before .before .before .before .before .before .before .args .row) (c .before .before .before .before .before .before .before .before .before .before .before .before .before .before .before .before .row-at .result) (c .before .before .before .before .before .before .before .before .before .before .before .before .before .before .before .row-at2 .result) (c .before .before .before .before .before .before .before .before .before .before .before .before .before .before .row-at3 .result) (c .before .before .before .before .before .before .before .before .before .before .before .before .before .row-at4 .result) (c .before .before .before .before .before .before .before .before .before .before .before .before .number-at .result)
+      (c .before .before .before .number-at2 .result) (c .before .before .before .before .before .ender-of .result) (c .before .before .before .before .before .before .after-head .result .left) (c .before .before .before .before .before .before .before .before .before .before .before .before .before .before .before .before .row-at .ensures) (c .before .before .before .before .before .before .before .before .before .before .before .before .before .before .before .row-at2 .ensures) (c .before .before .before .before .before .before .before .before .before .before .before .before .before .before .row-at3 .ensures) (c .before .before .before .before .before .before .before .before .before .before .before .before .before .row-at4 .ensures) (c .before .before .before .before .before .before .before .before .before .before .before .before .number-at .ensures) (c .before .before .before .before .before .before .before .before .before .put-tabbed .ensures .0)
+      (c .before .before .before .number-at2 .ensures) (ap (λ (x : Cursor). x .left) (c .before .before .before .before .before .before .after-head .ensures)) (c .before .before .before .before .before .ender-of .ensures) (c .before .before .put-field .ensures .0)) (c .before .before .before .before .before .before .after-head .ensures),
   omega (arith, c .before .before .before .before .before .before .before .before .before .put-tabbed .ensures .1, c .before .before .put-field .ensures .1),
 )
 
@@ -85,11 +89,11 @@ put-head-spec =
     number-at-requires
     slice-aggregate-put-tabbed
     put-tabbed-requires
+    add-after-head
+    after-head-requires
+    ender-of-requires
     add-number-at
     number-at-requires-2
-    add-number-at-2
-    number-at-requires-3
-    ender-of-requires
     put-field-requires
     same-length
     returns)

@@ -9,14 +9,14 @@ use Rattle.tags.proofs.read_tag_values.Tie as tie
 use Rattle.tags.proofs.read_tag_values.Reads as reads
 use Rattle.tags.proofs.read_tag_values.Lts as lts
 use Rattle.bodies.proofs.read_body.Reads as read-body-reads
-use Rattle.tags.proofs.copy_bytes.Reads as copy-bytes-reads
+use Rattle.tags.proofs.pack_bytes.Reads as pack-bytes-reads
 use Rattle.tags.proofs.read_front.Reads as read-front-reads
 
 enum-told : tie.Need-enum-told
 enum-told c = search needs
 
-copy-bytes-requires : tie.Need-copy-bytes-requires
-copy-bytes-requires c κs = search needs
+pack-bytes-requires : tie.Need-pack-bytes-requires
+pack-bytes-requires c κs = search needs
 
 enum-told-2 : tie.Need-enum-told-2
 enum-told-2 c = search needs
@@ -43,7 +43,7 @@ same-length : tie.Need-same-length
 same-length c = search needs
 
 returns : tie.Need-returns
-returns c = let a = c .before .before .before .before .before .before .before .before .args in values-of (orderOf (a .order)) (now (a .body)) (now (a .table)) (a .from) (a .code) Opaque (c .before .before .before .before .enum-told .given .1) (c .before .before .copy-bytes .ensures)
+returns c = let a = c .before .before .before .before .before .before .before .before .args in values-of (orderOf (a .order)) (now (a .body)) (now (a .table)) (a .from) (a .code) Opaque (c .before .before .before .before .enum-told .given .1) (c .before .before .pack-bytes .ensures)
 
 returns-2 : tie.Need-returns-2
 returns-2 c = let a = c .before .before .before .before .args in values-of (orderOf (a .order)) (now (a .body)) (now (a .table)) (a .from) (a .code) End (c .enum-told2 .given .1) (none-left (now (a .table)) (a .from) refl)
@@ -71,7 +71,7 @@ read-tag-values-spec =
     tie.close
     (tie.spec
     enum-told
-    copy-bytes-requires
+    pack-bytes-requires
     enum-told-2
     enum-told-3
     read-front-requires

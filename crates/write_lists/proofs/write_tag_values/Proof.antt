@@ -10,13 +10,13 @@ use Rattle.write_lists.proofs.write_tag_values.Reads as reads
 use Rattle.write_lists.proofs.write_tag_values.Lts as lts
 use Rattle.write_bodies.proofs.write_body.Reads as write-body-reads
 use Rattle.write_bodies.proofs.write_front.Reads as write-front-reads
-use Rattle.write_lists.proofs.copy_bytes.Reads as copy-bytes-reads
+use Rattle.write_opaque.proofs.unpack_bytes.Reads as unpack-bytes-reads
 
 enum-told : tie.Need-enum-told
 enum-told c = search needs
 
-copy-bytes-requires : tie.Need-copy-bytes-requires
-copy-bytes-requires c κs = search needs
+unpack-bytes-requires : tie.Need-unpack-bytes-requires
+unpack-bytes-requires c κs = search needs
 
 enum-told-2 : tie.Need-enum-told-2
 enum-told-2 c = search needs
@@ -43,7 +43,7 @@ same-length : tie.Need-same-length
 same-length c = search needs
 
 returns : tie.Need-returns
-returns c = values-of (orderOf (c .before .before .before .before .before .before .before .before .args .order)) (now (c .before .before .before .before .before .before .before .before .args .out)) (c .before .before .before .before .before .before .before .before .args .at .0) (now (c .before .before .before .before .before .before .before .before .args .values)) (c .before .before .before .before .before .before .before .before .args .code) Opaque (c .before .before .before .before .enum-told .given .1) (c .before .before .copy-bytes .ensures)
+returns c = values-of (orderOf (c .before .before .before .before .before .before .before .before .args .order)) (now (c .before .before .before .before .before .before .before .before .args .out)) (c .before .before .before .before .before .before .before .before .args .at .0) (now (c .before .before .before .before .before .before .before .before .args .values)) (c .before .before .before .before .before .before .before .before .args .code) Opaque (c .before .before .before .before .enum-told .given .1) (c .before .before .unpack-bytes .ensures)
 
 returns-2 : tie.Need-returns-2
 returns-2 c = values-of (orderOf (c .before .before .before .before .before .args .order)) (now (c .before .before .before .before .before .args .out)) (c .before .before .before .before .before .args .at .0) (now (c .before .before .before .before .before .args .values)) (c .before .before .before .before .before .args .code) End (c .before .enum-told2 .given .1) (end-none (orderOf (c .before .before .before .before .before .args .order)) (now (c .before .before .before .before .before .args .out)) (c .before .before .before .before .before .args .at .0) (now (c .before .before .before .before .before .args .values)) (c .before .before .before .before .before .args .code) (c .before .before .before .before .before .pre) (omega (arith, c .if1 .taken)))
@@ -74,7 +74,7 @@ write-tag-values-spec =
     tie.close
     (tie.spec
     enum-told
-    copy-bytes-requires
+    unpack-bytes-requires
     enum-told-2
     enum-told-3
     write-front-requires
