@@ -2,3 +2,4 @@
 pub mod SkimLaws
 pub mod FileLaws
 pub mod Demands
+pub mod Room
