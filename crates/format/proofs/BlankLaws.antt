@@ -1,0 +1,305 @@
+-- Opaque bytes reach nothing else (C-20): the theorem `blanking`, at the end.
+use Prim.Native.Nat.{ℕ, zero, suc, pred, _+_, _-_, _*_, _/_, _%_, _^_, _≤_, _<_}
+use mathlib.Core.List.{List, [], _∷_, _++_, map}
+use mathlib.Core.Path.{_≡_, refl, ap, ap₂, sym, _∙_, subst}
+use mathlib.Core.Bool.{Bool, true, false}
+use lib.ListN.{length, getD, take, drop, length-append, length-drop, List·getD-eq-default}
+use lib.Seq.{length-take-le, getD-take, getD-drop, ext-getD}
+use lib.Dec.{ltb, leb, eqb, lit<}
+use borrow.Author.Tests.{ltb-true, ltb-false, eqb-true}
+use native.Mathlib.Omega.{arith}
+use Rattle.format.specs.Tests.{pick}
+use Rattle.format.specs.Bits.{Order, bitAt, orderNamed}
+use Rattle.format.specs.Reading.{Ending, At, Fault, Reading, shows}
+use Rattle.format.specs.Formats.{Format}
+use Rattle.format.specs.Items.{run}
+use Rattle.format.specs.Bodies.{readBody}
+use Rattle.format.specs.FileAndTags.{le16, le32, compression, Class, opaque, end, container, known, classOf, isEnd, isContainer, isRead, longOnShort, stateOf, eights, packed, Tag, Outcome, whole, fault, Walk, broken, noTags, chain, Head, head, noHead, rawHead, passes, readHead, Owner, file, inside, TagInside, endAt, front, opened, within, atEnd, afterTag, tagThen, oneTag, walk, walkList}
+use Rattle.format.specs.TableOfNumbers.{numbers, table, isOpaque, showing, tagTable, changed}
+use Rattle.format.specs.Levels.{endOf}
+use Rattle.format.specs.Reasons.{startFault, walkFile, Result, gives, refuses, result, readFile, readTags}
+use Rattle.format.specs.Blanking.{InOpaque, here, later, Blanked, zeroed, zeroedTag, zeroedTable}
+use Rattle.format.specs.WritingFormats.{unrun}
+use Rattle.format.specs.WritingItems.{Written, wrote}
+use Rattle.format.specs.Possible.{this}
+use Rattle.format.proofs.BitLaws.{Has}
+use Rattle.format.proofs.ItemLaws.{round-trip}
+use Rattle.format.proofs.ListTrip.{front-whole}
+use Rattle.format.proofs.StartLaws.{good-start}
+use Rattle.format.proofs.StateLaws.{state-opaque}
+use Rattle.format.proofs.Trip.{There, Back, has-le}
+use Rattle.format.proofs.WalkLaws.{run-le, Fits, head-fits, Between, between-append, between-wider, Before, before-later, Placed, placed-within, placed-after, placed}
+use Rattle.format.proofs.Absurd.{clash}
+
+-- ---- places outside of opaque bodies
+-- before tags, and past them
+before-tags : (n a b : ℕ) (ts : List Tag) → Between a b ts → n < a → InOpaque n ts → ⊥
+before-tags n a b (t ∷ ts) h l (here e p q) = omega (arith, h .0)
+before-tags n a b (t ∷ ts) h l (later i) = before-tags n a b ts (h .3) l i
+
+past-tags : (n a b : ℕ) (ts : List Tag) → Between a b ts → b ≤ n → InOpaque n ts → ⊥
+past-tags n a b (t ∷ ts) h l (here e p q) = omega (arith, h .2)
+past-tags n a b (t ∷ ts) h l (later i) = past-tags n a b ts (h .3) l i
+
+-- in the tags of a list that are followed by others: in these or those
+not-in-both : (n : ℕ) (ts us : List Tag) → (InOpaque n ts → ⊥) → (InOpaque n us → ⊥) → InOpaque n (ts ++ us) → ⊥
+not-in-both n [] us h k i = k i
+not-in-both n (t ∷ ts) us h k (here e p q) = h (here e p q)
+not-in-both n (t ∷ ts) us h k (later i) = not-in-both n ts us (λ j. h (later j)) k i
+
+not-in-chain : (n : ℕ) (ts : List Tag) (z : Outcome) (w : Walk) → (InOpaque n ts → ⊥) → (z ≡ whole → InOpaque n (w .tags) → ⊥) → InOpaque n (chain ts z w .tags) → ⊥
+not-in-chain n ts whole w h k = not-in-both n ts (w .tags) h (k refl)
+not-in-chain n ts (fault e m) w h k = h
+
+not-in-tag : (n : ℕ) (t : Tag) (ts : List Tag) → (isOpaque (t .state) ≡ true → t .place + t .headerSize ≤ n → n < endOf t → ⊥) → (InOpaque n ts → ⊥) → InOpaque n (t ∷ ts) → ⊥
+not-in-tag n t ts h k (here e p q) = h e p q
+not-in-tag n t ts h k (later i) = k i
+
+-- ---- two rooms at place a, one length, that agree but for opaque bodies of the tags ts
+pub record Alike (a : ℕ) (ts : List Tag) (r r′ : List ℕ) : Type 0 where
+  pub long : length r′ ≡ length r
+  pub same : (i : ℕ) → (InOpaque (a + i) ts → ⊥) → getD r′ i 0 ≡ getD r i 0
+
+-- without tags they are equal
+alike-none : (a : ℕ) (r r′ : List ℕ) → Alike a [] r r′ → r′ ≡ r
+alike-none a r r′ h = ext-getD 0 r′ r (h .long) (λ i l. h .same i (λ j. before-tags (a + i) (suc (a + i)) 0 [] tt (omega arith) j))
+
+-- ---- headers
+module _ (r r′ : List ℕ) (long : length r′ ≡ length r) where
+  same-16 : getD r′ 0 0 ≡ getD r 0 0 → getD r′ 1 0 ≡ getD r 1 0 → le16 r′ ≡ le16 r
+  same-16 a b = rw (a, b)
+
+  same-32 : ((i : ℕ) → i < 6 → getD r′ i 0 ≡ getD r i 0) → le32 (drop 2 r′) ≡ le32 (drop 2 r)
+  same-32 h =
+      rw (
+        getD-drop 2 r′ 0 0,
+        getD-drop 2 r′ 1 0,
+        getD-drop 2 r′ 2 0,
+        getD-drop 2 r′ 3 0,
+        getD-drop 2 r 0 0,
+        getD-drop 2 r 1 0,
+        getD-drop 2 r 2 0,
+        getD-drop 2 r 3 0,
+        h 2 (lit< tt),
+        h 3 (lit< tt),
+        h 4 (lit< tt),
+        h 5 (lit< tt),
+      )
+
+  same-raw : (code len size : ℕ) → rawHead r ≡ head code len size → ((i : ℕ) → i < size → getD r′ i 0 ≡ getD r i 0) → rawHead r′ ≡ head code len size
+  same-raw code len size e h = rw long (go (ltb (length r) 2) (eqb (le16 r % 64) 63) refl (ltb (length r) 6) e)
+    where
+      short : 2 ≤ size → le16 r′ ≡ le16 r
+      short l = same-16 (h 0 (omega arith)) (h 1 (omega arith))
+
+      go : (c d : Bool) → eqb (le16 r % 64) 63 ≡ d → (e : Bool)
+          → pick c (noHead 6) (pick d (pick e (noHead 6) (head (le16 r / 64) (le32 (drop 2 r)) 6)) (head (le16 r / 64) (le16 r % 64) 2)) ≡ head code len size
+          → pick c (noHead 6) (pick (eqb (le16 r′ % 64) 63) (pick e (noHead 6) (head (le16 r′ / 64) (le32 (drop 2 r′)) 6)) (head (le16 r′ / 64) (le16 r′ % 64) 2)) ≡ head code len size
+      go true d q e x = clash cc
+      go false true q true x = clash cc
+      go false true q false x =
+          let s : 6 ≡ size = cc in
+          rw (short (omega arith), q, same-32 (λ i l. h i (omega arith))) x
+      go false false q e x =
+          let s : 2 ≡ size = cc in
+          rw (short (omega arith), q) x
+
+  -- a header that passed is the one that stands there, and what passes depends on it and on the room's length
+  passed : (class : ℕ → Class) (left : ℕ) (g : Head) (code len size : ℕ) → passes class left r g ≡ head code len size → (g ≡ head code len size) × (passes class left r′ g ≡ head code len size)
+  passed class left (noHead e) code len size q = clash cc
+  passed class left (head code′ len′ size′) code len size q =
+      (go (ltb (length (drop size′ r)) len′) (pick (isEnd (class code′)) (ltb 0 len′) false) (pick (isContainer (class code′)) (eqb left 0) false) q, rw (length-drop size′ r′, long, ← length-drop size′ r) q)
+    where
+      go : (c d e : Bool) → pick c (noHead 9) (pick d (noHead 10) (pick e (noHead 12) (head code′ len′ size′))) ≡ head code len size → head code′ len′ size′ ≡ head code len size
+      go true d e x = clash cc
+      go false true e x = clash cc
+      go false false true x = clash cc
+      go false false false x = x
+
+  same-head : (class : ℕ → Class) (left code len size : ℕ) → readHead class left r ≡ head code len size → ((i : ℕ) → i < size → getD r′ i 0 ≡ getD r i 0) → readHead class left r′ ≡ head code len size
+  same-head class left code len size q h =
+      let p = passed class left (rawHead r) code len size q in
+      ap (passes class left r′) (same-raw code len size (p .0) h ∙ sym (p .0)) ∙ p .1
+
+-- ---- a format depends on the bytes that it used
+module _ (o : Order) (b b′ : List ℕ) (long : length b′ ≡ length b) (k : ℕ) (same : (i : ℕ) → i < k → getD b′ i 0 ≡ getD b i 0) where
+  has-same : (p : ℕ) (bs : List Bool) → p + length bs ≤ 8 * k → Has o b p bs → Has o b′ p bs
+  unfolding bitAt
+  has-same p [] l h = rw long h
+  has-same p (x ∷ bs) l h = (rw (same (p / 8) (omega arith)) (h .0), has-same (suc p) bs (omega arith) (h .1))
+
+  run-same : (f : Format) (q : ℕ) → q ≤ 8 * k → run o b f 0 .ended ≡ At q → run o b′ f 0 ≡ run o b f 0
+  run-same f q l e =
+      let u : There o b 0 q (run o b f 0 .shown) (λ ns p. unrun o f ns p) = rw e at (round-trip o f .there b 0 (omega arith)) in
+      let w : unrun o f (run o b f 0 .shown ++ []) 0 ≡ this (wrote (run o b f 0 .shown) (u .bits) []) = u .again [] in
+      let v : Back o (run o b f 0 .shown ++ []) (run o b f 0 .shown) (u .bits) [] 0 (λ b p. run o b f p) = rw w at (round-trip o f .back (run o b f 0 .shown ++ []) 0) in
+      v .reads b′ (has-same 0 (u .bits) (omega (arith, u .ends)) (u .has)) ∙ sym (v .reads b (u .has))
+
+-- ---- what is left of a walk without the packed bytes
+abbrev zeroedWalk : Walk → Walk
+zeroedWalk w = record { tags = map zeroedTag (w .tags); ended = w .ended }
+
+zeroed-append : (ts us : List Tag) → map zeroedTag (ts ++ us) ≡ map zeroedTag ts ++ map zeroedTag us
+zeroed-append [] us = refl
+zeroed-append (t ∷ ts) us = ap (λ (ts : List Tag). zeroedTag t ∷ ts) (zeroed-append ts us)
+
+zeroed-chain : (ts : List Tag) (z : Outcome) (w : Walk) → zeroedWalk (chain ts z w) ≡ chain (map zeroedTag ts) z (zeroedWalk w)
+zeroed-chain ts whole w = ap (λ (us : List Tag). record { tags = us; ended = w .ended }) (zeroed-append ts (w .tags))
+zeroed-chain ts (fault e n) w = refl
+
+-- packed bodies of one length
+zeroed-eights : (k : ℕ) (b b′ : List ℕ) → map {B = ℕ} (λ (w : ℕ). 0) (eights k b′) ≡ map {B = ℕ} (λ (w : ℕ). 0) (eights k b)
+unfolding eights
+zeroed-eights zero b b′ = refl
+zeroed-eights (suc k) b b′ = ap (λ (r : List ℕ). 0 ∷ r) (zeroed-eights k (drop 8 b) (drop 8 b′))
+
+zeroed-packed : (b b′ : List ℕ) → length b′ ≡ length b → zeroed (packed b′) ≡ zeroed (packed b)
+zeroed-packed b b′ e = rw e (ap (λ (r : List ℕ). length b ∷ r) (zeroed-eights ((length b + 7) / 8) b b′))
+
+-- two walks, each a tag with what stands in it and what follows it
+same-chain : (t t′ : Tag) (v v′ w w′ : Walk) → zeroedTag t′ ≡ zeroedTag t → zeroedWalk v′ ≡ zeroedWalk v → (v .ended ≡ whole → zeroedWalk w′ ≡ zeroedWalk w)
+    → zeroedWalk (chain (t′ ∷ v′ .tags) (v′ .ended) w′) ≡ zeroedWalk (chain (t ∷ v .tags) (v .ended) w)
+same-chain t t′ v v′ w w′ x y k =
+    zeroed-chain (t′ ∷ v′ .tags) (v′ .ended) w′
+    ∙ ap₂ (λ (u : Tag) (z : Walk). chain (u ∷ z .tags) (z .ended) (zeroedWalk w′)) x y
+    ∙ go (v .ended) k
+    ∙ sym (zeroed-chain (t ∷ v .tags) (v .ended) w)
+  where
+    go : (z : Outcome) → (z ≡ whole → zeroedWalk w′ ≡ zeroedWalk w) → chain (map zeroedTag (t ∷ v .tags)) z (zeroedWalk w′) ≡ chain (map zeroedTag (t ∷ v .tags)) z (zeroedWalk w)
+    go whole k = ap (chain (map zeroedTag (t ∷ v .tags)) whole) (k refl)
+    go (fault e n) k = refl
+
+-- ---- the walks of two rooms that agree but for opaque bodies of the first one's tags
+module _ (o : Order) (class : ℕ → Class) where
+  abbrev Kept : (Owner → ℕ → List ℕ → Walk) → Type 0
+  Kept R = (c : Owner) (a : ℕ) (r r′ : List ℕ) → Before c a → Alike a (R c a r .tags) r r′ → zeroedWalk (R c a r′) ≡ zeroedWalk (R c a r)
+
+  abbrev AllPlaced : (Owner → ℕ → List ℕ → Walk) → Type 0
+  AllPlaced R = (c : Owner) (a : ℕ) (r : List ℕ) → Before c a → Placed c a (a + length r) (R c a r)
+
+  -- what stands in a tag: the same list inside, and the same values unless it is opaque
+  abbrev SameInside : Class → TagInside → TagInside → Type 0
+  SameInside cl i i′ = (zeroedWalk (i′ .walk) ≡ zeroedWalk (i .walk)) × (pick (eqb (isRead cl) 0) (zeroed (i′ .values)) (i′ .values) ≡ pick (eqb (isRead cl) 0) (zeroed (i .values)) (i .values))
+
+  module _ (R : Owner → ℕ → List ℕ → Walk) (lists : Kept R) (places : AllPlaced R) where
+    same-within : (cl : Class) (a s : ℕ) (body body′ : List ℕ) → a < s → length body′ ≡ length body
+        → (eqb (isRead cl) 0 ≡ false → Alike s (within o R cl a s body .walk .tags) body body′) → SameInside cl (within o R cl a s body) (within o R cl a s body′)
+    same-within opaque a s body body′ l n h = (refl, zeroed-packed body body′ n)
+    same-within end a s body body′ l n h = (refl, refl)
+    same-within (known y) a s body body′ l n h = rw (alike-none s body body′ (h refl)) (refl, refl)
+    same-within (container f) a s body body′ l n h = go (run o body (front f) 0 .ended) refl (h refl)
+      where
+        go : (z : Ending) → run o body (front f) 0 .ended ≡ z → Alike s (opened R a s body (run o body (front f) 0 .shown) (run o body (front f) 0 .ended) .walk .tags) body body′
+            → SameInside (container f) (within o R (container f) a s body) (within o R (container f) a s body′)
+        go (Fault e) q u = rw (alike-none s body body′ (rw q at u)) (refl, refl)
+        go (At p) q u = rw (run-same o body body′ n (p / 8) front-same (front f) p (omega (arith, ends)) q, q) (lists (inside a) (s + p / 8) (drop (p / 8) body) (drop (p / 8) body′) (omega arith) rest, refl)
+          where
+            ends : 8 * (p / 8) ≡ p
+            ends = rw q at (front-whole o f body)
+
+            opens : Alike s (R (inside a) (s + p / 8) (drop (p / 8) body) .tags) body body′
+            opens = rw q at u
+
+            front-same : (i : ℕ) → i < p / 8 → getD body′ i 0 ≡ getD body i 0
+            front-same i m = opens .same i (before-tags (s + i) (s + p / 8) (s + p / 8 + length (drop (p / 8) body)) (R (inside a) (s + p / 8) (drop (p / 8) body) .tags)
+                (places (inside a) (s + p / 8) (drop (p / 8) body) (omega arith) .tags) (omega arith))
+
+            rest : Alike (s + p / 8) (R (inside a) (s + p / 8) (drop (p / 8) body) .tags) (drop (p / 8) body) (drop (p / 8) body′)
+            rest = record {
+              long = rw (length-drop (p / 8) body′, length-drop (p / 8) body, n);
+              same = λ i k. rw (getD-drop (p / 8) body′ i 0, getD-drop (p / 8) body i 0) (opens .same (p / 8 + i) (subst (λ (m : ℕ). InOpaque m (R (inside a) (s + p / 8) (drop (p / 8) body) .tags) → ⊥) (omega arith) k));
+            }
+
+  same-after : (next : ℕ → List ℕ → Walk) (e : Bool) (c : Owner) (b : ℕ) (q q′ : List ℕ) → (Alike b (next b q .tags) q q′ → zeroedWalk (next b q′) ≡ zeroedWalk (next b q))
+      → Alike b (afterTag e c b q next .tags) q q′ → zeroedWalk (afterTag e c b q′ next) ≡ zeroedWalk (afterTag e c b q next)
+  same-after next false c b q q′ u h = u h
+  same-after next true c b [] [] u h = refl
+  same-after next true c b [] (y ∷ q′) u h = absurd (omega (arith, h .long))
+  same-after next true c b (x ∷ q) [] u h = absurd (omega (arith, h .long))
+  same-after next true c b (x ∷ q) (y ∷ q′) u h = refl
+
+  -- one tag, by its header, and the rest of its list
+  module _ (R : ℕ → Owner → ℕ → List ℕ → Walk) (lists : (left : ℕ) → Kept (R left)) (places : (left : ℕ) → AllPlaced (R left))
+      (left : ℕ) (c : Owner) (a : ℕ) (r r′ : List ℕ) (before : Before c a) where
+    module _ (code len size : ℕ) (fits : Fits class left r (head code len size)) (h : Alike a (oneTag o class R left c a r (head code len size) .tags) r r′) where
+      abbrev bodyOf : List ℕ → List ℕ
+      bodyOf r = take len (drop size r)
+
+      abbrev insideOf : List ℕ → TagInside
+      insideOf r = within o (R (pred left)) (class code) a (a + size) (bodyOf r)
+
+      abbrev afterOf : List ℕ → Walk
+      afterOf r = afterTag (isEnd (class code)) c (a + size + len) (drop (size + len) r) (R left c)
+
+      abbrev tagOf : List ℕ → Tag
+      tagOf r = record { depth = 8 - left; code = code; place = a; headerSize = size; bodyLength = len; state = stateOf (class code) size len; values = insideOf r .values }
+
+      body-long : (r : List ℕ) → size + len ≤ length r → length (bodyOf r) ≡ len
+      body-long r l = length-take-le len (drop size r) (rw length-drop (omega arith))
+
+      -- the tags inside, and those that follow
+      inner : Between (a + size) (a + size + len) (insideOf r .walk .tags)
+      inner = rw (body-long r (fits .1)) at (placed-within o class (R (pred left)) (places (pred left)) (class code) a (a + size) (bodyOf r) (omega (arith, fits .0)) .tags)
+
+      then : Between (a + size + len) (a + size + len + length (drop (size + len) r)) (afterOf r .tags)
+      then = placed-after o class (isEnd (class code)) c (a + size + len) (drop (size + len) r) (R left c) (before-later c a (a + size + len) (omega arith) before)
+          (places left c (a + size + len) (drop (size + len) r) (before-later c a (a + size + len) (omega arith) before)) .tags
+
+      header-same : (i : ℕ) → i < size → getD r′ i 0 ≡ getD r i 0
+      header-same i l = h .same i (not-in-chain (a + i) (tagOf r ∷ insideOf r .walk .tags) (insideOf r .walk .ended) (afterOf r)
+          (not-in-tag (a + i) (tagOf r) (insideOf r .walk .tags) (λ e p q. omega arith) (before-tags (a + i) (a + size) (a + size + len) (insideOf r .walk .tags) inner (omega arith)))
+          (λ e. before-tags (a + i) (a + size + len) (a + size + len + length (drop (size + len) r)) (afterOf r .tags) then (omega arith)))
+
+      body-same : eqb (isRead (class code)) 0 ≡ false → Alike (a + size) (insideOf r .walk .tags) (bodyOf r) (bodyOf r′)
+      body-same reads = record {
+        long = body-long r′ (omega (arith, fits .1, h .long)) ∙ sym (body-long r (fits .1));
+        same = λ i k. go i k (ltb i len) refl;
+      }
+        where
+          go : (i : ℕ) → (InOpaque (a + size + i) (insideOf r .walk .tags) → ⊥) → (d : Bool) → ltb i len ≡ d → getD (bodyOf r′) i 0 ≡ getD (bodyOf r) i 0
+          go i k false e =
+              let l : len ≤ i = ltb-false i len e in
+              List·getD-eq-default (bodyOf r′) 0 (omega (arith, body-long r′ (omega (arith, fits .1, h .long)))) ∙ sym (List·getD-eq-default (bodyOf r) 0 (omega (arith, body-long r (fits .1))))
+          go i k true e =
+              let l : i < len = ltb-true i len e in
+              rw (getD-take len (drop size r′) i 0 l, getD-take len (drop size r) i 0 l, getD-drop size r′ i 0, getD-drop size r i 0)
+              (h .same (size + i) (not-in-chain (a + (size + i)) (tagOf r ∷ insideOf r .walk .tags) (insideOf r .walk .ended) (afterOf r)
+              (not-in-tag (a + (size + i)) (tagOf r) (insideOf r .walk .tags)
+              (λ x p q. let s : isOpaque (stateOf (class code) size len) ≡ false = state-opaque (class code) (longOnShort size len) ∙ reads in clash cc)
+              (subst (λ (m : ℕ). InOpaque m (insideOf r .walk .tags) → ⊥) (omega arith) k))
+              (λ x. before-tags (a + (size + i)) (a + size + len) (a + size + len + length (drop (size + len) r)) (afterOf r .tags) then (omega arith))))
+
+      after-same : insideOf r .walk .ended ≡ whole → Alike (a + size + len) (afterOf r .tags) (drop (size + len) r) (drop (size + len) r′)
+      after-same e = record {
+        long = rw (length-drop (size + len) r′, length-drop (size + len) r, h .long);
+        same = λ i k. rw (getD-drop (size + len) r′ i 0, getD-drop (size + len) r i 0)
+            (h .same (size + len + i) (not-in-chain (a + (size + len + i)) (tagOf r ∷ insideOf r .walk .tags) (insideOf r .walk .ended) (afterOf r)
+            (not-in-tag (a + (size + len + i)) (tagOf r) (insideOf r .walk .tags) (λ x p q. omega arith)
+            (past-tags (a + (size + len + i)) (a + size) (a + size + len) (insideOf r .walk .tags) inner (omega arith)))
+            (λ x. subst (λ (m : ℕ). InOpaque m (afterOf r .tags) → ⊥) (omega arith) k)));
+      }
+
+      same-tag : zeroedWalk (oneTag o class R left c a r′ (head code len size)) ≡ zeroedWalk (oneTag o class R left c a r (head code len size))
+      same-tag =
+          let i : SameInside (class code) (insideOf r) (insideOf r′) = same-within (R (pred left)) (lists (pred left)) (places (pred left)) (class code) a (a + size) (bodyOf r) (bodyOf r′) (omega (arith, fits .0))
+          (body-long r′ (omega (arith, fits .1, h .long)) ∙ sym (body-long r (fits .1))) body-same in
+          same-chain (tagOf r) (tagOf r′) (insideOf r .walk) (insideOf r′ .walk) (afterOf r) (afterOf r′)
+          (ap (showing (tagOf r)) (rw (state-opaque (class code) (longOnShort size len)) (i .1)))
+          (i .0)
+          (λ e. same-after (R left c) (isEnd (class code)) c (a + size + len) (drop (size + len) r) (drop (size + len) r′)
+          (lists left c (a + size + len) (drop (size + len) r) (drop (size + len) r′) (before-later c a (a + size + len) (omega arith) before)) (after-same e))
+
+    same-one : (g : Head) → readHead class left r ≡ g → Fits class left r g → Alike a (oneTag o class R left c a r g .tags) r r′
+        → zeroedWalk (oneTag o class R left c a r′ (readHead class left r′)) ≡ zeroedWalk (oneTag o class R left c a r g)
+    same-one (noHead e) q l h = rw (alike-none a r r′ h, q) refl
+    same-one (head code len size) q l h = rw (same-head r r′ (h .long) class left code len size q (header-same code len size l h)) (same-tag code len size l h)
+
+  same-walk : (k left : ℕ) → Kept (walk o class k left)
+  unfolding walk
+  same-walk zero left c a r r′ b h = refl
+  same-walk (suc k) left c a [] [] b h = refl
+  same-walk (suc k) left c a [] (y ∷ r′) b h = absurd (omega (arith, h .long))
+  same-walk (suc k) left c a (x ∷ r) [] b h = absurd (omega (arith, h .long))
+  same-walk (suc k) left c a (x ∷ r) (y ∷ r′) b h =
+      same-one (walk o class k) (λ left c a r r′ b h. same-walk k left c a r r′ b h) (λ left c a r b. placed o class k left c a r b) left c a (x ∷ r) (y ∷ r′) b
+      (readHead class left (x ∷ r)) refl (head-fits class left (x ∷ r)) h
