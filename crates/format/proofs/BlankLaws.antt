@@ -17,15 +17,15 @@ use Rattle.format.specs.Bodies.{readBody}
 use Rattle.format.specs.FileAndTags.{le16, le32, compression, Class, opaque, end, container, known, classOf, isEnd, isContainer, isRead, longOnShort, stateOf, eights, packed, Tag, Outcome, whole, fault, Walk, broken, noTags, chain, Head, head, noHead, rawHead, passes, readHead, Owner, file, inside, TagInside, endAt, front, opened, within, atEnd, afterTag, tagThen, oneTag, walk, walkList}
 use Rattle.format.specs.TableOfNumbers.{numbers, table, isOpaque, showing, tagTable, changed}
 use Rattle.format.specs.Levels.{endOf}
-use Rattle.format.specs.Reasons.{startFault, walkFile, Result, gives, refuses, result, readFile, readTags}
-use Rattle.format.specs.Blanking.{InOpaque, here, later, Blanked, zeroed, zeroedTag, zeroedTable}
+use Rattle.format.specs.Reasons.{startFault, walkFile, Result, gives, refuses, result, readFile, readTags, accepted, Left, accepts, refusesWith, into}
+use Rattle.format.specs.Blanking.{InOpaque, here, later, Blanked, InPacked, inThis, inNext, SameBut, zeroed, zeroedTag, Unreached, SameResult, bothRefuse, bothGive}
 use Rattle.format.specs.WritingFormats.{unrun}
 use Rattle.format.specs.WritingItems.{Written, wrote}
 use Rattle.format.specs.Possible.{this}
 use Rattle.format.proofs.BitLaws.{Has}
 use Rattle.format.proofs.ItemLaws.{round-trip}
 use Rattle.format.proofs.ListTrip.{front-whole}
-use Rattle.format.proofs.StartLaws.{good-start}
+use Rattle.format.proofs.StartLaws.{GoodStart, good-start, start-good}
 use Rattle.format.proofs.StateLaws.{state-opaque}
 use Rattle.format.proofs.Trip.{There, Back, has-le}
 use Rattle.format.proofs.WalkLaws.{run-le, Fits, head-fits, Between, between-append, between-wider, Before, before-later, Placed, placed-within, placed-after, placed}
@@ -303,3 +303,184 @@ module _ (o : Order) (class : ℕ → Class) where
   same-walk (suc k) left c a (x ∷ r) (y ∷ r′) b h =
       same-one (walk o class k) (λ left c a r r′ b h. same-walk k left c a r r′ b h) (λ left c a r b. placed o class k left c a r b) left c a (x ∷ r) (y ∷ r′) b
       (readHead class left (x ∷ r)) refl (head-fits class left (x ∷ r)) h
+
+-- ---- the numbers of tags without the packed bytes: as many, and the same at every other index
+pub both-agree : (xs xs′ ys ys′ : List ℕ) (j : ℕ) → length xs′ ≡ length xs → (j < length xs → getD xs′ j 0 ≡ getD xs j 0) → ((m : ℕ) → j ≡ length xs + m → getD ys′ m 0 ≡ getD ys m 0)
+    → getD (xs′ ++ ys′) j 0 ≡ getD (xs ++ ys) j 0
+both-agree [] [] ys ys′ j n h k = k j (omega arith)
+both-agree [] (x′ ∷ xs′) ys ys′ j n h k = absurd (omega arith)
+both-agree (x ∷ xs) [] ys ys′ j n h k = absurd (omega arith)
+both-agree (x ∷ xs) (x′ ∷ xs′) ys ys′ zero n h k = h (omega arith)
+both-agree (x ∷ xs) (x′ ∷ xs′) ys ys′ (suc j) n h k = both-agree xs xs′ ys ys′ j (omega arith) (λ l. h (omega arith)) (λ m e. k m (omega arith))
+
+length-zeros : (ws : List ℕ) → length (map {B = ℕ} (λ (w : ℕ). 0) ws) ≡ length ws
+length-zeros [] = refl
+length-zeros (w ∷ ws) = ap suc (length-zeros ws)
+
+length-zeroed : (c : Bool) (vs : List ℕ) → length (pick c (zeroed vs) vs) ≡ length vs
+length-zeroed false vs = refl
+length-zeroed true [] = refl
+length-zeroed true (n ∷ ws) = ap suc (length-zeros ws)
+
+first-zeroed : (c : Bool) (vs : List ℕ) (j : ℕ) → (c ≡ true → 1 ≤ j → ⊥) → getD (pick c (zeroed vs) vs) j 0 ≡ getD vs j 0
+first-zeroed false vs j h = refl
+first-zeroed true [] j h = refl
+first-zeroed true (n ∷ ws) zero h = refl
+first-zeroed true (n ∷ ws) (suc j) h = absurd (h refl (omega arith))
+
+length-numbers : (ts : List Tag) → length (numbers (map zeroedTag ts)) ≡ length (numbers ts)
+length-numbers [] = refl
+length-numbers (t ∷ ts) =
+    ap (λ (n : ℕ). suc (suc (suc n)))
+    (length-append (zeroedTag t .values) (numbers (map zeroedTag ts)) ∙ ap₂ (λ (m n : ℕ). m + n) (length-zeroed (isOpaque (t .state)) (t .values)) (length-numbers ts) ∙ sym (length-append (t .values) (numbers ts)))
+
+numbers-agree : (k i : ℕ) (ts : List Tag) → (InPacked (k + i) k ts → ⊥) → getD (numbers (map zeroedTag ts)) i 0 ≡ getD (numbers ts) i 0
+numbers-agree k i [] h = refl
+numbers-agree k zero (t ∷ ts) h = refl
+numbers-agree k (suc zero) (t ∷ ts) h = refl
+numbers-agree k (suc (suc zero)) (t ∷ ts) h = length-zeroed (isOpaque (t .state)) (t .values)
+numbers-agree k (suc (suc (suc j))) (t ∷ ts) h =
+    both-agree (t .values) (zeroedTag t .values) (numbers ts) (numbers (map zeroedTag ts)) j (length-zeroed (isOpaque (t .state)) (t .values))
+    (λ l. first-zeroed (isOpaque (t .state)) (t .values) j (λ e m. h (inThis e (omega arith) (omega arith))))
+    (λ m e. numbers-agree (k + (3 + length (t .values))) m ts (λ x. h (inNext (subst (λ (n : ℕ). InPacked n (k + (3 + length (t .values))) ts) (omega arith) x))))
+
+-- which indices these are
+packed-zeroed : (i k : ℕ) (ts : List Tag) → InPacked i k ts → InPacked i k (map zeroedTag ts)
+packed-zeroed i k (t ∷ ts) (inThis e l m) = inThis {t = zeroedTag t} e l (rw (length-zeroed (isOpaque (t .state)) (t .values)) m)
+packed-zeroed i k (t ∷ ts) (inNext h) = inNext {k = k} {t = zeroedTag t} {ts = map zeroedTag ts} (rw (length-zeroed (isOpaque (t .state)) (t .values)) (packed-zeroed i (k + (3 + length (t .values))) ts h))
+
+zeroed-packed-at : (i k : ℕ) (ts : List Tag) → InPacked i k (map zeroedTag ts) → InPacked i k ts
+zeroed-packed-at i k (t ∷ ts) (inThis e l m) = inThis e l (rw (length-zeroed (isOpaque (t .state)) (t .values)) at m)
+zeroed-packed-at i k (t ∷ ts) (inNext h) = inNext (zeroed-packed-at i (k + (3 + length (t .values))) ts (rw (length-zeroed (isOpaque (t .state)) (t .values)) at h))
+
+same-numbers : (ts us : List Tag) (x y : ℕ) → y ≡ x → map zeroedTag us ≡ map zeroedTag ts → SameBut ts (x ∷ numbers ts) (y ∷ numbers us)
+same-numbers ts us x y c e = record {
+  long = ap suc (sym (length-numbers us) ∙ ap (λ (ts : List Tag). length (numbers ts)) e ∙ length-numbers ts);
+  elsewhere = at;
+}
+  where
+    at : (i : ℕ) → (InPacked i 1 ts → ⊥) → getD (y ∷ numbers us) i 0 ≡ getD (x ∷ numbers ts) i 0
+    at zero h = c
+    at (suc i) h =
+        let k : InPacked (1 + i) 1 ts → ⊥ = subst (λ (n : ℕ). InPacked n 1 ts → ⊥) (omega arith) h in
+        sym (numbers-agree 1 i us (λ p. k (zeroed-packed-at (1 + i) 1 ts (subst (λ (ts : List Tag). InPacked (1 + i) 1 ts) e (packed-zeroed (1 + i) 1 us p)))))
+        ∙ ap (λ (ts : List Tag). getD (numbers ts) i 0) e
+        ∙ numbers-agree 1 i ts k
+
+zeroed-rows : (ts : List Tag) → tagTable (map zeroedTag ts) ≡ tagTable ts
+zeroed-rows [] = refl
+zeroed-rows (t ∷ ts) = ap (λ (l : List ℕ). t .depth ∷ t .code ∷ t .place ∷ t .headerSize ∷ t .bodyLength ∷ l) (zeroed-rows ts)
+
+-- ---- files
+module _ (order level : ℕ) (f g : List ℕ) (h : Blanked order level f g) where
+  abbrev listOf : List ℕ → Walk
+  listOf f = walkList (orderNamed order) (classOf level) 8 file 9 (drop 9 f)
+
+  -- a file that is refused at its start has no tags
+  bad-start : eqb (startFault order level f) 0 ≡ false → g ≡ f
+  unfolding walkFile
+  bad-start e = ext-getD 0 g f (h .long) (λ i l. h .elsewhere i (rw e (before-tags i (suc i) 0 [] tt (omega arith))))
+
+  good-tags : eqb (startFault order level f) 0 ≡ true → (n : ℕ) → (InOpaque n (listOf f .tags) → ⊥) → getD g n 0 ≡ getD f n 0
+  unfolding walkFile
+  good-tags e n k = h .elsewhere n (rw e k)
+
+  -- the tags come after the nine bytes
+  first-nine : eqb (startFault order level f) 0 ≡ true → (i : ℕ) → i < 9 → getD g i 0 ≡ getD f i 0
+  first-nine e i l =
+      good-tags e i (before-tags i 9 (9 + length (drop 9 f)) (listOf f .tags) (placed (orderNamed order) (classOf level) (length (drop 9 f)) 8 file 9 (drop 9 f) tt .tags) l)
+
+  same-start : eqb (startFault order level f) 0 ≡ true → startFault order level g ≡ 0
+  same-start e =
+      let s : GoodStart order level f = good-start order level f (eqb-true (startFault order level f) 0 e) in
+      let b : (i : ℕ) → i < 9 → getD g i 0 ≡ getD f i 0 = first-nine e in
+      let n : le32 (drop 4 g) ≡ le32 (drop 4 f) =
+      rw (
+        getD-drop 4 g 0 0,
+        getD-drop 4 g 1 0,
+        getD-drop 4 g 2 0,
+        getD-drop 4 g 3 0,
+        getD-drop 4 f 0 0,
+        getD-drop 4 f 1 0,
+        getD-drop 4 f 2 0,
+        getD-drop 4 f 3 0,
+        b 4 (lit< tt),
+        b 5 (lit< tt),
+        b 6 (lit< tt),
+        b 7 (lit< tt),
+      ) in
+      start-good order level g (record {
+        known = s .known;
+        ordered = s .ordered;
+        long = omega (arith, s .long, h .long);
+        signed = (b 0 (lit< tt) ∙ s .signed .0, b 1 (lit< tt) ∙ s .signed .1, b 2 (lit< tt) ∙ s .signed .2);
+        version = b 3 (lit< tt) ∙ s .version;
+        lengths = n ∙ s .lengths ∙ sym (h .long);
+        limit = omega (arith, s .limit, h .long);
+      })
+
+  same-list : eqb (startFault order level f) 0 ≡ true → zeroedWalk (listOf g) ≡ zeroedWalk (listOf f)
+  same-list e =
+      let n : length (drop 9 g) ≡ length (drop 9 f) = rw (length-drop 9 g, length-drop 9 f, h .long) in
+      rw n (same-walk (orderNamed order) (classOf level) (length (drop 9 f)) 8 file 9 (drop 9 f) (drop 9 g) tt (record {
+        long = n;
+        same = λ i k. rw (getD-drop 9 g i 0, getD-drop 9 f i 0) (good-tags e (9 + i) k);
+      }))
+
+  pub same-file : zeroedWalk (walkFile order level g) ≡ zeroedWalk (walkFile order level f)
+  unfolding walkFile
+  same-file = go (eqb (startFault order level f) 0) refl
+    where
+      go : (c : Bool) → eqb (startFault order level f) 0 ≡ c → zeroedWalk (walkFile order level g) ≡ zeroedWalk (walkFile order level f)
+      go false e = ap (λ (g : List ℕ). zeroedWalk (walkFile order level g)) (bad-start e)
+      go true e = rw (same-start e, eqb-true (startFault order level f) 0 e) (same-list e)
+
+  same-compression : compression g ≡ compression f
+  same-compression = go (eqb (startFault order level f) 0) refl
+    where
+      go : (c : Bool) → eqb (startFault order level f) 0 ≡ c → compression g ≡ compression f
+      go false e = ap compression (bad-start e)
+      go true e = first-nine e 8 (lit< tt)
+
+  pub blanking : Unreached order level f g
+  blanking =
+      let e : map zeroedTag (walkFile order level g .tags) ≡ map zeroedTag (walkFile order level f .tags) = ap (λ (w : Walk). w .tags) same-file in
+      record {
+        ended = ap (λ (w : Walk). w .ended) same-file;
+        tags = e;
+        tables = same-numbers (walkFile order level f .tags) (walkFile order level g .tags) (compression f) (compression g) same-compression e;
+        tagTables = sym (zeroed-rows (walkFile order level g .tags)) ∙ ap tagTable e ∙ zeroed-rows (walkFile order level f .tags);
+      }
+
+  -- what `tags` gives is the same
+  pub same-tags : readTags order level g ≡ readTags order level f
+  unfolding readTags
+  same-tags = ap₂ result (blanking .tagTables) (blanking .ended)
+
+  -- what `read` gives differs only in the packed bytes of those tags
+  pub same-read : SameResult (walkFile order level f .tags) (readFile order level f) (readFile order level g)
+  unfolding readFile
+  same-read = rw (blanking .ended) (go (walkFile order level f .ended))
+    where
+      go : (z : Outcome) → SameResult (walkFile order level f .tags) (result (table f (walkFile order level f)) z) (result (table g (walkFile order level g)) z)
+      go whole = bothGive (blanking .tables)
+      go (fault e n) = bothRefuse
+
+-- ---- what a call leaves: the same answer in every room, 19 included, and memory that differs only so
+pub record SameLeft (ts : List Tag) (x y : Left) : Type 0 where
+  pub answer : y .answer ≡ x .answer
+  pub lent : SameBut ts (x .lent) (y .lent)
+
+pub same-into : (ts : List Tag) (m : List ℕ) (R S : Result) → SameResult ts R S → SameLeft ts (into m R) (into m S)
+same-into ts m R S bothRefuse = record { answer = refl; lent = record { long = refl; elsewhere = λ i h. refl } }
+same-into ts m R S (bothGive {t} {u} h) = rw (h .long) (go (leb (length t) (length m)))
+  where
+    filled : SameBut ts (t ++ drop (length t) m) (u ++ drop (length t) m)
+    filled = record {
+      long = rw (length-append u (drop (length t) m), length-append t (drop (length t) m), h .long);
+      elsewhere = λ i k. both-agree t u (drop (length t) m) (drop (length t) m) i (h .long) (λ l. h .elsewhere i k) (λ n e. refl);
+    }
+
+    go : (c : Bool) → SameLeft ts (pick c (accepts m t) (refusesWith m 19 (length t))) (pick c (record { answer = accepted (length t); lent = u ++ drop (length t) m }) (refusesWith m 19 (length t)))
+    go true = record { answer = refl; lent = filled }
+    go false = record { answer = refl; lent = record { long = refl; elsewhere = λ i h. refl } }
