@@ -466,21 +466,51 @@ module _ (order level : ℕ) (f g : List ℕ) (h : Blanked order level f g) wher
       go whole = bothGive (blanking .tables)
       go (fault e n) = bothRefuse
 
--- ---- what a call leaves: the same answer in every room, 19 included, and memory that differs only so
-pub record SameLeft (ts : List Tag) (x y : Left) : Type 0 where
-  pub answer : y .answer ≡ x .answer
-  pub lent : SameBut ts (x .lent) (y .lent)
+-- ---- the same bytes are opaque to both, so either file is the other one blanked
+opaque-zeroed : (n : ℕ) (ts : List Tag) → InOpaque n ts → InOpaque n (map zeroedTag ts)
+opaque-zeroed n (t ∷ ts) (here e l m) = here e l m
+opaque-zeroed n (t ∷ ts) (later i) = later (opaque-zeroed n ts i)
 
-pub same-into : (ts : List Tag) (m : List ℕ) (R S : Result) → SameResult ts R S → SameLeft ts (into m R) (into m S)
-same-into ts m R S bothRefuse = record { answer = refl; lent = record { long = refl; elsewhere = λ i h. refl } }
-same-into ts m R S (bothGive {t} {u} h) = rw (h .long) (go (leb (length t) (length m)))
+zeroed-opaque : (n : ℕ) (ts : List Tag) → InOpaque n (map zeroedTag ts) → InOpaque n ts
+zeroed-opaque n (t ∷ ts) (here e l m) = here e l m
+zeroed-opaque n (t ∷ ts) (later i) = later (zeroed-opaque n ts i)
+
+pub blanked-back : (order level : ℕ) (f g : List ℕ) → Blanked order level f g → Blanked order level g f
+blanked-back order level f g h =
+    let F : List Tag = walkFile order level f .tags in
+    let G : List Tag = walkFile order level g .tags in
+    record {
+      long = sym (h .long);
+      elsewhere = λ n k. sym (h .elsewhere n (λ i. k (zeroed-opaque n G (subst (λ (ts : List Tag). InOpaque n ts) (sym (blanking order level f g h .tags)) (opaque-zeroed n F i)))));
+    }
+
+-- ---- what a call leaves
+
+-- the same answer in rooms of one length, 19 included
+pub same-answer : {ts : List Tag} (m m′ : List ℕ) (R S : Result) → length m′ ≡ length m → SameResult ts R S → into m′ S .answer ≡ into m R .answer
+same-answer m m′ R S l bothRefuse = refl
+same-answer m m′ R S l (bothGive {t} {u} h) = rw (h .long, l) (go (leb (length t) (length m)))
   where
-    filled : SameBut ts (t ++ drop (length t) m) (u ++ drop (length t) m)
-    filled = record {
+    go : (c : Bool) → pick c (record { answer = accepted (length t); lent = u ++ drop (length t) m′ }) (refusesWith m′ 19 (length t)) .answer ≡ pick c (accepts m t) (refusesWith m 19 (length t)) .answer
+    go true = refl
+    go false = refl
+
+-- one memory, lent to both calls, then differs only so
+pub same-lent : {ts : List Tag} (m : List ℕ) (R S : Result) → SameResult ts R S → SameBut ts (into m R .lent) (into m S .lent)
+same-lent m R S bothRefuse = record { long = refl; elsewhere = λ i h. refl }
+same-lent {ts} m R S (bothGive {t} {u} h) = rw (h .long) (go (leb (length t) (length m)))
+  where
+    go : (c : Bool) → SameBut ts (pick c (accepts m t) (refusesWith m 19 (length t)) .lent) (pick c (record { answer = accepted (length t); lent = u ++ drop (length t) m }) (refusesWith m 19 (length t)) .lent)
+    go false = record { long = refl; elsewhere = λ i h. refl }
+    go true = record {
       long = rw (length-append u (drop (length t) m), length-append t (drop (length t) m), h .long);
       elsewhere = λ i k. both-agree t u (drop (length t) m) (drop (length t) m) i (h .long) (λ l. h .elsewhere i k) (λ n e. refl);
     }
 
-    go : (c : Bool) → SameLeft ts (pick c (accepts m t) (refusesWith m 19 (length t))) (pick c (record { answer = accepted (length t); lent = u ++ drop (length t) m }) (refusesWith m 19 (length t)))
-    go true = record { answer = refl; lent = filled }
-    go false = record { answer = refl; lent = record { long = refl; elsewhere = λ i h. refl } }
+-- where both give tables
+pub same-given : {ts : List Tag} {t u : List ℕ} (R S : Result) → SameResult ts R S → R ≡ gives t → S ≡ gives u → SameBut ts t u
+same-given R S bothRefuse p q = clash cc
+same-given {ts} {t} {u} R S (bothGive {t = t′} {u = u′} h) p q =
+    let a : t′ ≡ t = cc in
+    let b : u′ ≡ u = cc in
+    rw (← a, ← b) h
