@@ -3,8 +3,8 @@ use Prim.Native.Nat.{ℕ, zero, suc, pred, _+_, _-_, _*_, _/_, _%_, _^_, _≤_, 
 use mathlib.Core.List.{List, [], _∷_, _++_, map}
 use mathlib.Core.Path.{_≡_, refl, ap, ap₂, sym, _∙_, subst}
 use mathlib.Core.Bool.{Bool, true, false}
-use lib.ListN.{length, getD, take, drop, length-append, length-drop, List·getD-eq-default}
-use lib.Seq.{length-take-le, getD-take, getD-drop, ext-getD}
+use lib.ListN.{length, getD, take, drop, set, length-set, length-append, length-drop, List·getD-eq-default}
+use lib.Seq.{length-take-le, getD-take, getD-drop, getD-set-other, ext-getD}
 use lib.Dec.{ltb, leb, eqb, lit<}
 use borrow.Author.Tests.{ltb-true, ltb-false, eqb-true}
 use native.Mathlib.Omega.{arith}
@@ -51,9 +51,22 @@ not-in-chain : (n : ℕ) (ts : List Tag) (z : Outcome) (w : Walk) → (InOpaque 
 not-in-chain n ts whole w h k = not-in-both n ts (w .tags) h (k refl)
 not-in-chain n ts (fault e m) w h k = h
 
-not-in-tag : (n : ℕ) (t : Tag) (ts : List Tag) → (isOpaque (t .state) ≡ true → t .place + t .headerSize ≤ n → n < endOf t → ⊥) → (InOpaque n ts → ⊥) → InOpaque n (t ∷ ts) → ⊥
-not-in-tag n t ts h k (here e p q) = h e p q
+not-in-tag : (n : ℕ) (t : Tag) (ts : List Tag) → (InOpaque n (t ∷ []) → ⊥) → (InOpaque n ts → ⊥) → InOpaque n (t ∷ ts) → ⊥
+not-in-tag n t ts h k (here e p q) = h (here e p q)
 not-in-tag n t ts h k (later i) = k i
+
+-- a tag's header, what is past a tag, and a tag that is read
+in-header : (n : ℕ) (t : Tag) → n < t .place + t .headerSize → InOpaque n (t ∷ []) → ⊥
+in-header n t l (here e p q) = omega arith
+in-header n t l (later i) = before-tags n (suc n) 0 [] tt (omega arith) i
+
+past-tag : (n : ℕ) (t : Tag) → endOf t ≤ n → InOpaque n (t ∷ []) → ⊥
+past-tag n t l (here e p q) = omega arith
+past-tag n t l (later i) = before-tags n (suc n) 0 [] tt (omega arith) i
+
+in-read : (n : ℕ) (t : Tag) → isOpaque (t .state) ≡ false → InOpaque n (t ∷ []) → ⊥
+in-read n t l (here e p q) = clash cc
+in-read n t l (later i) = before-tags n (suc n) 0 [] tt (omega arith) i
 
 -- ---- two rooms at place a, one length, that agree but for opaque bodies of the tags ts
 pub record Alike (a : ℕ) (ts : List Tag) (r r′ : List ℕ) : Type 0 where
@@ -247,7 +260,7 @@ module _ (o : Order) (class : ℕ → Class) where
 
       header-same : (i : ℕ) → i < size → getD r′ i 0 ≡ getD r i 0
       header-same i l = h .same i (not-in-chain (a + i) (tagOf r ∷ insideOf r .walk .tags) (insideOf r .walk .ended) (afterOf r)
-          (not-in-tag (a + i) (tagOf r) (insideOf r .walk .tags) (λ e p q. omega arith) (before-tags (a + i) (a + size) (a + size + len) (insideOf r .walk .tags) inner (omega arith)))
+          (not-in-tag (a + i) (tagOf r) (insideOf r .walk .tags) (in-header (a + i) (tagOf r) (omega arith)) (before-tags (a + i) (a + size) (a + size + len) (insideOf r .walk .tags) inner (omega arith)))
           (λ e. before-tags (a + i) (a + size + len) (a + size + len + length (drop (size + len) r)) (afterOf r .tags) then (omega arith)))
 
       body-same : eqb (isRead (class code)) 0 ≡ false → Alike (a + size) (insideOf r .walk .tags) (bodyOf r) (bodyOf r′)
@@ -265,7 +278,7 @@ module _ (o : Order) (class : ℕ → Class) where
               rw (getD-take len (drop size r′) i 0 l, getD-take len (drop size r) i 0 l, getD-drop size r′ i 0, getD-drop size r i 0)
               (h .same (size + i) (not-in-chain (a + (size + i)) (tagOf r ∷ insideOf r .walk .tags) (insideOf r .walk .ended) (afterOf r)
               (not-in-tag (a + (size + i)) (tagOf r) (insideOf r .walk .tags)
-              (λ x p q. let s : isOpaque (stateOf (class code) size len) ≡ false = state-opaque (class code) (longOnShort size len) ∙ reads in clash cc)
+              (in-read (a + (size + i)) (tagOf r) (state-opaque (class code) (longOnShort size len) ∙ reads))
               (subst (λ (m : ℕ). InOpaque m (insideOf r .walk .tags) → ⊥) (omega arith) k))
               (λ x. before-tags (a + (size + i)) (a + size + len) (a + size + len + length (drop (size + len) r)) (afterOf r .tags) then (omega arith))))
 
@@ -274,7 +287,7 @@ module _ (o : Order) (class : ℕ → Class) where
         long = rw (length-drop (size + len) r′, length-drop (size + len) r, h .long);
         same = λ i k. rw (getD-drop (size + len) r′ i 0, getD-drop (size + len) r i 0)
             (h .same (size + len + i) (not-in-chain (a + (size + len + i)) (tagOf r ∷ insideOf r .walk .tags) (insideOf r .walk .ended) (afterOf r)
-            (not-in-tag (a + (size + len + i)) (tagOf r) (insideOf r .walk .tags) (λ x p q. omega arith)
+            (not-in-tag (a + (size + len + i)) (tagOf r) (insideOf r .walk .tags) (past-tag (a + (size + len + i)) (tagOf r) (omega arith))
             (past-tags (a + (size + len + i)) (a + size) (a + size + len) (insideOf r .walk .tags) inner (omega arith)))
             (λ x. subst (λ (m : ℕ). InOpaque m (afterOf r .tags) → ⊥) (omega arith) k)));
       }
@@ -483,6 +496,23 @@ blanked-back order level f g h =
       long = sym (h .long);
       elsewhere = λ n k. sym (h .elsewhere n (λ i. k (zeroed-opaque n G (subst (λ (ts : List Tag). InOpaque n ts) (sym (blanking order level f g h .tags)) (opaque-zeroed n F i)))));
     }
+
+-- blanked again, it is the first one blanked
+pub blanked-again : (order level : ℕ) (f g h : List ℕ) → Blanked order level f g → Blanked order level g h → Blanked order level f h
+blanked-again order level f g h u v =
+    let F : List Tag = walkFile order level f .tags in
+    let G : List Tag = walkFile order level g .tags in
+    record {
+      long = v .long ∙ u .long;
+      elsewhere = λ n k. v .elsewhere n (λ i. k (zeroed-opaque n F (subst (λ (ts : List Tag). InOpaque n ts) (blanking order level f g u .tags) (opaque-zeroed n G i)))) ∙ u .elsewhere n k;
+    }
+
+-- any byte inside an opaque body that the reading passed may become any other
+pub blanked-byte : (order level : ℕ) (f : List ℕ) (n x : ℕ) → InOpaque n (walkFile order level f .tags) → Blanked order level f (set f n x)
+blanked-byte order level f n x i = record {
+  long = length-set f n x;
+  elsewhere = λ m k. getD-set-other f n m x 0 (λ e. k (subst (λ (m : ℕ). InOpaque m (walkFile order level f .tags)) (sym e) i));
+}
 
 -- ---- what a call leaves
 
