@@ -1,5 +1,5 @@
 -- Opaque bytes reach nothing else (C-20): the theorem `blanking`, at the end.
-use Prim.Native.Nat.{ℕ, zero, suc, pred, _+_, _-_, _*_, _/_, _%_, _^_, _≤_, _<_}
+use Prim.Native.Nat.{ℕ, zero, suc, pred, _+_, _-_, _*_, _/_, _%_, _≤_, _<_}
 use mathlib.Core.List.{List, [], _∷_, _++_, map}
 use mathlib.Core.Path.{_≡_, refl, ap, ap₂, sym, _∙_, subst}
 use mathlib.Core.Bool.{Bool, true, false}
@@ -10,25 +10,24 @@ use borrow.Author.Tests.{ltb-true, ltb-false, eqb-true}
 use native.Mathlib.Omega.{arith}
 use Rattle.format.specs.Tests.{pick}
 use Rattle.format.specs.Bits.{Order, bitAt, orderNamed}
-use Rattle.format.specs.Reading.{Ending, At, Fault, Reading, shows}
+use Rattle.format.specs.Reading.{Ending, At, Fault}
 use Rattle.format.specs.Formats.{Format}
 use Rattle.format.specs.Items.{run}
-use Rattle.format.specs.Bodies.{readBody}
-use Rattle.format.specs.FileAndTags.{le16, le32, compression, Class, opaque, end, container, known, classOf, isEnd, isContainer, isRead, longOnShort, stateOf, eights, packed, Tag, Outcome, whole, fault, Walk, broken, noTags, chain, Head, head, noHead, rawHead, passes, readHead, Owner, file, inside, TagInside, endAt, front, opened, within, atEnd, afterTag, tagThen, oneTag, walk, walkList}
-use Rattle.format.specs.TableOfNumbers.{numbers, table, isOpaque, showing, tagTable, changed}
+use Rattle.format.specs.FileAndTags.{le16, le32, compression, Class, opaque, end, container, known, classOf, isEnd, isContainer, isRead, longOnShort, stateOf, eights, packed, Tag, Outcome, whole, fault, Walk, chain, Head, head, noHead, rawHead, passes, readHead, Owner, file, inside, TagInside, front, opened, within, afterTag, oneTag, walk, walkList}
+use Rattle.format.specs.TableOfNumbers.{numbers, table, isOpaque, showing, tagTable}
 use Rattle.format.specs.Levels.{endOf}
-use Rattle.format.specs.Reasons.{startFault, walkFile, Result, gives, refuses, result, readFile, readTags, accepted, Left, accepts, refusesWith, into}
+use Rattle.format.specs.Reasons.{startFault, walkFile, Result, gives, result, readFile, readTags, accepted, accepts, refusesWith, into}
 use Rattle.format.specs.Blanking.{InOpaque, here, later, Blanked, InPacked, inThis, inNext, SameBut, zeroed, zeroedTag, Unreached, SameResult, bothRefuse, bothGive}
 use Rattle.format.specs.WritingFormats.{unrun}
-use Rattle.format.specs.WritingItems.{Written, wrote}
+use Rattle.format.specs.WritingItems.{wrote}
 use Rattle.format.specs.Possible.{this}
 use Rattle.format.proofs.BitLaws.{Has}
 use Rattle.format.proofs.ItemLaws.{round-trip}
 use Rattle.format.proofs.ListTrip.{front-whole}
 use Rattle.format.proofs.StartLaws.{GoodStart, good-start, start-good}
 use Rattle.format.proofs.StateLaws.{state-opaque}
-use Rattle.format.proofs.Trip.{There, Back, has-le}
-use Rattle.format.proofs.WalkLaws.{run-le, Fits, head-fits, Between, between-append, between-wider, Before, before-later, Placed, placed-within, placed-after, placed}
+use Rattle.format.proofs.Trip.{There, Back}
+use Rattle.format.proofs.WalkLaws.{Fits, head-fits, Between, Before, before-later, Placed, placed-within, placed-after, placed}
 use Rattle.format.proofs.Absurd.{clash}
 
 -- ---- places outside of opaque bodies
@@ -318,7 +317,7 @@ module _ (o : Order) (class : ℕ → Class) where
       (readHead class left (x ∷ r)) refl (head-fits class left (x ∷ r)) h
 
 -- ---- the numbers of tags without the packed bytes: as many, and the same at every other index
-pub both-agree : (xs xs′ ys ys′ : List ℕ) (j : ℕ) → length xs′ ≡ length xs → (j < length xs → getD xs′ j 0 ≡ getD xs j 0) → ((m : ℕ) → j ≡ length xs + m → getD ys′ m 0 ≡ getD ys m 0)
+both-agree : (xs xs′ ys ys′ : List ℕ) (j : ℕ) → length xs′ ≡ length xs → (j < length xs → getD xs′ j 0 ≡ getD xs j 0) → ((m : ℕ) → j ≡ length xs + m → getD ys′ m 0 ≡ getD ys m 0)
     → getD (xs′ ++ ys′) j 0 ≡ getD (xs ++ ys) j 0
 both-agree [] [] ys ys′ j n h k = k j (omega arith)
 both-agree [] (x′ ∷ xs′) ys ys′ j n h k = absurd (omega arith)
@@ -524,18 +523,6 @@ same-answer m m′ R S l (bothGive {t} {u} h) = rw (h .long, l) (go (leb (length
     go : (c : Bool) → pick c (record { answer = accepted (length t); lent = u ++ drop (length t) m′ }) (refusesWith m′ 19 (length t)) .answer ≡ pick c (accepts m t) (refusesWith m 19 (length t)) .answer
     go true = refl
     go false = refl
-
--- one memory, lent to both calls, then differs only so
-pub same-lent : {ts : List Tag} (m : List ℕ) (R S : Result) → SameResult ts R S → SameBut ts (into m R .lent) (into m S .lent)
-same-lent m R S bothRefuse = record { long = refl; elsewhere = λ i h. refl }
-same-lent {ts} m R S (bothGive {t} {u} h) = rw (h .long) (go (leb (length t) (length m)))
-  where
-    go : (c : Bool) → SameBut ts (pick c (accepts m t) (refusesWith m 19 (length t)) .lent) (pick c (record { answer = accepted (length t); lent = u ++ drop (length t) m }) (refusesWith m 19 (length t)) .lent)
-    go false = record { long = refl; elsewhere = λ i h. refl }
-    go true = record {
-      long = rw (length-append u (drop (length t) m), length-append t (drop (length t) m), h .long);
-      elsewhere = λ i k. both-agree t u (drop (length t) m) (drop (length t) m) i (h .long) (λ l. h .elsewhere i k) (λ n e. refl);
-    }
 
 -- where both give tables
 pub same-given : {ts : List Tag} {t u : List ℕ} (R S : Result) → SameResult ts R S → R ≡ gives t → S ≡ gives u → SameBut ts t u
