@@ -1,8 +1,10 @@
 -- Document 01's worked files and items P1 to P11, as one table that the definitions compute; files and items in low order (C-18), files in an order
--- that is neither, long headers on short bodies (C-11) and packed bodies (C-17), alike.
+-- that is neither, long headers on short bodies (C-11), packed bodies (C-17) and blanked ones (C-20), alike.
 use Prim.Native.Nat.{ℕ, zero, suc}
 use mathlib.Core.List.{List, [], _∷_, _++_, map}
 use mathlib.Core.Path.{_≡_, refl}
+use lib.ListN.{set}
+use lib.Dec.{lit≤, lit<}
 use Rattle.format.specs.Bits.{orderNamed, bitAt, ub}
 use Rattle.format.specs.Reading.{Ending, At, Fault}
 use Rattle.format.specs.Formats.{Item, Format, item, _▸_, times}
@@ -10,7 +12,9 @@ use Rattle.format.specs.Items.{readItem, readVar, readLE, readFlag, run,
 use Rattle.format.specs.Bodies.{textPathOption, maskBlock, readBlock, allFlags, rows, Body, fixed, attributes, readPart, readBody}
 use Rattle.format.specs.FileAndTags.{classOf, eights, packed, walk}
 use Rattle.format.specs.TableOfNumbers.{spread, unpacked, changed, pack, unpack}
+use Rattle.format.specs.Blanking.{here, Blanked, InPacked, inThis}
 use Rattle.format.specs.Reasons.{startFault, walkFile, Result, gives, refuses, readFile, readPlain, readTags, accepted, Left, refusesWith, into}
+use Rattle.format.proofs.BlankLaws.{blanked-byte}
 
 -- a file at a level; a whole body; a format that need not use up its bytes
 pub data Case : Type 0 where
@@ -268,6 +272,19 @@ packed3 = 0 ∷ 7 ∷ 0 ∷ 2 ∷ 6 ∷ 3343632072959 ∷ 0 ∷ 1 ∷ 0 ∷ []
 pub plain-P3 : (readPlain 0 6 file2 ≡ gives plain3) × (pack plain3 ≡ packed3) × (unpack packed3 ≡ plain3)
 unfolding readPlain walkFile startFault classOf walk eights changed spread
 plain-P3 = (refl, refl, refl)
+
+-- P3 with a byte of its opaque body changed, 128 at place 12 to 0 (C-20): the same but for the packed number, which stands at index 5
+pub blanked-P3 : Blanked 0 6 file2 (set file2 12 0) × InPacked 5 1 (walkFile 0 6 file2 .tags) × (readFile 0 6 (set file2 12 0) ≡ gives (0 ∷ 7 ∷ 0 ∷ 2 ∷ 6 ∷ 3343632040191 ∷ 0 ∷ 1 ∷ 0 ∷ []))
+unfolding readFile walkFile startFault classOf walk eights
+blanked-P3 = (blanked-byte 0 6 file2 12 0 (here refl (lit≤ tt) (lit< tt)), inThis refl (lit≤ tt) (lit< tt), refl)
+
+-- an opaque tag that was passed before the refusal: a body of one byte at place 11, and no End
+abbrev passed : ℕ → List ℕ
+passed x = 0x50 ∷ 0x41 ∷ 0x47 ∷ 0x01 ∷ 0x0C ∷ 0x00 ∷ 0x00 ∷ 0x00 ∷ 0x00 ∷ 0x01 ∷ 0x01 ∷ x ∷ []
+
+pub blanked-refused : Blanked 0 1023 (passed 5) (passed 6) × (readFile 0 1023 (passed 5) ≡ refuses 7 12) × (readFile 0 1023 (passed 6) ≡ refuses 7 12)
+unfolding readFile walkFile startFault classOf walk eights
+blanked-refused = (blanked-byte 0 1023 (passed 5) 11 6 (here refl (lit≤ tt) (lit< tt)), refl, refl)
 
 -- the room: P1 needs four numbers, and its tag table five; what is lent past these stays, and a refusal changes nothing
 pub record RoomExample : Type 0 where

@@ -6,6 +6,7 @@ pub mod Promises
 pub mod LevelLaws
 pub mod PlainLaws
 pub mod RoomLaws
+pub mod BlankLaws
 pub mod ReasonLaws
 pub mod StartLaws
 pub mod CallLaws

@@ -11,6 +11,8 @@ pub mod TableOfNumbers
 pub mod Reasons
 -- What is demanded of two levels of one file.
 pub mod Levels
+-- What blanking opaque bodies may change.
+pub mod Blanking
 -- Not to be believed, only used: how the bytes of a table are found. Contracts of the writer's inner functions cite these; those of `write` and of the exports do not.
 pub mod Possible
 pub mod WritingItems

@@ -3,3 +3,4 @@ pub mod SkimLaws
 pub mod FileLaws
 pub mod Demands
 pub mod Room
+pub mod Blanking
