@@ -24,8 +24,8 @@
  *
  *   On a machine whose numbers have their lowest byte first, as x86-64, that is memcpy(body, values + 1, values[0]). A count of values that is not
  *   1 + (n + 7) / 8, a length that no body has, and a filling that is not zero are refused by 20.
- * - Room. A file of n bytes needs at most 8 * n numbers and 5 * n tag numbers, and n is at most 16,777,216. To know the room, call
- *   with length 0: the answer is PAG_TABLE_TOO_SHORT with the numbers needed, if nothing else is wrong.
+ * - Room. A file of n bytes needs at most 8 * n numbers and 5 * n tag numbers, and n is at most 16,777,216: with so much lent no call is refused
+ *   by PAG_TABLE_TOO_SHORT. To know the room, call with length 0: the answer is PAG_TABLE_TOO_SHORT with the numbers needed, if nothing else is wrong.
  * - Stack: at most PAG_STACK_BYTES. hosts/test.c measures it: it runs the calls on a stack that it has painted and looks how far the paint is gone.
  */
 #ifndef PAG_H
