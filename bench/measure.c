@@ -2,7 +2,7 @@
  * measure FILE ORDER ROUNDS: times the library and the peer on a good file in a bit order in turns, best of ROUNDS, in processor time.
  * Prints a line for each call: its name, the file's bytes, and nanoseconds of the library and of the peer (0: not there).
  *
- * measure FILE ORDER CALL ours|peer: makes one call once, for an instruction counter, and prints the file's bytes.
+ * measure FILE ORDER CALL ours|peer: makes one call once, for an instruction counter, and prints the file's bytes. `canvas ours` is a call that the peer lacks.
  */
 #define _GNU_SOURCE
 #include "peer.h"
@@ -13,7 +13,7 @@
 #include <string.h>
 #include <time.h>
 
-/* What all calls work on: a file, its two tables with exact room, and the bytes written back. */
+/* What all calls work on: a file, its two tables and its index with exact room, and the bytes written back. */
 struct bench {
     uint32_t order;
     uint8_t *file;
@@ -22,6 +22,8 @@ struct bench {
     size_t table_len;
     uint32_t *tags;
     size_t tags_len;
+    uint32_t *index;
+    size_t index_len;
     uint8_t *out;
 };
 
@@ -47,6 +49,12 @@ static pag_answer peers_tags(const struct bench *b)
     return peer_tags(PAG_LEVEL_MAX, b->order, b->file, b->len, b->tags, b->tags_len);
 }
 
+/* The tag table and its index. The peer has none: it is compared with our_tags. */
+static pag_answer our_index(const struct bench *b)
+{
+    return pag_index(PAG_LEVEL_MAX, b->order, b->file, b->len, b->tags, b->tags_len, b->index, b->index_len);
+}
+
 static pag_answer our_write(const struct bench *b)
 {
     return pag_write(PAG_LEVEL_MAX, b->order, b->table, b->table_len, b->out, b->len);
@@ -55,6 +63,13 @@ static pag_answer our_write(const struct bench *b)
 static pag_answer peers_write(const struct bench *b)
 {
     return peer_write(PAG_LEVEL_MAX, b->order, b->table, b->table_len, b->out, b->len);
+}
+
+/* The canvas size, which the peer has no call for: good where it is found. */
+static pag_answer our_canvas(const struct bench *b)
+{
+    pag_canvas_answer answer = pag_canvas(PAG_LEVEL_MAX, b->order, b->file, b->len);
+    return (pag_answer){answer.found ? PAG_ACCEPTED : PAG_LIST_WITHOUT_END, answer.headers};
 }
 
 struct pair {
@@ -67,6 +82,7 @@ struct pair {
 static const struct pair PAIRS[] = {
     {"read", our_read, peers_read},
     {"tags", our_tags, peers_tags},
+    {"index", our_index, NULL},
     {"write", our_write, peers_write},
 };
 enum { PAIR_COUNT = sizeof PAIRS / sizeof *PAIRS };
@@ -108,6 +124,8 @@ static void lend(struct bench *b)
     b->tags_len = room_of(peer_tags(PAG_LEVEL_MAX, b->order, b->file, b->len, NULL, 0));
     b->table = touched(b->table_len * sizeof *b->table);
     b->tags = touched(b->tags_len * sizeof *b->tags);
+    b->index_len = 1024 + b->tags_len / 5 * 2;
+    b->index = touched(b->index_len * sizeof *b->index);
     b->out = touched(b->len);
 }
 
@@ -133,9 +151,9 @@ static void compare(const struct pair *pair, const struct bench *b, long rounds)
     uint64_t ours = UINT64_MAX, peer = UINT64_MAX;
     for (long i = 0; i < rounds; i++) {
         if (pair->ours) ours = better(pair->ours, b, ours);
-        peer = better(pair->peer, b, peer);
+        if (pair->peer) peer = better(pair->peer, b, peer);
     }
-    printf("%s %zu %" PRIu64 " %" PRIu64 "\n", pair->name, b->len, pair->ours ? ours : 0, peer);
+    printf("%s %zu %" PRIu64 " %" PRIu64 "\n", pair->name, b->len, pair->ours ? ours : 0, pair->peer ? peer : 0);
 }
 
 /* Rooms by pag.h's bounds, so that nothing but the call has to look at the file; the system gives pages as they are touched. */
@@ -143,10 +161,12 @@ static void lend_bounds(struct bench *b)
 {
     b->table_len = 8 * b->len;
     b->tags_len = 5 * b->len;
+    b->index_len = 1024 + 2 * b->len;
     b->table = calloc(b->table_len, sizeof *b->table);
     b->tags = calloc(b->tags_len, sizeof *b->tags);
+    b->index = calloc(b->index_len, sizeof *b->index);
     b->out = calloc(b->len, 1);
-    if (!b->table || !b->tags || !b->out) stop("no memory");
+    if (!b->table || !b->tags || !b->index || !b->out) stop("no memory");
 }
 
 /* Does nothing: bench/counter.c counts the instructions between two calls of it. The asm keeps the compiler from leaving the calls out. */
@@ -167,8 +187,16 @@ static pag_answer counted(timed *call, const struct bench *b)
     return answer;
 }
 
+/* The library's canvas size once: it is lent nothing. */
+static void canvas_once(const struct bench *b)
+{
+    if (counted(our_canvas, b).reason) stop("the canvas size is not found");
+    printf("%zu\n", b->len);
+}
+
 static void call_once(struct bench *b, const char *name, int ours)
 {
+    if (ours && strcmp(name, "canvas") == 0) canvas_once(b);
     for (int i = 0; i < PAIR_COUNT; i++) {
         timed *call = ours ? PAIRS[i].ours : PAIRS[i].peer;
         if (strcmp(name, PAIRS[i].name) != 0) continue;

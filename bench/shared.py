@@ -1,4 +1,4 @@
-"""What the scripts of this folder share: where things are, and what the archive has."""
+"""What the scripts of this folder share: where things are, and programs linked with the library."""
 
 import os
 import platform
@@ -8,7 +8,6 @@ import sys
 
 ROOT = os.path.dirname(os.path.dirname(os.path.abspath(__file__)))
 INCLUDE = os.path.join(ROOT, 'include')
-ARCHIVE = os.path.join(ROOT, 'target', 'staticlib', 'libpag.a')
 
 
 def source(name):
@@ -26,25 +25,35 @@ def need(command, *packages):
         sys.exit('there is no %s: install %s' % (command, ' '.join(packages)))
 
 
-def need_archive():
-    """Proves and builds the library if its archive is not there."""
-    if not os.path.exists(ARCHIVE):
-        subprocess.run(['rt', 'staticlib', 'pag'], cwd=ROOT, stdout=subprocess.DEVNULL, check=True)
+def library(processor=platform.machine()):
+    """The library as an archive for a processor, by default for the one that is there: hosts/build makes it."""
+    subprocess.run([os.path.join(ROOT, 'hosts', 'build'), processor], stdout=subprocess.DEVNULL, check=True)
+    folder = 'host' if processor == platform.machine() else 'host-' + processor
+    return os.path.join(ROOT, 'target', folder, 'libpag.a')
 
 
 def is_native():
-    """The archive is for x86-64: elsewhere programs are cross-compiled, and run by the kit's emulator."""
+    """Programs for x86-64 run as they are; on another processor they are cross-compiled, and run by the kit's emulator."""
     return platform.machine() == 'x86_64'
+
+
+def compile_with(compiler, program, sources, flags):
+    subprocess.run([*compiler, '-std=c11', '-Wall', '-Wextra', '-Werror', '-I', INCLUDE, *flags, *sources, '-o', program], check=True)
+
+
+def compile_here(program, sources, flags):
+    """A C program for the processor that is there."""
+    compiler = os.environ.get('CC', 'gcc')
+    need(compiler, 'gcc', 'libc6-dev')
+    compile_with([compiler], program, sources, flags)
 
 
 def compile_c(program, sources, flags):
     """A C program for x86-64."""
     if is_native():
-        compiler, packages = [os.environ.get('CC', 'gcc')], ['gcc', 'libc6-dev']
-    else:
-        compiler, packages = ['x86_64-linux-gnu-gcc', '-static'], ['gcc-x86-64-linux-gnu', 'libc6-dev-amd64-cross']
-    need(compiler[0], *packages)
-    subprocess.run([*compiler, '-std=c11', '-Wall', '-Wextra', '-Werror', '-I', INCLUDE, *flags, *sources, '-o', program], check=True)
+        return compile_here(program, sources, flags)
+    need('x86_64-linux-gnu-gcc', 'gcc-x86-64-linux-gnu', 'libc6-dev-amd64-cross')
+    return compile_with(['x86_64-linux-gnu-gcc', '-static'], program, sources, flags)
 
 
 def kit():

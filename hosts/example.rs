@@ -50,10 +50,10 @@ fn print_tags(mut tags: &[u64]) {
 }
 
 fn main() {
-    let Some(name) = std::env::args().nth(1) else {
+    let name = std::env::args().nth(1).unwrap_or_else(|| {
         eprintln!("usage: example FILE");
         exit(2);
-    };
+    });
     let file = std::fs::read(&name).unwrap_or_else(|why| {
         eprintln!("{name}: {why}");
         exit(2);
