@@ -1,5 +1,5 @@
 -- Numbers stored byte by byte, bytes moved up, and the header before a body.
-use Prim.Native.Nat.{ℕ, suc, _+_, _-_, _*_, _≤_, _<_, min}
+use Prim.Native.Nat.{ℕ, suc, _+_, _-_, _*_, _^_, _≤_, _<_, min}
 use mathlib.Core.Bool.{Bool, true, false}
 use mathlib.Core.List.{List, [], _∷_, _++_}
 use mathlib.Core.Path.{_≡_, refl, ap, ap₂, sym, _∙_}
@@ -10,12 +10,14 @@ use lib.Dec.{ltb}
 use borrow.Author.Tests.{lt-ltb, le-ltb, ltb-true, ltb-false}
 use lib.ListN.{length, set, getD, take, drop, length-take, length-drop, drop-of-length-le}
 use lib.Seq.{sets, getD-take, getD-drop, drop-cons}
-use Rattle.format.specs.WritingFiles.{spell16, spell32, spellLong, spellHead}
+use Rattle.format.specs.Tests.{pick}
+use Rattle.format.specs.WritingFiles.{spell16, spell32, spellLong, spellHead, fitsHead}
 use Rattle.format.proofs.Absurd.{clash}
 use Rattle.table.proofs.EngineLaws.{sets-append}
 use Rattle.table.proofs.TextLaws.{set-sets}
 use Rattle.bits.proofs.StoreLaws.{sets-out}
-use Rattle.write_heads.specs.Heads.{keptBytes, Closed}
+use Rattle.sink.specs.Lain.{longest}
+use Rattle.write_heads.specs.Heads.{keptBytes, Closed, Headed}
 use Rattle.write_heads.proofs.StoreLaws.{at-low, sets-same, drop-sets, sets-comm}
 
 pub two-stored : (l : List ℕ) (a x y : ℕ) {u w : List ℕ} → u ≡ set l a x → w ≡ set u (a + 1) y → w ≡ sets l a (x ∷ y ∷ [])
@@ -105,3 +107,32 @@ module _ (l : List ℕ) (a code stop k : ℕ) where
       let moved : w ≡ sets l a (spellLong code len ++ take len (drop (a + k) l)) =
       g ∙ rw (d, six) (sets-comm l (a + 6) (take len (drop (a + k) l)) a (spellLong code len) (omega arith)) ∙ sym (sets-append l a (spellLong code len) (take len (drop (a + k) l))) in
       rw (← e) (record { put = moved ∙ rw (long h, ← e) refl; place = rw (long h) (omega arith) })
+
+-- ---- the header before a body that follows it
+module _ (l : List ℕ) (a code n : ℕ) where
+  pub headed-claimed : (claim : Bool) {u : List ℕ} → claim ≡ true → u ≡ sets l a (spellLong code n) → Headed l a claim code n u (a + 6)
+  headed-claimed false c d = clash cc
+  headed-claimed true c d = record { put = d; place = refl }
+
+  pub headed-short : (claim : Bool) {u : List ℕ} → claim ≡ false → n < 63 → u ≡ sets l a (spell16 (code * 64 + n)) → Headed l a claim code n u (a + 2)
+  headed-short true c h d = clash cc
+  headed-short false c h d = let s : spellHead false code n ≡ spell16 (code * 64 + n) = rw (lt-ltb n 63 h) in record { put = d ∙ ap (sets l a) (sym s); place = ap (λ (x : List ℕ). a + length x) (sym s) }
+
+  pub headed-long : (claim : Bool) {u : List ℕ} → claim ≡ false → 63 ≤ n → u ≡ sets l a (spellLong code n) → Headed l a claim code n u (a + 6)
+  headed-long true c h d = clash cc
+  headed-long false c h d = let s : spellHead false code n ≡ spellLong code n = rw (le-ltb n 63 h) in record { put = d ∙ ap (sets l a) (sym s); place = ap (λ (x : List ℕ). a + length x) (sym s) }
+
+-- ---- whether a header can have a length
+pub head-fits : (claim : Bool) (code n : ℕ) → code < 1024 → n ≤ longest → (claim ≡ true → n < 63) → fitsHead claim code n ≡ true
+head-fits true code n low small short = rw (lt-ltb code 1024 low, lt-ltb n 63 (short refl)) refl
+head-fits false code n low small short =
+    let f : ltb n (2 ^ 32) ≡ true = lt-ltb n (2 ^ 32) (omega arith) in
+    rw (lt-ltb code 1024 low) f
+
+pub head-long : (claim : Bool) (code n : ℕ) → claim ≡ true → 62 < n → fitsHead claim code n ≡ false
+head-long false code n c h = clash cc
+head-long true code n c h = rw (le-ltb n 63 (omega arith)) (go (ltb code 1024))
+  where
+    go : (z : Bool) → pick {A = Bool} z false false ≡ false
+    go true = refl
+    go false = refl

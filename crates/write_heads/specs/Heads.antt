@@ -1,4 +1,4 @@
--- A header put before a body that stands already.
+-- A header put before a body that stands already, or that follows.
 use Prim.Native.Nat.{ℕ, _+_}
 use mathlib.Core.Bool.{Bool}
 use mathlib.Core.List.{List, _++_}
@@ -20,3 +20,8 @@ underHead l a claim code n = sets l a (spellHead claim code n ++ take n (drop (a
 pub record Closed (l : List ℕ) (a : ℕ) (claim : Bool) (code n : ℕ) (u : List ℕ) (next : ℕ) : Type 0 where
   pub put : u ≡ underHead l a claim code n
   pub place : next ≡ a + length (spellHead claim code n) + n
+
+-- a header put from a on, before its body: the output afterwards, and the body's place
+pub record Headed (l : List ℕ) (a : ℕ) (claim : Bool) (code n : ℕ) (u : List ℕ) (body : ℕ) : Type 0 where
+  pub put : u ≡ sets l a (spellHead claim code n)
+  pub place : body ≡ a + length (spellHead claim code n)

@@ -1,12 +1,12 @@
-// Little-endian numbers, and the header before a body that was put first: two bytes after the tag's place, which is room for the short header;
-// for the long one it moves up by four. Where a short body claims the long header, six bytes are kept and nothing moves. So no body is measured
-// before it is written.
+// Little-endian numbers, and headers. Where a body's length is known before it, its header is put first. Else the body is: two bytes after the tag's
+// place, which is room for the short header; for the long one it moves up by four. Where a short body claims the long header, six bytes are kept and
+// nothing moves. So no body is measured before it is written.
 ghost use mathlib.Core.Path.{_≡_};
 ghost use Prim.Native.Nat.{_+_, _-_, _≤_, _<_, _^_, min};
 ghost use lib.ListN.{take, drop};
 ghost use lib.Seq.{sets};
 ghost use Rattle.format.specs.WritingFiles.{spell16, spell32, spellLong};
-ghost use Rattle.write_heads.specs.Heads.{keptBytes, Closed};
+ghost use Rattle.write_heads.specs.Heads.{keptBytes, Closed, Headed};
 use bits::BytePlace;
 
 // A 16-bit number.
@@ -60,6 +60,29 @@ fn put_long(out: &mut [u8], place: BytePlace, code: u32, length: usize)
 {
     put16(out, place, code as u64 * 64 + 63);
     put32(out, BytePlace(place.0 + 2), length as u64);
+}
+
+// The header of a tag at a place, before its body, whose length is known: the body's place.
+pub fn put_head(
+    out: &mut [u8],
+    place: BytePlace,
+    claimed: bool,
+    code: u32,
+    length: usize,
+) -> BytePlace
+    requires { ⌜ (place .0 < 2 ^ 32) × (code < 1024) × (length < 2 ^ 32) ⌝ }
+    ensures { λ r. ⌜ Headed (now (out .entry)) (place .0) claimed code length (now (out .exit)) (r .0) ⌝ }
+{
+    if claimed {
+        put_long(out, place, code, length);
+        return BytePlace(place.0 + 6);
+    }
+    if length <= 62 {
+        put16(out, place, code as u64 * 64 + length as u64);
+        return BytePlace(place.0 + 2);
+    }
+    put_long(out, place, code, length);
+    BytePlace(place.0 + 6)
 }
 
 // The header of the tag at a place, whose body stands behind the bytes kept for it, up to stop: the next place. Where the long header is not

@@ -31,7 +31,7 @@ use Rattle.sink.specs.Lain.{longest}
 use Rattle.write_lists.specs.declared.Wrote.the-variants.{Impossible}
 use Rattle.write_heads.specs.Heads.{keptBytes}
 use Rattle.write_lists.specs.Stood.{Stood, stood, over}
-use Rattle.write_lists.specs.Tags.{valuesIn, begun, shut}
+use Rattle.write_lists.specs.Tags.{hidden, valuesIn, begun, shut}
 use Rattle.write_lists.proofs.StoodLaws.{Parts, stood-index, andThen, parts-then, again, over-then}
 use Rattle.write_lists.proofs.TagLaws.{shut-over, shut-place, parts-shut, parts-begun}
 
@@ -235,6 +235,23 @@ module _ (o : Order) {level : ℕ} {t : List ℕ} {k code : ℕ} {class : Class}
   pub values-list : contains class ≡ true → {y x : Possible Stood} → y ≡ over out from k values → x ≡ again (list o level (left - 1)) t y → x ≡ over out from k whole
   values-list h put e =
       e ∙ ap (again (list o level (left - 1)) t) put ∙ sym (rw h (over-then t out from k values (list o level (left - 1)) (parts-begun o claim class (drop k t))))
+
+  -- ---- an opaque one was put whole
+  opaque-is : (c : Class) → hidden c ≡ true → c ≡ Opaque
+  opaque-is Opaque e = refl
+  opaque-is End e = cc
+  opaque-is Container e = cc
+  opaque-is Fixed e = cc
+  opaque-is Attributes e = cc
+
+  pub opaque-put : hidden class ≡ true → {x : Possible Stood} → ((o′ : Order) → x ≡ over out a k (shut claim code (begun o′ claim Opaque (drop k t)))) → x ≡ over out a k (shut claim code whole)
+  opaque-put h e = e o ∙ ap (λ (c : Class). over out a k (shut claim code (inner o level claim c left (drop k t)))) (sym (opaque-is class h))
+
+  pub opaque-deep : hidden class ≡ true → Deep class left
+  opaque-deep h c z = let e : class ≡ Opaque = opaque-is class h in let f : true ≡ false = sym c ∙ ap contains e in clash cc
+
+  pub opaque-more : hidden class ≡ true → ends class ≡ false
+  opaque-more h = ap ends (opaque-is class h)
 
   -- its place and its index
   pub tag-index : (u : List ℕ) (p j : ℕ) → this (stood u p j) ≡ over out a k (shut claim code whole) → (j ≤ length t) × (a + 2 ≤ p) × (p ≤ longest)

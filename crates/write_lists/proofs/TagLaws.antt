@@ -23,11 +23,13 @@ use Rattle.sink.specs.declared.Body.the-variants.{To, No}
 use Rattle.bits.specs.declared.BytePlace.{BytePlace}
 use Rattle.sink.specs.Lain.{longest, lain, lies, lainAs}
 use Rattle.write_heads.specs.Heads.{keptBytes, underHead, Closed}
+use Rattle.write_opaque.specs.Headers.{underHeader}
+use Rattle.write_heads.proofs.HeadLaws.{head-fits, head-long}
 use Rattle.write_heads.proofs.StoreLaws.{sets-taken, sets-cover}
 use Rattle.write_lists.specs.declared.Wrote.{Wrote}
 use Rattle.write_lists.specs.declared.Wrote.the-variants.{Done, Impossible}
 use Rattle.write_lists.specs.Stood.{stood, over, stoodAs}
-use Rattle.write_lists.specs.Tags.{valuesIn, bodyIn, begun, shut, headAt, shutAs, After}
+use Rattle.write_lists.specs.Tags.{valuesIn, bodyIn, begun, shut, headAt, shutAs, After, ValuesThere, ValuesEnd}
 use Rattle.write_lists.proofs.StoodLaws.{StoodBy, stood-by, Parts}
 
 -- no tag starts after the longest file's end
@@ -45,21 +47,6 @@ no-claim t k h = rw (List·getD-eq-default t 0 {n = k} h)
 pub kept-bounds : (claim : Bool) → (2 ≤ keptBytes claim) × (keptBytes claim ≤ 6)
 kept-bounds true = (omega arith, omega arith)
 kept-bounds false = (omega arith, omega arith)
-
--- ---- whether a header can have a length
-head-fits : (claim : Bool) (code n : ℕ) → code < 1024 → n ≤ longest → (claim ≡ true → n < 63) → fitsHead claim code n ≡ true
-head-fits true code n low small short = rw (lt-ltb code 1024 low, lt-ltb n 63 (short refl)) refl
-head-fits false code n low small short =
-    let f : ltb n (2 ^ 32) ≡ true = lt-ltb n (2 ^ 32) (omega arith) in
-    rw (lt-ltb code 1024 low) f
-
-head-long : (claim : Bool) (code n : ℕ) → claim ≡ true → 62 < n → fitsHead claim code n ≡ false
-head-long false code n c h = clash cc
-head-long true code n c h = rw (le-ltb n 63 (omega arith)) (go (ltb code 1024))
-  where
-    go : (z : Bool) → pick {A = Bool} z false false ≡ false
-    go true = refl
-    go false = refl
 
 -- ---- the header, from the answer of `close`
 module _ (l : List ℕ) (a : ℕ) (claim : Bool) (code : ℕ) (end : BytePlace) (j : ℕ) {W : Wrote} (told : W ≡ Done end j) where
@@ -185,86 +172,119 @@ parts-begun o claim class (code ∷ s ∷ n ∷ ns) = go (leb n (length ns)) (bo
     go true cannot = tt
     go false z = tt
 
-module _ (o : Order) (claim : Bool) (class : Class) (t : List ℕ) (k : ℕ) (out : List ℕ) (b : ℕ) where
-  pub begun-few : length t - k < 3 → cannot ≡ over out b k (begun o claim class (drop k t))
-  unfolding over
+module _ (o : Order) (claim : Bool) (class : Class) (t : List ℕ) (k : ℕ) where
+  begun-few : length t - k < 3 → begun o claim class (drop k t) ≡ cannot
   begun-few h = go (drop k t) (rw length-drop h)
     where
-      go : (ns : List ℕ) → length ns < 3 → cannot ≡ over out b k (begun o claim class ns)
+      go : (ns : List ℕ) → length ns < 3 → begun o claim class ns ≡ cannot
       go [] e = refl
       go (x ∷ []) e = refl
       go (x ∷ y ∷ []) e = refl
       go (x ∷ y ∷ z ∷ ns) e = absurd (omega arith)
 
-  module _ (some : 3 ≤ length t - k) (code : ℕ) (coded : code ≡ getD t k 0) where
-    three : drop k t ≡ code ∷ getD t (k + 1) 0 ∷ getD t (k + 2) 0 ∷ drop (k + 3) t
+  module _ (some : 3 ≤ length t - k) where
+    three : drop k t ≡ getD t k 0 ∷ getD t (k + 1) 0 ∷ getD t (k + 2) 0 ∷ drop (k + 3) t
     three =
         let p : k + 1 ≡ suc k = omega arith in
         let q : k + 2 ≡ suc (suc k) = omega arith in
         let r : k + 3 ≡ suc (suc (suc k)) = omega arith in
-        rw (p, q, r, coded)
+        rw (p, q, r)
         (drop-cons t k 0 (omega arith)
         ∙ ap (λ (l : List ℕ). getD t k 0 ∷ l)
         (drop-cons t (suc k) 0 (omega arith) ∙ ap (λ (l : List ℕ). getD t (suc k) 0 ∷ l) (drop-cons t (suc (suc k)) 0 (omega arith))))
 
-    pub begun-cut : length t - k - 3 < getD t (k + 2) 0 → cannot ≡ over out b k (begun o claim class (drop k t))
-    unfolding over
+    begun-cut : length t - k - 3 < getD t (k + 2) 0 → begun o claim class (drop k t) ≡ cannot
     begun-cut l = rw (three, lt-leb (getD t (k + 2) 0) (length (drop (k + 3) t)) (omega (arith, length-drop (k + 3) t)))
 
     module _ (fits : getD t (k + 2) 0 ≤ length t - k - 3) where
-      vs : List ℕ
-      vs = take (getD t (k + 2) 0) (drop (k + 3) t)
-
       begun-is : begun o claim class (drop k t)
-          ≡ bodyOf (code ∷ getD t (k + 1) 0 ∷ getD t (k + 2) 0 ∷ vs) (bodyIn o claim class code (getD t (k + 1) 0) vs) (drop (getD t (k + 2) 0) (drop (k + 3) t))
-      unfolding vs
+          ≡ bodyOf (getD t k 0 ∷ getD t (k + 1) 0 ∷ getD t (k + 2) 0 ∷ take (getD t (k + 2) 0) (drop (k + 3) t))
+          (bodyIn o claim class (getD t k 0) (getD t (k + 1) 0) (take (getD t (k + 2) 0) (drop (k + 3) t))) (drop (getD t (k + 2) 0) (drop (k + 3) t))
       begun-is = rw (three, le-leb (getD t (k + 2) 0) (length (drop (k + 3) t)) (omega (arith, length-drop (k + 3) t)))
 
-      pub begun-state : (getD t (k + 1) 0 ≡ isRead (bare class) + pick claim 2 0 → ⊥) → cannot ≡ over out b k (begun o claim class (drop k t))
-      unfolding over
-      begun-state h = sym (ap (over out b k) begun-is ∙ rw (ne-eqb (getD t (k + 1) 0) (isRead (bare class) + pick claim 2 0) h))
+      begun-state : (getD t (k + 1) 0 ≡ isRead (bare class) + pick claim 2 0 → ⊥) → begun o claim class (drop k t) ≡ cannot
+      begun-state h = begun-is ∙ rw (ne-eqb (getD t (k + 1) 0) (isRead (bare class) + pick claim 2 0) h)
 
-      -- the values were written, by the answer of `write_values`
-      module _ (right : getD t (k + 1) 0 ≡ isRead (bare class) + pick claim 2 0) {v : List ℕ} (taken : v ≡ take (getD t (k + 2) 0) (drop (k + 3) t)) (u : List ℕ) (R : Body) {p : ℕ} (there : p ≡ b)
-          (laid : lainAs u R ≡ lies out p (valuesIn o class code v)) where
-        put : lainAs u R ≡ lies out b (valuesIn o class code v)
-        put = laid ∙ ap (λ (x : ℕ). lies out x (valuesIn o class code v)) there
+-- ---- where a tag's values end, as the code finds it
+module _ (claim : Bool) (class : Class) (t : List ℕ) (k : ℕ) where
+  none-there : ((o : Order) → begun o claim class (drop k t) ≡ cannot) → ValuesEnd claim class t k 0
+  none-there e = (λ n. absurd (n refl), λ z o. e o)
 
-        body-is : bodyIn o claim class code (getD t (k + 1) 0) vs ≡ valuesIn o class code v
-        unfolding vs
-        body-is = rw (eq-eqb (getD t (k + 1) 0) (isRead (bare class) + pick claim 2 0) right, ← taken)
+  pub end-few : length t - k < 3 → ValuesEnd claim class t k 0
+  end-few h = none-there (λ o. begun-few o claim class t k h)
 
-        used : k + length (code ∷ getD t (k + 1) 0 ∷ getD t (k + 2) 0 ∷ vs) ≡ k + 3 + getD t (k + 2) 0
-        unfolding vs
-        used = omega (arith, length-take-le (getD t (k + 2) 0) (drop (k + 3) t) (rw length-drop (omega arith)))
+  pub end-cut : 3 ≤ length t - k → length t - k - 3 < getD t (k + 2) 0 → ValuesEnd claim class t k 0
+  end-cut some l = none-there (λ o. begun-cut o claim class t k some l)
 
-        is : over out b k (begun o claim class (drop k t))
-            ≡ over out b k (bodyOf (code ∷ getD t (k + 1) 0 ∷ getD t (k + 2) 0 ∷ vs) (valuesIn o class code v) (drop (getD t (k + 2) 0) (drop (k + 3) t)))
-        is = ap (over out b k) begun-is ∙ ap (λ (z : Possible (List ℕ)). over out b k (bodyOf (code ∷ getD t (k + 1) 0 ∷ getD t (k + 2) 0 ∷ vs) z (drop (getD t (k + 2) 0) (drop (k + 3) t)))) body-is
+  pub end-state : 3 ≤ length t - k → getD t (k + 2) 0 ≤ length t - k - 3 → (getD t (k + 1) 0 ≡ isRead (bare class) + pick claim 2 0 → ⊥) → ValuesEnd claim class t k 0
+  end-state some fits h = none-there (λ o. begun-state o claim class t k some fits h)
 
-        pub begun-to : {end : BytePlace} → R ≡ To end → this (stood u (end .0) (k + 3 + getD t (k + 2) 0)) ≡ over out b k (begun o claim class (drop k t))
-        unfolding over lies
-        begun-to {end} d = sym (is ∙ go (valuesIn o class code v) (ap (lainAs u) (sym d) ∙ put))
-          where
-            go : (z : Possible (List ℕ)) → this (lain u (end .0)) ≡ lies out b z
-                → over out b k (bodyOf (code ∷ getD t (k + 1) 0 ∷ getD t (k + 2) 0 ∷ vs) z (drop (getD t (k + 2) 0) (drop (k + 3) t))) ≡ this (stood u (end .0) (k + 3 + getD t (k + 2) 0))
-            go cannot q = clash cc
-            go (this bs) q = lim (leb (b + length bs) longest) q
-              where
-                lim : (c : Bool) → this (lain u (end .0)) ≡ pick c (this (lain (sets out b bs) (b + length bs))) cannot
-                    → pick c (this (stood (sets out b bs) (b + length bs) (k + length (code ∷ getD t (k + 1) 0 ∷ getD t (k + 2) 0 ∷ vs)))) cannot ≡ this (stood u (end .0) (k + 3 + getD t (k + 2) 0))
-                lim true w = let x : u ≡ sets out b bs = cc in let y : end .0 ≡ b + length bs = cc in rw (x, y, used)
-                lim false w = clash cc
+  pub end-there : {e : ℕ} → 3 ≤ length t - k → getD t (k + 2) 0 ≤ length t - k - 3 → getD t (k + 1) 0 ≡ isRead (bare class) + pick claim 2 0 → e ≡ k + 3 + getD t (k + 2) 0 → ValuesEnd claim class t k e
+  end-there some fits right q = (λ n. record { some = some; all = fits; state = right; end = q }, λ z. absurd (omega arith))
 
-        pub begun-no : R ≡ No → cannot ≡ over out b k (begun o claim class (drop k t))
-        unfolding over lies
-        begun-no d = sym (is ∙ go (valuesIn o class code v) (ap (lainAs u) (sym d) ∙ put))
-          where
-            go : (z : Possible (List ℕ)) → cannot ≡ lies out b z → over out b k (bodyOf (code ∷ getD t (k + 1) 0 ∷ getD t (k + 2) 0 ∷ vs) z (drop (getD t (k + 2) 0) (drop (k + 3) t))) ≡ cannot
-            go cannot q = refl
-            go (this bs) q = lim (leb (b + length bs) longest) q
-              where
-                lim : (c : Bool) → cannot ≡ pick c (this (lain (sets out b bs) (b + length bs))) cannot
-                    → pick c (this (stood (sets out b bs) (b + length bs) (k + length (code ∷ getD t (k + 1) 0 ∷ getD t (k + 2) 0 ∷ vs)))) cannot ≡ cannot
-                lim true w = clash cc
-                lim false w = refl
+-- they are not all there
+pub begun-none : (o : Order) (claim : Bool) (class : Class) (t : List ℕ) (k : ℕ) {e : ℕ} (out : List ℕ) (b : ℕ) → ValuesEnd claim class t k e → e ≡ 0 → cannot ≡ over out b k (begun o claim class (drop k t))
+unfolding over
+begun-none o claim class t k out b v z = sym (ap (over out b k) (v .1 z o))
+
+pub whole-none : (o : Order) (claim : Bool) (class : Class) (code : ℕ) (t : List ℕ) (k : ℕ) {e : ℕ} (out : List ℕ) (b : ℕ) → ValuesEnd claim class t k e → e ≡ 0 → cannot ≡ over out b k (shut claim code (begun o claim class (drop k t)))
+unfolding over
+whole-none o claim class code t k out b v z = sym (ap (λ (m : Possible Made). over out b k (shut claim code m)) (v .1 z o))
+
+-- ---- the answer of a function that writes a body, as that of one that writes tags up to index e
+abbrev pub standing : ℕ → Body → Wrote
+standing e (To p) = Done p e
+standing e No = Impossible
+
+placed : (out u : List ℕ) (b k e : ℕ) (xs ys : List ℕ) (R : Body) (z : Possible (List ℕ)) → lainAs u R ≡ lies out b z → k + length xs ≡ e → stoodAs u (standing e R) ≡ over out b k (bodyOf xs z ys)
+unfolding over lies
+placed out u b k e xs ys No cannot q i = refl
+placed out u b k e xs ys (To p) cannot q i = clash cc
+placed out u b k e xs ys R (this bs) q i = go R (leb (b + length bs) longest) q
+  where
+    go : (R : Body) (c : Bool) → lainAs u R ≡ pick c (this (lain (sets out b bs) (b + length bs))) cannot
+        → stoodAs u (standing e R) ≡ pick c (this (stood (sets out b bs) (b + length bs) (k + length xs))) cannot
+    go (To p) true w = let x : u ≡ sets out b bs = cc in let y : p .0 ≡ b + length bs = cc in rw (← x, ← y, i)
+    go (To p) false w = clash cc
+    go No true w = clash cc
+    go No false w = refl
+
+shut-body : (claim : Bool) (code : ℕ) (xs ys : List ℕ) (z : Possible (List ℕ)) → shut claim code (bodyOf xs z ys) ≡ bodyOf xs (underHeader claim code z) ys
+shut-body claim code xs ys cannot = refl
+shut-body claim code xs ys (this b) = go (fitsHead claim code (length b))
+  where
+    go : (f : Bool) → pick f (this (made xs (spellHead claim code (length b) ++ b) ys)) cannot ≡ bodyOf xs (pick f (this (spellHead claim code (length b) ++ b)) cannot) ys
+    go true = refl
+    go false = refl
+
+module _ (o : Order) (claim : Bool) (class : Class) (t : List ℕ) (k : ℕ) {e : ℕ} (ended : ValuesEnd claim class t k e) (found : (e ≡ 0 → ⊥)) (code : ℕ) (coded : code ≡ getD t k 0) where
+  there : ValuesThere claim class t k e
+  there = ended .0 found
+
+  abbrev vs : List ℕ
+  vs = take (e - (k + 3)) (drop (k + 3) t)
+
+  count-is : getD t (k + 2) 0 ≡ e - (k + 3)
+  count-is = omega (arith, there .end)
+
+  begun-body : begun o claim class (drop k t) ≡ bodyOf (code ∷ getD t (k + 1) 0 ∷ getD t (k + 2) 0 ∷ vs) (valuesIn o class code vs) (drop (e - (k + 3)) (drop (k + 3) t))
+  begun-body =
+      begun-is o claim class t k (there .some) (there .all)
+      ∙ rw (eq-eqb (getD t (k + 1) 0) (isRead (bare class) + pick claim 2 0) (there .state), ← coded)
+      (ap (λ (n : ℕ). bodyOf (code ∷ getD t (k + 1) 0 ∷ getD t (k + 2) 0 ∷ take n (drop (k + 3) t)) (valuesIn o class code (take n (drop (k + 3) t))) (drop n (drop (k + 3) t))) count-is)
+
+  used : k + length (code ∷ getD t (k + 1) 0 ∷ getD t (k + 2) 0 ∷ vs) ≡ e
+  used = omega (arith, there .end, there .some, there .all, length-take-le (e - (k + 3)) (drop (k + 3) t) (rw length-drop (omega (arith, there .end, there .some, there .all))))
+
+  -- its values were put, by the answer of `write_tag_values`
+  pub begun-put : (out u : List ℕ) (R : Body) {b p : ℕ} → p ≡ b → lainAs u R ≡ lies out p (valuesIn o class code vs) → stoodAs u (standing e R) ≡ over out b k (begun o claim class (drop k t))
+  begun-put out u R {b} {p} q laid =
+      placed out u b k e (code ∷ getD t (k + 1) 0 ∷ getD t (k + 2) 0 ∷ vs) (drop (e - (k + 3)) (drop (k + 3) t)) R (valuesIn o class code vs)
+      (laid ∙ ap (λ (x : ℕ). lies out x (valuesIn o class code vs)) q) used
+      ∙ ap (over out b k) (sym begun-body)
+
+  -- an opaque tag was put whole, by the answer of `write_tag`
+  pub whole-put : (out u : List ℕ) (b : ℕ) (R : Body) → lainAs u R ≡ lies out b (underHeader claim code (valuesIn o class code vs)) → stoodAs u (standing e R) ≡ over out b k (shut claim code (begun o claim class (drop k t)))
+  whole-put out u b R laid =
+      placed out u b k e (code ∷ getD t (k + 1) 0 ∷ getD t (k + 2) 0 ∷ vs) (drop (e - (k + 3)) (drop (k + 3) t)) R (underHeader claim code (valuesIn o class code vs)) laid used
+      ∙ ap (over out b k) (sym (ap (shut claim code) begun-body ∙ shut-body claim code (code ∷ getD t (k + 1) 0 ∷ getD t (k + 2) 0 ∷ vs) (drop (e - (k + 3)) (drop (k + 3) t)) (valuesIn o class code vs)))

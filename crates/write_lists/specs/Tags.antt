@@ -4,7 +4,7 @@ use mathlib.Core.Bool.{Bool, true, false}
 use mathlib.Core.List.{List, [], _∷_, _++_}
 use mathlib.Core.Path.{_≡_}
 use lib.Dec.{leb, eqb}
-use lib.ListN.{length, take, drop}
+use lib.ListN.{length, getD, take, drop}
 use Rattle.format.specs.Tests.{pick}
 use Rattle.format.specs.Bits.{Order}
 use Rattle.format.specs.FileAndTags.{isRead, front}
@@ -22,6 +22,14 @@ use Rattle.write_heads.specs.Heads.{keptBytes, underHead}
 use Rattle.write_lists.specs.declared.Wrote.{Wrote}
 use Rattle.write_lists.specs.declared.Wrote.the-variants.{Done, Impossible}
 use Rattle.write_lists.specs.Stood.{Stood, stood}
+
+-- whether a tag of this class is opaque
+abbrev pub hidden : Class → Bool
+hidden Opaque = true
+hidden End = false
+hidden Container = false
+hidden Fixed = false
+hidden Attributes = false
 
 -- what a tag's values are written as; of a container they stand before its list
 abbrev pub valuesIn : Order → Class → ℕ → List ℕ → Possible (List ℕ)
@@ -64,3 +72,14 @@ shutAs l a claim code Impossible = cannot
 abbrev pub After : ℕ → Bool → Wrote → Type 0
 After a claim (Done p j) = (a + keptBytes claim ≤ p .0) × (p .0 ≤ longest)
 After a claim Impossible = Unit {0}
+
+-- the values of the tag at index k of the table t end before index e: all of them are there, and the state is one of its class
+pub record ValuesThere (claim : Bool) (class : Class) (t : List ℕ) (k e : ℕ) : Type 0 where
+  pub some : 3 ≤ length t - k
+  pub all : getD t (k + 2) 0 ≤ length t - k - 3
+  pub state : getD t (k + 1) 0 ≡ isRead (bare class) + pick claim 2 0
+  pub end : e ≡ k + 3 + getD t (k + 2) 0
+
+-- e is 0 where it is not so: then nothing has begun
+abbrev pub ValuesEnd : Bool → Class → List ℕ → ℕ → ℕ → Type 0
+ValuesEnd claim class t k e = ((e ≡ 0 → ⊥) → ValuesThere claim class t k e) × (e ≡ 0 → (o : Order) → begun o claim class (drop k t) ≡ cannot)

@@ -1,17 +1,19 @@
-// Tag lists, written from the numbers of a lent table. What stands in a tag is put first, behind the bytes kept for its header, and then the
-// header before it (`write_heads::close`). So a container's body is not walked again to measure it: a byte moves at most once for each depth, and
-// a body that claims the long header does not move for it.
+// Tag lists, written from the numbers of a lent table. An opaque tag is written whole, its header first, since its length is its first number. What
+// stands in another tag is put first, behind the bytes kept for its header, and then the header before it (`write_heads::close`). So a container's
+// body is not walked again to measure it: a byte moves at most once for each depth, and a body that claims the long header does not move for it.
 ghost use mathlib.Core.Path.{_≡_};
+ghost use mathlib.Core.Bool.{false};
 ghost use Prim.Native.Nat.{_+_, _≤_, _<_};
 ghost use lib.ListN.{length, getD, drop};
 ghost use Rattle.format.specs.FileAndTags.{classOf};
 ghost use Rattle.format.specs.WritingFiles.{claims, unwalkList};
-ghost use Rattle.bits.specs.Places.{orderOf};
+ghost use Rattle.bits.specs.Places.{InEither, orderOf};
 ghost use Rattle.classes.specs.Classes.{contains, ends};
+ghost use Rattle.classes.specs.declared.Class.the-variants.{Opaque};
 ghost use Rattle.sink.specs.Lain.{longest, lies, lainAs};
 ghost use Rattle.write_heads.specs.Heads.{keptBytes};
 ghost use Rattle.write_lists.specs.Stood.{over, stoodAs};
-ghost use Rattle.write_lists.specs.Tags.{valuesIn, begun, shutAs, After};
+ghost use Rattle.write_lists.specs.Tags.{hidden, valuesIn, begun, shut as shutBy, shutAs, After, ValuesEnd};
 use bits::BytePlace;
 use bits::Order;
 use classes::Class;
@@ -23,7 +25,7 @@ pub enum Wrote {
     Impossible,
 }
 
-// The values of a tag, by its class.
+// The values of a tag that is not opaque, by its class.
 fn write_tag_values(
     order: Order,
     class: Class,
@@ -32,11 +34,12 @@ fn write_tag_values(
     out: &mut [u8],
     at: BytePlace,
 ) -> Body
-    requires { ⌜ at .0 ≤ longest ⌝ }
+    requires { ⌜ (at .0 ≤ longest) × (hidden class ≡ false) ⌝ }
     ensures { λ r. ⌜ lainAs (now (out .exit)) r ≡ lies (now (out .entry)) (at .0) (valuesIn (orderOf order) class code (now (values .entry))) ⌝ }
 {
     match class {
-        Class::Opaque => write_opaque::unpack_bytes(values, out, at),
+        // There is none here: see `write_opaque_tag`.
+        Class::Opaque => Body::No,
         Class::End => if values.len() == 0 {
             Body::To(at)
         } else {
@@ -60,7 +63,51 @@ fn claims_long(table: &[u64], index: usize) -> bool
     1 < table[index + 1]
 }
 
-// The tag at an index without its header, behind the bytes kept for it; and a container without its list too.
+// Where the values of the tag at an index end, if the table has all of them and its state is one of its class; else 0.
+fn values_end(class: Class, claimed: bool, table: &[u64], index: usize) -> usize
+    requires { ⌜ index < length (now table) ⌝ }
+    ensures { λ r. ⌜ ValuesEnd claimed class (now (table .entry)) index r ⌝ }
+{
+    let rest = table.len() - index;
+    if rest < 3 {
+        return 0;
+    }
+    let state = table[index + 1];
+    let count = table[index + 2];
+    if ((rest - 3) as u64) < count {
+        return 0;
+    }
+    if state != tags::state(class, claimed) {
+        return 0;
+    }
+    index + 3 + count as usize
+}
+
+// An opaque tag, whole.
+fn write_opaque_tag(
+    code: u32,
+    out: &mut [u8],
+    place: BytePlace,
+    claimed: bool,
+    table: &[u64],
+    index: usize,
+) -> Wrote
+    requires { ⌜ (place .0 ≤ longest) × (index < length (now table)) × (code ≡ getD (now table) index 0) × (code < 1024) ⌝ }
+    ensures { λ r. ⌜ InEither (λ o. stoodAs (now (out .exit)) r ≡ over (now (out .entry)) (place .0) index (shutBy claimed code (begun o claimed Opaque (drop index (now (table .entry)))))) ⌝ }
+{
+    let behind = values_end(Class::Opaque, claimed, table, index);
+    if behind == 0 {
+        return Wrote::Impossible;
+    }
+    let first = index + 3;
+    let tag = write_opaque::write_tag(code, claimed, &table[first..behind], out, place);
+    match tag {
+        Body::To(next) => Wrote::Done(next, behind),
+        Body::No => Wrote::Impossible,
+    }
+}
+
+// The tag at an index without its header, behind the bytes kept for it; and a container without its list too. Opaque tags are written whole.
 fn begin_tag(
     order: Order,
     class: Class,
@@ -71,27 +118,18 @@ fn begin_tag(
     table: &[u64],
     index: usize,
 ) -> Wrote
-    requires { ⌜ (place .0 ≤ longest) × (index < length (now table)) × (code ≡ getD (now table) index 0) ⌝ }
+    requires { ⌜ (place .0 ≤ longest) × (index < length (now table)) × (code ≡ getD (now table) index 0) × (hidden class ≡ false) ⌝ }
     ensures { λ r. ⌜ stoodAs (now (out .exit)) r ≡ over (now (out .entry)) (place .0 + keptBytes claimed) index (begun (orderOf order) claimed class (drop index (now (table .entry)))) ⌝ }
 {
     let at = place.0 + write_heads::kept(claimed);
     if 16777216 < at {
         return Wrote::Impossible;
     }
-    let rest = table.len() - index;
-    if rest < 3 {
-        return Wrote::Impossible;
-    }
-    let state = table[index + 1];
-    let count = table[index + 2];
-    if ((rest - 3) as u64) < count {
-        return Wrote::Impossible;
-    }
-    if state != tags::state(class, claimed) {
+    let behind = values_end(class, claimed, table, index);
+    if behind == 0 {
         return Wrote::Impossible;
     }
     let first = index + 3;
-    let behind = first + count as usize;
     let body = write_tag_values(
         order,
         class,
@@ -125,6 +163,19 @@ fn shut(out: &mut [u8], place: BytePlace, claimed: bool, code: u32, wrote: Wrote
         return Wrote::Impossible;
     }
     Wrote::Done(next, behind)
+}
+
+// Whether a tag of this class is opaque.
+fn is_opaque(class: Class) -> bool
+    ensures { λ r. ⌜ r ≡ hidden class ⌝ }
+{
+    match class {
+        Class::Opaque => true,
+        Class::End => false,
+        Class::Container => false,
+        Class::Fixed => false,
+        Class::Attributes => false,
+    }
 }
 
 // Whether a list stands in a tag of this class.
@@ -179,6 +230,15 @@ pub fn write_list(
         let listed = classes[(code / 32) as usize][(code % 32) as usize];
         let class = classes::at_level(level, code, listed);
         let claimed = claims_long(table, index);
+        if is_opaque(class) {
+            let whole = write_opaque_tag(code, out, place, claimed, table, index);
+            let Wrote::Done(next, behind) = whole else {
+                return Wrote::Impossible;
+            };
+            place = next;
+            index = behind;
+            continue;
+        }
         let begun = begin_tag(order, class, code, out, place, claimed, table, index);
         let Wrote::Done(start, first) = begun else {
             return begun;

@@ -1,4 +1,5 @@
-// Opaque bodies, written from their packed numbers: the body's length, and then eight bytes to a number, the first of them lowest.
+// Opaque tags, written from the packed numbers of their bodies: the body's length, and then eight bytes to a number, the first of them lowest. The length
+// is known before the body, so the header is put first, and nothing moves.
 ghost use mathlib.Core.Path.{_≡_};
 ghost use Prim.Native.Nat.{_+_, _-_, _*_, _/_, _≤_, _<_};
 ghost use lib.ListN.{length, take, drop};
@@ -7,6 +8,7 @@ ghost use Rattle.format.specs.TableOfNumbers.{eightOf, spread};
 ghost use Rattle.format.specs.WritingFiles.{unpackedAs};
 ghost use Rattle.sink.specs.Lain.{longest, lies, lainAs};
 ghost use Rattle.write_opaque.specs.Filling.{filled};
+ghost use Rattle.write_opaque.specs.Headers.{underHeader};
 use bits::BytePlace;
 use sink::Body;
 
@@ -64,7 +66,7 @@ fn is_filled(values: &[u64], len: usize) -> bool
 
 // The body, where its count of numbers and the filling of the last one fit its length. What there is no room for is not laid: the run that measures
 // looks at the length and the last number alone.
-pub fn unpack_bytes(values: &[u64], out: &mut [u8], at: BytePlace) -> Body
+fn unpack_bytes(values: &[u64], out: &mut [u8], at: BytePlace) -> Body
     requires { ⌜ at .0 ≤ longest ⌝ }
     ensures { λ r. ⌜ lainAs (now (out .exit)) r ≡ lies (now (out .entry)) (at .0) (unpackedAs (now (values .entry))) ⌝ }
 {
@@ -93,4 +95,28 @@ pub fn unpack_bytes(values: &[u64], out: &mut [u8], at: BytePlace) -> Body
     }
     put_few(out, from + 8 * whole, values[1 + whole], left);
     Body::To(BytePlace(stop))
+}
+
+// The whole tag: its header, of the length that its first number says, and the body behind it. A claimed header is for bodies below 63 bytes.
+pub fn write_tag(code: u32, claimed: bool, values: &[u64], out: &mut [u8], place: BytePlace) -> Body
+    requires { ⌜ (place .0 ≤ longest) × (code < 1024) ⌝ }
+    ensures { λ r. ⌜ lainAs (now (out .exit)) r ≡ lies (now (out .entry)) (place .0) (underHeader claimed code (unpackedAs (now (values .entry)))) ⌝ }
+{
+    if values.len() == 0 {
+        return Body::No;
+    }
+    let length = values[0];
+    if 16777216 < length {
+        return Body::No;
+    }
+    if claimed {
+        if 62 < length {
+            return Body::No;
+        }
+    }
+    let at = write_heads::put_head(out, place, claimed, code, length as usize);
+    if 16777216 < at.0 {
+        return Body::No;
+    }
+    unpack_bytes(values, out, at)
 }

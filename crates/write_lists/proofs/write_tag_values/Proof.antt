@@ -2,21 +2,13 @@ use denote.Ref.{now}
 use native.Mathlib.Omega.{arith}
 use Rattle.bits.specs.Places.{orderOf}
 use Rattle.classes.specs.declared.Class.the-variants.{Opaque, End, Container, Fixed, Attributes}
-use Rattle.write_lists.proofs.ValueLaws.{values-of, end-none, end-some}
+use Rattle.write_lists.proofs.ValueLaws.{values-of, end-none, end-some, none-hidden}
 use borrow.Author.Needs.{needs}
 use Rattle.write_lists.proofs.write_tag_values.Statement.{statement}
 use Rattle.write_lists.proofs.write_tag_values.Tie as tie
-use Rattle.write_lists.proofs.write_tag_values.Reads as reads
-use Rattle.write_lists.proofs.write_tag_values.Lts as lts
-use Rattle.write_bodies.proofs.write_body.Reads as write-body-reads
-use Rattle.write_bodies.proofs.write_front.Reads as write-front-reads
-use Rattle.write_opaque.proofs.unpack_bytes.Reads as unpack-bytes-reads
 
 enum-told : tie.Need-enum-told
 enum-told c = search needs
-
-unpack-bytes-requires : tie.Need-unpack-bytes-requires
-unpack-bytes-requires c κs = search needs
 
 enum-told-2 : tie.Need-enum-told-2
 enum-told-2 c = search needs
@@ -39,32 +31,29 @@ enum-told-5 c = search needs
 write-body-requires-2 : tie.Need-write-body-requires-2
 write-body-requires-2 c κs = search needs
 
-same-length : tie.Need-same-length
-same-length c = search needs
-
 returns : tie.Need-returns
-returns c = values-of (orderOf (c .before .before .before .before .before .before .before .before .args .order)) (now (c .before .before .before .before .before .before .before .before .args .out)) (c .before .before .before .before .before .before .before .before .args .at .0) (now (c .before .before .before .before .before .before .before .before .args .values)) (c .before .before .before .before .before .before .before .before .args .code) Opaque (c .before .before .before .before .enum-told .given .1) (c .before .before .unpack-bytes .ensures)
+returns c = none-hidden (orderOf (c .before .before .before .before .args .order)) (now (c .before .before .before .before .args .out)) (c .before .before .before .before .args .at .0) (now (c .before .before .before .before .args .values)) (c .before .before .before .before .args .code) (c .enum-told .given .1) (c .before .before .before .before .pre .1)
 
 returns-2 : tie.Need-returns-2
-returns-2 c = values-of (orderOf (c .before .before .before .before .before .args .order)) (now (c .before .before .before .before .before .args .out)) (c .before .before .before .before .before .args .at .0) (now (c .before .before .before .before .before .args .values)) (c .before .before .before .before .before .args .code) End (c .before .enum-told2 .given .1) (end-none (orderOf (c .before .before .before .before .before .args .order)) (now (c .before .before .before .before .before .args .out)) (c .before .before .before .before .before .args .at .0) (now (c .before .before .before .before .before .args .values)) (c .before .before .before .before .before .args .code) (c .before .before .before .before .before .pre) (omega (arith, c .if1 .taken)))
+returns-2 c = values-of (orderOf (c .before .before .before .before .before .args .order)) (now (c .before .before .before .before .before .args .out)) (c .before .before .before .before .before .args .at .0) (now (c .before .before .before .before .before .args .values)) (c .before .before .before .before .before .args .code) End (c .before .enum-told2 .given .1) (end-none (orderOf (c .before .before .before .before .before .args .order)) (now (c .before .before .before .before .before .args .out)) (c .before .before .before .before .before .args .at .0) (now (c .before .before .before .before .before .args .values)) (c .before .before .before .before .before .args .code) (c .before .before .before .before .before .pre .0) (omega (arith, c .if1 .taken)))
 
 returns-3 : tie.Need-returns-3
 returns-3 c = values-of (orderOf (c .before .before .before .before .before .args .order)) (now (c .before .before .before .before .before .args .out)) (c .before .before .before .before .before .args .at .0) (now (c .before .before .before .before .before .args .values)) (c .before .before .before .before .before .args .code) End (c .before .enum-told2 .given .1) (end-some (orderOf (c .before .before .before .before .before .args .order)) (now (c .before .before .before .before .before .args .out)) (c .before .before .before .before .before .args .at .0) (now (c .before .before .before .before .before .args .values)) (c .before .before .before .before .before .args .code) (c .if1 .left))
 
-same-length-2 : tie.Need-same-length-2
-same-length-2 c = search needs
+same-length : tie.Need-same-length
+same-length c = search needs
 
 returns-4 : tie.Need-returns-4
 returns-4 c = values-of (orderOf (c .before .before .before .before .before .before .before .before .args .order)) (now (c .before .before .before .before .before .before .before .before .args .out)) (c .before .before .before .before .before .before .before .before .args .at .0) (now (c .before .before .before .before .before .before .before .before .args .values)) (c .before .before .before .before .before .before .before .before .args .code) Container (c .before .before .before .before .enum-told3 .given .1) (c .before .before .write-front .ensures)
 
-same-length-3 : tie.Need-same-length-3
-same-length-3 c = search needs
+same-length-2 : tie.Need-same-length-2
+same-length-2 c = search needs
 
 returns-5 : tie.Need-returns-5
 returns-5 c = values-of (orderOf (c .before .before .before .before .before .before .before .before .args .order)) (now (c .before .before .before .before .before .before .before .before .args .out)) (c .before .before .before .before .before .before .before .before .args .at .0) (now (c .before .before .before .before .before .before .before .before .args .values)) (c .before .before .before .before .before .before .before .before .args .code) Fixed (c .before .before .before .before .enum-told4 .given .1) (c .before .before .write-body .ensures)
 
-same-length-4 : tie.Need-same-length-4
-same-length-4 c = search needs
+same-length-3 : tie.Need-same-length-3
+same-length-3 c = search needs
 
 returns-6 : tie.Need-returns-6
 returns-6 c = values-of (orderOf (c .before .before .before .before .before .before .before .before .args .order)) (now (c .before .before .before .before .before .before .before .before .args .out)) (c .before .before .before .before .before .before .before .before .args .at .0) (now (c .before .before .before .before .before .before .before .before .args .values)) (c .before .before .before .before .before .before .before .before .args .code) Attributes (c .before .before .before .before .enum-told5 .given .1) (c .before .before .write-body2 .ensures)
@@ -74,7 +63,6 @@ write-tag-values-spec =
     tie.close
     (tie.spec
     enum-told
-    unpack-bytes-requires
     enum-told-2
     enum-told-3
     write-front-requires
@@ -82,13 +70,12 @@ write-tag-values-spec =
     write-body-requires
     enum-told-5
     write-body-requires-2
-    same-length
     returns
     returns-2
     returns-3
-    same-length-2
+    same-length
     returns-4
-    same-length-3
+    same-length-2
     returns-5
-    same-length-4
+    same-length-3
     returns-6)
