@@ -68,7 +68,7 @@ fn read_attribute(
 }
 
 // The rows' attributes in order, with the flag numbers that were read for them.
-fn read_contents(
+pub fn read_contents(
     order: Order,
     rows: Rows,
     flags: &[u64],

@@ -9,7 +9,7 @@ ghost use Rattle.bodies.specs.Leaf.{isBlock, leafBody};
 ghost use Rattle.bodies.specs.Shown.{shownLeaves};
 ghost use Rattle.bits.specs.Places.{orderOf};
 
-mod blocks;
+pub mod blocks;
 
 use bits::Aligned;
 use bits::BitPlace;

@@ -1,0 +1,4 @@
+pub mod Opacity
+pub mod Answers
+pub mod Range
+pub mod Inner
