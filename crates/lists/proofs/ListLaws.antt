@@ -51,7 +51,7 @@ piece f t r = take (t - f) (drop f r)
 pub length-piece : (f t : ℕ) (r : List ℕ) → t ≤ length r → length (piece f t r) ≡ t - f
 length-piece f t r h = length-take-le (t - f) (drop f r) (rw length-drop (omega arith))
 
-drop-take : (q n : ℕ) (l : List ℕ) → drop q (take n l) ≡ take (n - q) (drop q l)
+pub drop-take : (q n : ℕ) (l : List ℕ) → drop q (take n l) ≡ take (n - q) (drop q l)
 drop-take zero n l = let e : n - 0 ≡ n = omega arith in rw e
 drop-take (suc q) zero l = let e : 0 - suc q ≡ 0 = omega arith in rw e
 drop-take (suc q) (suc n) [] = sym (take-nil (suc n - suc q))
@@ -60,18 +60,18 @@ drop-take (suc q) (suc n) (x ∷ l) = let e : n - q ≡ suc n - suc q = omega ar
 pub piece-rest : (f : ℕ) (r : List ℕ) → piece f (length r) r ≡ drop f r
 piece-rest f r = take-all (length r - f) (drop f r) (rw length-drop (omega arith))
 
-pred-is : (n : ℕ) → pred n ≡ n - 1
+pub pred-is : (n : ℕ) → pred n ≡ n - 1
 pred-is zero = refl
 pred-is (suc n) = omega arith
 
-positive : (n : ℕ) → (n ≡ 0 → ⊥) → 1 ≤ n
+pub positive : (n : ℕ) → (n ≡ 0 → ⊥) → 1 ≤ n
 positive zero h = absurd (h refl)
 positive (suc n) h = omega arith
 
 -- ---- what stands in a tag, by the name of its class
 
 -- the walk of the list inside it; lists are read by R
-abbrev walkOf : (paper.Owner → ℕ → List ℕ → Walk) → Class → ℕ → ℕ → List ℕ → Ending → Walk
+abbrev pub walkOf : (paper.Owner → ℕ → List ℕ → Walk) → Class → ℕ → ℕ → List ℕ → Ending → Walk
 walkOf R c a s body (Fault e) = broken e a
 walkOf R Opaque a s body (At p) = noTags whole
 walkOf R End a s body (At p) = noTags whole
@@ -79,16 +79,16 @@ walkOf R Container a s body (At p) = R (paper.inside a) (s + toByte p) (drop (to
 walkOf R Fixed a s body (At p) = noTags whole
 walkOf R Attributes a s body (At p) = noTags whole
 
-abbrev insideOf : Order → (paper.Owner → ℕ → List ℕ → Walk) → Class → ℕ → ℕ → ℕ → List ℕ → TagInside
+abbrev pub insideOf : Order → (paper.Owner → ℕ → List ℕ → Walk) → Class → ℕ → ℕ → ℕ → List ℕ → TagInside
 insideOf o R c code a s body =
     record { values = valuesOf o c code body .shown; walk = walkOf R c a s body (valuesOf o c code body .ended) }
 
 -- the code's bodies and fronts are the classes'
-right : Right leafBody (λ code. container (fixedOf code))
+pub right : Right leafBody (λ code. container (fixedOf code))
 unfolding leafBody fixedOf attributesOf
 right = refl
 
-within-is : (o : Order) (R : paper.Owner → ℕ → List ℕ → Walk) (scope : Scope) (level code a s : ℕ) (body : List ℕ)
+pub within-is : (o : Order) (R : paper.Owner → ℕ → List ℕ → Walk) (scope : Scope) (level code a s : ℕ) (body : List ℕ)
     → within o R (classBy scope level code) a s body ≡ insideOf o R (named (classBy scope level code)) code a s body
 within-is o R scope level code a s body =
     ap (λ (c : paper.Class). within o R c a s body) (taken-by leafBody fixedOf right scope level code) ∙ go (named (classBy scope level code))

@@ -43,7 +43,7 @@ pub enum Step {
 }
 
 // The second number of 7 and 11: the container's place; at depth 0 the place where it happened.
-fn blame(owner: Owner, place: BytePlace) -> BytePlace
+pub fn blame(owner: Owner, place: BytePlace) -> BytePlace
     ensures { λ r. ⌜ r .0 ≡ blameOf (ownerOf owner) (place .0) ⌝ }
 {
     match owner {

@@ -1,0 +1,107 @@
+-- What the functions of the walk that stops leave.
+use Prim.Native.Nat.{ℕ, _+_, _-_, _*_, _≤_}
+use mathlib.Core.List.{List, [], _∷_}
+use mathlib.Core.Path.{_≡_}
+use mathlib.Core.Bool.{Bool, not}
+use lib.ListN.{length, take, drop}
+use lib.Seq.{sets}
+use lib.Dec.{eqb}
+use Rattle.format.specs.Tests.{pick, _and_}
+use Rattle.format.specs.Bits.{Order}
+use Rattle.format.specs.Reading.{Ending, At, Fault}
+use Rattle.format.specs.Items.{toByte, run}
+use Rattle.format.specs.Bodies.{compositionAttributes, fixed, readBody}
+use Rattle.format.specs.FileAndTags as paper
+use Rattle.format.specs.FileAndTags.{isRead, blame}
+use Rattle.classes.specs.Classes as classes
+use Rattle.classes.specs.declared.Class.{Class}
+use Rattle.classes.specs.declared.Class.the-variants as class
+use Rattle.fixed.specs.Fixed.{fixedOf}
+use Rattle.lists.specs.Lists.{byteAt, ownerOf}
+use Rattle.lists.specs.declared.Owner.{Owner}
+use Rattle.tags.specs.Shown.{valuesOf}
+use Rattle.canvas.specs.Canvas as wanted
+use Rattle.canvas.specs.declared.CanvasSize.{CanvasSize}
+use Rattle.canvas.specs.declared.Seen.{Seen}
+use Rattle.canvas.specs.declared.Seen.the-variants as seen
+use Rattle.canvas.specs.declared.Body.{Body}
+use Rattle.canvas.specs.declared.Judged.{Judged}
+use Rattle.canvas.specs.declared.Judged.the-variants as judged
+use Rattle.canvas.specs.declared.Looked.{Looked}
+use Rattle.canvas.specs.declared.Looked.the-variants as looked
+
+-- ---- one tag
+
+-- a tag of this class and code is the one that is looked for
+abbrev pub isLooked : Class → ℕ → Bool
+isLooked class code = eqb code 3 and not (eqb (isRead (classes.bare class)) 0)
+
+-- any other tag, by its class
+abbrev pub judgedClass : Class → Body → Judged
+judgedClass class.Opaque body = judged.Next (body .stop)
+judgedClass class.End body = judged.Last (body .stop)
+judgedClass class.Container body = judged.Open body
+judgedClass class.Fixed body = judged.Next (body .stop)
+judgedClass class.Attributes body = judged.Next (body .stop)
+
+abbrev pub judgedBy : Class → ℕ → Body → Judged
+judgedBy class code body = pick (isLooked class code) (judged.Canvas body) (judgedClass class body)
+
+-- its body stands from `start` up to `stop`, and ended so
+abbrev pub judgedEnd : Class → ℕ → ℕ → ℕ → Ending → Judged
+judgedEnd class code start stop (At p) = judgedBy class code (record { start = byteAt start; list = byteAt (start + toByte p); stop = byteAt stop })
+judgedEnd class code start stop (Fault e) = judged.Faulty e
+
+-- the tag at i of the list r, by its header
+abbrev pub judgedAt : Order → Class → List ℕ → ℕ → paper.Head → Judged
+judgedAt o class r i (paper.noHead e) = judged.NoTag e
+judgedAt o class r i (paper.head code len size) =
+    judgedEnd class code (i + size) (i + size + len) (valuesOf o class code (take len (drop size (drop i r))) .ended)
+
+-- after End, which ends at `stop` of the room, with h headers read
+abbrev pub afterEnd : Owner → ℕ → ℕ → ℕ → ℕ → Looked
+afterEnd own a stop room h = pick (eqb stop room) (looked.Whole h) (looked.Fault 11 (byteAt (blame (ownerOf own) (a + stop))) h)
+
+-- ---- a list
+
+-- from start up to stop of the list at place a, whose room is r
+abbrev pub bodyAt : ℕ → List ℕ → ℕ → ℕ → List ℕ
+bodyAt a r start stop = take (stop - start) (drop (start - a) r)
+
+-- a CompositionAttributes with a good body, which stands from start up to stop of the file, in the list at place a
+pub record Stands (o : Order) (a : ℕ) (r : List ℕ) (start stop : ℕ) : Type 0 where
+  pub after : a ≤ start
+  pub order : start ≤ stop
+  pub inside : stop ≤ a + length r
+  pub place : ℕ
+  pub good : readBody o (fixed compositionAttributes) (bodyAt a r start stop) .ended ≡ At place
+
+-- h headers were read before the list at place a, whose room is r; c is what looking in it gives
+abbrev pub Looks : Order → ℕ → List ℕ → ℕ → Looked → wanted.Canvas → Type 0
+Looks o a r h (looked.Whole n) c = (c .seen ≡ wanted.none) × (n ≡ h + c .headers)
+Looks o a r h (looked.Found s) c =
+    Stands o a r (s .start .0) (s .stop .0) × (c .seen ≡ wanted.found (readBody o (fixed compositionAttributes) (bodyAt a r (s .start .0) (s .stop .0)) .shown))
+    × (s .headers ≡ h + c .headers)
+Looks o a r h (looked.Fault e p n) c = (c .seen ≡ wanted.refused e (p .0)) × (n ≡ h + c .headers)
+
+-- the room ends inside the longest file; a list has fewer tags than bytes, and each depth is one list more
+pub record Bounds (depths a n h : ℕ) : Type 0 where
+  pub depth : depths ≤ 8
+  pub place : a + n ≤ 16777216
+  pub headers : h ≤ (9 - depths) * 16777216
+
+-- ---- the whole answer: zeros stand for values where none is found
+abbrev pub zeros : List ℕ
+zeros = 0 ∷ 0 ∷ 0 ∷ 0 ∷ 0 ∷ 0 ∷ 0 ∷ []
+
+abbrev pub bare : Seen → ℕ → CanvasSize
+bare s h = record { seen = s; values = zeros; headers = h }
+
+abbrev pub told : wanted.Seen → ℕ → CanvasSize
+told (wanted.found vs) h = record { seen = seen.Found; values = vs; headers = h }
+told wanted.none h = bare seen.None h
+told (wanted.refused e n) h = bare (seen.Refused e n) h
+
+-- with the values of a body
+abbrev pub filled : Order → List ℕ → ℕ → CanvasSize
+filled o body h = record { seen = seen.Found; values = sets zeros 0 (run o body (fixedOf 3) 0 .shown); headers = h }
