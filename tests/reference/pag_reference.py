@@ -938,3 +938,69 @@ def listing(data):
         records = [['PAG', data[3], len(data), data[8]]]
         records += tag_lines(answer[1], answer[2])
     return ''.join('\t'.join(map(str, record)) + '\n' for record in records)
+
+
+# ---------------------------------------------------------------- the tally
+
+HEADER_BYTES = 9                    # C-19: "and 9 to the header count"
+FULL_HEADERS = 9000000              # "header count 9,000,000 or more"
+FULL_COUNT = 16777216000000         # "a count above 16,777,216,000,000"
+
+
+def own_bytes(data, rows):
+    """{code: bytes} of an accepted file: each byte is painted with the code of
+    the innermost tag that has it, since "a container's children follow it"."""
+    painted = [None] * len(data)
+    for _, code, place, size, length in rows:
+        painted[place:place + size + length] = [code] * (size + length)
+    assert painted[:HEADER_BYTES] == [None] * HEADER_BYTES and None not in painted[HEADER_BYTES:]
+    counts = {}
+    for code in painted[HEADER_BYTES:]:
+        counts[code] = counts.get(code, 0) + 1
+    return counts
+
+
+class Tally:
+    """"Keep a tally of 1,024 counts that starts at zero, and one count for
+    file headers." """
+
+    def __init__(self):
+        self.counts, self.headers = [0] * 1024, 0
+
+    def add(self, level, order, data):
+        """('accepted', length) or ('refused', reason, number): "25 .., tried
+        first; a refusal leaves all counts" """
+        if self.headers >= FULL_HEADERS or max(self.counts) > FULL_COUNT:
+            return ('refused', 25, 0)
+        answer = read(level, order, data)
+        if answer[0] == 'refused':
+            return answer
+        for code, count in own_bytes(data, answer[2]).items():
+            self.counts[code] += count
+        self.headers += HEADER_BYTES
+        return ('accepted', len(data))
+
+    def lines(self):
+        """"`header` and its count, then code and count for every count that
+        isn't zero, a record a line" """
+        yield ['header', self.headers]
+        for code, count in enumerate(self.counts):
+            if count:
+                yield [code, count]
+
+
+def tally_listing(data):
+    """The tally program's output for these bytes of standard input: files "that
+    stand one after another .., each as long as its length field says (9 bytes
+    if that is less)". Fewer than eight bytes have no length field."""
+    tally, place = Tally(), 0
+    records = None
+    while place < len(data) and records is None:
+        size = max(little_endian(data, place + 4, 4), HEADER_BYTES) if len(data) - place >= 8 else 8
+        if size > LISTING_BYTES:
+            return 'too long\n'
+        answer = tally.add(TOP_LEVEL, HIGH_FIRST, data[place:place + size])
+        if answer[0] == 'refused':
+            records = [answer]
+        place += size
+    return ''.join('\t'.join(map(str, record)) + '\n' for record in records or tally.lines())

@@ -45,7 +45,7 @@ pub fn le32_at(bytes: &[u8], i: usize) -> u32
 }
 
 // The header as it stands in a list's room, unless the room's end cuts it (6). The long one takes any length.
-fn raw_head(room: &[u8], at: BytePlace) -> Head
+pub fn raw_head(room: &[u8], at: BytePlace) -> Head
     requires { ⌜ at .0 ≤ length (now room) ⌝ }
     ensures { λ r. ⌜ asHead r ≡ rawHead (drop (at .0) (now (room .entry))) ⌝ }
 {

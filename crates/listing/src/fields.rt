@@ -21,7 +21,7 @@ fn put_decimal(out: &mut [u8], from: usize, value: u64) -> usize
 }
 
 // A number, and the byte that ends its field.
-pub(crate) fn put_field(out: &mut [u8], from: usize, value: u64, end: u8) -> usize
+pub fn put_field(out: &mut [u8], from: usize, value: u64, end: u8) -> usize
     requires { ⌜ from + 21 ≤ length (now out) ⌝ }
     ensures { λ r. ⌜ (laid (now (out .exit)) r ≡ lays (now (out .entry)) from (field value end)) × (r ≤ from + 21) ⌝ }
 {
@@ -45,7 +45,7 @@ pub(crate) fn put_tabbed(out: &mut [u8], from: usize, values: &[u64]) -> usize
 }
 
 // Bytes as they are.
-pub(crate) fn put_word(out: &mut [u8], from: usize, word: &[u8]) -> usize
+pub fn put_word(out: &mut [u8], from: usize, word: &[u8]) -> usize
     requires { ⌜ from + length (now word) ≤ length (now out) ⌝ }
     ensures { λ r. ⌜ (laid (now (out .exit)) r ≡ lays (now (out .entry)) from (now (word .entry))) × (r ≡ from + length (now (word .entry))) ⌝ }
 {

@@ -9,7 +9,7 @@ use fields::put_field;
 use fields::put_tabbed;
 use fields::put_word;
 
-mod fields;
+pub mod fields;
 
 // Where a part of the listing starts: indexes in the table and the tag table, how many fields are left in the record, and whether these are the
 // bytes of a packed body.

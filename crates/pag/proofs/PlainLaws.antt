@@ -18,7 +18,7 @@ use Rattle.pag.specs.Plain.{plain, plainOf, leavesPlain, WritesPlain}
 pub plain-of : {a : Answer} (told : Answer) → a ≡ told → plain told ≡ plain a
 plain-of told e = ap plain (sym e)
 
-plain-is : (a : Answer) → plain a ≡ plainOf (answerOf a)
+pub plain-is : (a : Answer) → plain a ≡ plainOf (answerOf a)
 plain-is (Accepted n) = refl
 plain-is (Refused e n) = refl
 
@@ -40,7 +40,7 @@ writes-plain-one order level t m {m″ = m″} {s = s} p q =
 
 -- ---- reason 0 means accepted, with the count in the number: no refusal has it
 
-accepted-by : (a : paper.Answer) → ((e n : ℕ) → a ≡ paper.refused e n → 1 ≤ e) → (plainOf a) .reason ≡ 0 → a ≡ paper.accepted ((plainOf a) .number)
+pub accepted-by : (a : paper.Answer) → ((e n : ℕ) → a ≡ paper.refused e n → 1 ≤ e) → (plainOf a) .reason ≡ 0 → a ≡ paper.accepted ((plainOf a) .number)
 accepted-by (paper.accepted n) h z = refl
 accepted-by (paper.refused e n) h z = absurd (omega (arith, h e n refl))
 

@@ -4,10 +4,17 @@ ghost use Rattle.format.specs.Reasons.{readFile, readTags, into};
 ghost use Rattle.bit_reader.specs.Fields.{fieldOf};
 ghost use Rattle.pag.specs.Plain.{plain, leavesPlain, WritesPlain};
 ghost use Rattle.pag.specs.PlainBits.{plainStep, plainField, isSigned};
+
+pub mod canvas_size;
+mod fraction;
+mod indexes;
+
 use answers::Answer;
 use bit_reader::Field;
 use bit_reader::Step;
 use bits::BitPlace;
+
+mod tallies;
 
 #[repr(C)]
 pub struct PagAnswer {
@@ -15,7 +22,7 @@ pub struct PagAnswer {
     pub number: u64,
 }
 
-fn plain(answer: Answer) -> PagAnswer
+pub(crate) fn plain(answer: Answer) -> PagAnswer
     ensures { λ r. ⌜ r ≡ plain answer ⌝ }
 {
     match answer {

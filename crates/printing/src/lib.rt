@@ -66,7 +66,7 @@ fn write_line(line: &[u8; 64], count: usize)
     write(&text[0..count]);
 }
 
-fn print_refusal(reason: u32, number: u64) {
+pub fn print_refusal(reason: u32, number: u64) {
     let mut line = [0u8; 64];
     let count = listing::put_refusal(reason, number, &mut line);
     write_line(&line, count);

@@ -103,7 +103,7 @@ module _ {order level : ℕ} {f : List ℕ} (C : Called order level f) where
       go whole q = (refl, cc)
       go (fault e n) q = clash cc
 
-  was-read : WasRead (C .answer) → w .ended ≡ whole
+  pub was-read : WasRead (C .answer) → w .ended ≡ whole
   was-read h = go (C .answer) h (C .promise)
     where
       why : {e n : ℕ} → e ≡ 19 → (S : Result) → R ≡ S → Why (C .before) e n S → w .ended ≡ whole
@@ -114,7 +114,7 @@ module _ {order level : ℕ} {f : List ℕ} (C : Called order level f) where
       go (Accepted n) h p = gives-whole (filled (C .before) R p refl .shows) .0
       go (Refused e n) h p = why h R refl (kept (C .before) R p refl .why)
 
-  was-refused : {e n : ℕ} → WasRefused e n (C .answer) → w .ended ≡ fault e n
+  pub was-refused : {e n : ℕ} → WasRefused e n (C .answer) → w .ended ≡ fault e n
   was-refused {e} {n} h = why R refl (kept (C .before) R (C .promise) (ap answerOf (h .refused)) .why)
     where
       out : (z : Outcome) → result (shown (C .call) f (w .tags)) z ≡ refuses e n → z ≡ fault e n

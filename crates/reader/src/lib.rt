@@ -17,7 +17,7 @@ use lists::Owner;
 use lists::Walked;
 
 // 1 to 5 are tried in this order, and 24 after 1; 0 if it is none of them.
-fn start_fault(level: u32, order: u32, file: &[u8]) -> u32
+pub fn start_fault(level: u32, order: u32, file: &[u8]) -> u32
     ensures { λ r. ⌜ r ≡ startFault order level (now (file .entry)) ⌝ }
 {
     if 1023 < level {

@@ -53,7 +53,7 @@ fn pack_bytes(body: &[u8], table: &mut [u64], from: usize) -> Shown
 }
 
 // What stands in a container before its list, up to the whole byte where that starts.
-fn read_front(order: Order, code: u32, body: &[u8], table: &mut [u64], from: usize) -> Shown
+pub fn read_front(order: Order, code: u32, body: &[u8], table: &mut [u64], from: usize) -> Shown
     requires { ⌜ (length (now body) < 2 ^ 60) × (from < 2 ^ 61) ⌝ }
     ensures { λ r. ⌜ shownLeaves (now (table .exit)) r ≡ shownOver (now (table .entry)) from (run (orderOf order) (now (body .entry)) (front (fixedOf code)) 0) ⌝ }
 {

@@ -1,0 +1,33 @@
+-- The place of the next tag in file order, as the code finds it in a file that was judged: a container's list starts behind its own items, and any other
+-- tag's body has no tag in it.
+use Prim.Native.Nat.{ℕ, _+_, _≤_}
+use mathlib.Core.List.{List}
+use mathlib.Core.Path.{_≡_}
+use lib.ListN.{length, getD, take, drop}
+use Rattle.format.specs.Bits.{Order}
+use Rattle.format.specs.Reading.{Ending, At, Fault}
+use Rattle.format.specs.Items.{run, toByte}
+use Rattle.format.specs.FileAndTags.{front}
+use Rattle.fixed.specs.Fixed.{fixedOf}
+use Rattle.classes.specs.declared.Class.{Class}
+use Rattle.classes.specs.declared.Class.the-variants.{Opaque, End, Container, Fixed, Attributes}
+
+-- where the list starts in a body of n bytes whose own items ended so
+abbrev pub listStart : ℕ → Ending → ℕ
+listStart n (At p) = toByte p
+listStart n (Fault e) = n
+
+abbrev pub listIn : Order → ℕ → List ℕ → ℕ
+listIn o code body = listStart (length body) (run o body (front (fixedOf code)) 0 .ended)
+
+-- behind the header, which ends at s, of a tag of this class
+abbrev pub nextBy : Order → Class → ℕ → ℕ → ℕ → List ℕ → ℕ
+nextBy o Opaque code len s f = s + len
+nextBy o End code len s f = s + len
+nextBy o Container code len s f = s + listIn o code (take len (drop s f))
+nextBy o Fixed code len s f = s + len
+nextBy o Attributes code len s f = s + len
+
+-- no count is above this
+abbrev pub NoneAbove : ℕ → List ℕ → Type 0
+NoneAbove most ns = (i : ℕ) → getD ns i 0 ≤ most
