@@ -224,10 +224,10 @@ fn read_three_flags(order: Order, body: &[u8], at: BitPlace) -> Got
         return Got::Value(0, next);
     }
     let a = read_two_flags(order, body, next);
-    let Got::Value(animatable, end) = a else {
+    let Got::Value(more, end) = a else {
         return a;
     };
-    Got::Value(1 + 2 * animatable, end)
+    Got::Value(1 + 2 * more, end)
 }
 
 // The flags of one attribute as a number: exist + 2 × animatable + 4 × hasSpatial; a Fixed one has no bit, and gives 1.
