@@ -20,10 +20,10 @@ with-bits-requires-2 : tie.Need-with-bits-requires-2
 with-bits-requires-2 c κs = search needs
 
 add-two-flags-requires : tie.Need-add-two-flags-requires
-add-two-flags-requires c κs = (c .with-bits2 .ensures .held, omega (arith, c .with-bits2 .ensures .longer, c .before .pre .1))
+add-two-flags-requires c κs = (c .with-bits2 .ensures .held, omega (arith, c .with-bits2 .ensures .longer, c .before .before .before .pre .1))
 
 returns-3 : tie.Need-returns-3
-returns-3 c = let a = c .before .args in add-after (orderOf (a .order)) (a .flags) (c .before .with-bits2 .result) (a .number) _ (c .add-two-flags .result) (c .before .pre .0) (c .before .if1 .left) (c .before .if2 .left) refl (c .before .with-bits2 .ensures) (c .add-two-flags .ensures)
+returns-3 c = let a = c .before .before .before .before .args in add-after (orderOf (a .order)) (a .flags) (c .before .with-bits2 .result) (a .number) _ (c .add-two-flags .result) (c .before .before .before .before .pre .0) (c .before .before .before .if1 .left) (c .before .before .if2 .left) refl (c .before .with-bits2 .ensures) (c .add-two-flags .ensures)
 
 pub add-three-flags-spec : {M : Type 1} → statement M
 add-three-flags-spec =

@@ -24,16 +24,16 @@ same-length : tie.Need-same-length
 same-length c = search needs
 
 returns : tie.Need-returns
-returns c = let a = c .before .args in then-off (orderOf (a .order)) (now (a .values)) (at (now (a .out)) (a .sink)) (a .from) (aligned ▸ scaled (a .easing)) (λ xs. pick (hasSpatial (a .flag)) (spatial (a .frames)) nothing) (c .before .write-easing .last .1 .1 .0) (c .before .write-easing .result) (c .before .write-easing .ensures) (c .enum-told .given .1)
+returns c = let a = c .before .before .before .before .before .before .before .before .args in then-off (orderOf (a .order)) (now (a .values)) (at (now (a .out)) (a .sink)) (a .from) (aligned ▸ scaled (a .easing)) (λ xs. pick (hasSpatial (a .flag)) (spatial (a .frames)) nothing) (c .before .before .before .before .write-easing .last .1 .1 .0) (c .before .before .before .before .write-easing .result) (c .before .before .before .before .write-easing .ensures) (c .enum-told .given .1)
 
 write-spatial-requires : tie.Need-write-spatial-requires
-write-spatial-requires c κs = let a = c .before .args in (ran-fine (orderOf (a .order)) (now (a .values)) (now (a .out)) (a .sink) (a .from) (aligned ▸ scaled (a .easing)) (c .before .write-easing .last .1 .1 .0) (c .before .write-easing .result) (c .before .pre .0) (c .before .write-easing .ensures) (c .before .r .given .0 .0) (c .before .r .given .0 .1 .0) (c .before .r .given .1), c .before .pre .1)
+write-spatial-requires c κs = let a = c .before .before .before .before .before .before .before .before .before .before .args in (ran-fine (orderOf (a .order)) (now (a .values)) (now (a .out)) (a .sink) (a .from) (aligned ▸ scaled (a .easing)) (c .before .before .before .before .before .before .write-easing .last .1 .1 .0) (c .before .before .before .before .before .before .write-easing .result) (c .before .before .before .before .before .before .before .before .before .before .pre .0) (c .before .before .before .before .before .before .write-easing .ensures) (c .before .before .r .given .0 .0) (c .before .before .r .given .0 .1 .0) (c .before .before .r .given .1), c .before .before .before .before .before .before .before .before .before .before .pre .1)
 
 same-length-2 : tie.Need-same-length-2
 same-length-2 c = search needs
 
 returns-2 : tie.Need-returns-2
-returns-2 c = let a = c .before .args in then-on (orderOf (a .order)) (now (a .values)) (at (now (a .out)) (a .sink)) (a .from) (aligned ▸ scaled (a .easing)) (λ xs. pick (hasSpatial (a .flag)) (spatial (a .frames)) nothing) (c .before .write-easing .last .1 .1 .0) (c .before .write-easing .result) (c .before .write-easing .ensures) (c .before .r .given .0 .0) (c .before .r .given .0 .1 .0) (c .before .r .given .1) (c .before .write-spatial .ensures)
+returns-2 c = let a = c .before .before .before .before .before .before .before .before .before .before .before .before .before .args in then-on (orderOf (a .order)) (now (a .values)) (at (now (a .out)) (a .sink)) (a .from) (aligned ▸ scaled (a .easing)) (λ xs. pick (hasSpatial (a .flag)) (spatial (a .frames)) nothing) (c .before .before .before .before .before .before .before .before .before .write-easing .last .1 .1 .0) (c .before .before .before .before .before .before .before .before .before .write-easing .result) (c .before .before .before .before .before .before .before .before .before .write-easing .ensures) (c .before .before .before .before .before .r .given .0 .0) (c .before .before .before .before .before .r .given .0 .1 .0) (c .before .before .before .before .before .r .given .1) (c .before .before .write-spatial .ensures)
 
 pub write-eased-spec : {M : Type 1} → statement M
 write-eased-spec =

@@ -18,19 +18,19 @@ has-interpolations-requires : tie.Need-has-interpolations-requires
 has-interpolations-requires c κs = search needs
 
 write-fields-requires : tie.Need-write-fields-requires
-write-fields-requires c κs = (c .skip .ensures .1, lit≤ tt, lit≤ tt, omega (arith, c .before .pre .1))
+write-fields-requires c κs = (c .before .before .before .before .before .skip .ensures .1, lit≤ tt, lit≤ tt, omega (arith, c .before .before .before .before .before .before .before .before .before .pre .1))
 
 same-length : tie.Need-same-length
 same-length c = search needs
 
 returns : tie.Need-returns
-returns c = let a = c .before .args in some-left (orderOf (a .order)) (now (a .values)) (at (now (a .out)) (a .sink)) (a .from) (a .frames) (c .before .write-fields .last .1 .1 .1 .1 .0) (c .before .pre .0 .1) (c .before .skip .ensures .0) (kindOf (a .kind)) (c .before .write-fields .result .put) (c .before .write-fields .result .count) (sym (c .before .if1 .taken) ∙ c .before .has-interpolations .ensures) (c .before .write-fields .ensures .0) (c .before .write-fields .ensures .1)
+returns c = let a = c .before .before .before .before .before .before .before .before .before .before .before .before .args in some-left (orderOf (a .order)) (now (a .values)) (at (now (a .out)) (a .sink)) (a .from) (a .frames) (c .before .before .write-fields .last .1 .1 .1 .1 .0) (c .before .before .before .before .before .before .before .before .before .before .before .before .pre .0 .1) (c .before .before .before .before .before .before .before .before .skip .ensures .0) (kindOf (a .kind)) (c .before .before .write-fields .result .put) (c .before .before .write-fields .result .count) (sym (c .before .before .before .before .if1 .taken) ∙ c .before .before .before .before .before .has-interpolations .ensures) (c .before .before .write-fields .ensures .0) (c .before .before .write-fields .ensures .1)
 
 same-length-2 : tie.Need-same-length-2
 same-length-2 c = search needs
 
 returns-2 : tie.Need-returns-2
-returns-2 c = let a = c .before .args in none-left (orderOf (a .order)) (now (a .values)) (at (now (a .out)) (a .sink)) (a .from) (a .frames) (c .before .skip .last .1 .0) (c .before .pre .0 .1) (c .before .skip .ensures .0) (kindOf (a .kind)) (c .before .skip .result) (sym (c .if1 .left) ∙ c .before .has-interpolations .ensures) refl (c .before .skip .ensures .1 .1)
+returns-2 c = let a = c .before .before .before .before .before .before .before .before .args in none-left (orderOf (a .order)) (now (a .values)) (at (now (a .out)) (a .sink)) (a .from) (a .frames) (c .before .before .before .before .skip .last .1 .0) (c .before .before .before .before .before .before .before .before .pre .0 .1) (c .before .before .before .before .skip .ensures .0) (kindOf (a .kind)) (c .before .before .before .before .skip .result) (sym (c .if1 .left) ∙ c .before .has-interpolations .ensures) refl (c .before .before .before .before .skip .ensures .1 .1)
 
 pub write-interpolations-spec : {M : Type 1} → statement M
 write-interpolations-spec =
