@@ -110,8 +110,8 @@ wide : (m n w v : ℕ) (r : Flagged) → w + m ≤ v + n → Grown m w r → Gro
 wide m n w v (With g) l h = (h .0, omega (arith, h .1))
 wide m n w v No l h = tt
 
-pub wider : (o : Order) (f : Flags) {b : Possible (List Bool)} (r : Flagged) → Adds 2 o f b r → Adds 3 o f b r
-wider o f r h = (h .0, wide 2 3 (f .width) (f .width) r (omega arith) (h .1))
+pub wider : (w : ℕ) (r : Flagged) → Grown 2 w r → Grown 3 w r
+wider w r h = wide 2 3 w w r (omega arith) h
 
 -- an exist bit was added, and then the flags after it
 pub add-after : (o : Order) (f g : Flags) (v w : ℕ) (r : Flagged) → Held f → (v ≡ 0 → ⊥) → (v % 2 ≡ 0 → ⊥) → w ≡ v / 2 → Longer o f 1 1 g → Adds 2 o g (spellFlag o w 2) r → Adds 3 o f (spellFlag o v 3) r
