@@ -221,10 +221,14 @@ def leaf_fields(rng, code):
     return block(rng, {6: LAYER, 9: TEXT, 10: MORE, 13: TRANSFORM, 14: MASK}[code])
 
 
+# Tag 10's rows with its Point made Spatial: no tag has such a row until C-24.
+SPATIAL_ROWS = (pag.BLOCKS[10][0], ('groupingAlignment', 'Spatial', 'Point'))
+
+
 def give_spatial_row():
-    """From here on tag 10's Point is Spatial, in the reference and in what is made here, and files have no leaves but 10 and 13."""
+    """From here on tag 10 has these rows, in the reference and in what is made here, and files have no leaves but 10 and 13."""
     global LEAVES
-    pag.BLOCKS[10] = (pag.BLOCKS[10][0], ('groupingAlignment', 'Spatial', 'Point'))
+    pag.BLOCKS[10] = SPATIAL_ROWS
     MORE[1] = ('Spatial', point)
     LEAVES = (10, 10, 10, 13)
 
