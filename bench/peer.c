@@ -95,13 +95,8 @@ enum { LINEAR = 1, BEZIER = 2, HOLD = 3 };
 
 static const struct attribute_list *attributes_of(uint32_t code)
 {
-    switch (code) {
-    case 6: return &LAYER;
-    case 9: return &TEXT;
-    case 10: return &MORE;
-    case 13: return &TRANSFORM;
-    default: return &MASK;
-    }
+    static const struct attribute_list *const LISTS[KNOWN_CODES] = {[6] = &LAYER, [9] = &TEXT, [10] = &MORE, [13] = &TRANSFORM, [14] = &MASK};
+    return LISTS[code];
 }
 
 static enum tag_class class_of(uint32_t level, uint32_t code)
