@@ -9,10 +9,15 @@ def read(path):
         return file.read()
 
 
+def needs():
+    """The crates of crates.txt in its order, and what each needs."""
+    lines = (line.split('#')[0].partition(':') for line in read('crates.txt').split('\n'))
+    return {name.strip(): after.split() for name, colon, after in lines if colon}
+
+
 def libraries():
     """The names of the crates of crates.txt that are libraries, in its order."""
-    names = (line.split('#')[0].split(':')[0].strip() for line in read('crates.txt').split('\n'))
-    return [name for name in names if name and os.path.exists('crates/%s/src/lib.rt' % name)]
+    return [name for name in needs() if os.path.exists('crates/%s/src/lib.rt' % name)]
 
 
 class Function:
@@ -51,24 +56,35 @@ def functions(crate):
 
 
 class Edit:
-    """A must-fail edit: its crate, its label, the file that it changes and the texts that it replaces."""
+    """A must-fail edit: its crate, its label, the file that it changes first, and its changes: of each the file, the text that goes and the text that comes."""
 
     def __init__(self, path):
         self.path, self.crate, self.label = path, path.split('/')[1], os.path.basename(path)[:-5]
-        lines = read(path).split('\n')
-        files = [line[6:].strip() for line in lines if line.startswith('file: ')]
-        self.file = os.path.join('crates', self.crate, files[0]) if files else None
-        self.old = [line[5:] for line in lines if line.startswith('old: ')]
+        self.changes = list(self.read_changes())
+        self.file = self.changes[0][0] if self.changes else None
+        self.old = [old for _, old, _ in self.changes]
+
+    def read_changes(self):
+        """A `file:` line holds for the `old:` and `new:` lines behind it, as `rt` reads them."""
+        file, old = '', ''
+        for line in read(self.path).split('\n'):
+            if line.startswith('file: '):
+                file = os.path.join('crates', self.crate, line[6:].strip())
+            elif line.startswith('old: '):
+                old = line[5:]
+            elif line.startswith('new:'):
+                yield file, old, line[4:].removeprefix(' ')
 
     def fault(self):
         """Why it does not apply; '' where it does."""
-        if not self.file or not os.path.exists(self.file):
-            return 'no such file'
-        if not self.old:
+        if not self.changes:
             return 'no old text'
-        source = read(self.file)
-        counts = [source.count(old) for old in self.old if source.count(old) != 1]
-        return 'its old text stands %d times' % counts[0] if counts else ''
+        for file, old, _ in self.changes:
+            if not os.path.exists(file):
+                return 'no such file'
+            if read(file).count(old) != 1:
+                return 'its old text stands %d times' % read(file).count(old)
+        return ''
 
 
 def edits():
