@@ -13,7 +13,7 @@ ghost use Rattle.values.specs.Parts.{framesOf, keyframesOf};
 ghost use Rattle.bits.specs.Places.{orderOf};
 use crate::read_announcing;
 use crate::read_frame_values;
-use crate::read_in_turn;
+use crate::read_times;
 use attributes::DataType;
 use attributes::Kind;
 use bits::Aligned;
@@ -174,7 +174,7 @@ fn read_frames(
     requires { ⌜ Fits (now body) (at .0) from × (frames ≤ 4096) × (easing < 2 ^ 32) ⌝ }
     ensures { λ r. ⌜ runLeaves (now (table .exit)) r ≡ shownOver (now (table .entry)) from (run (orderOf order) (now (body .entry)) (framesOf (kindOf kind) (typeOf what) flag frames easing) (at .0)) ⌝ }
 {
-    let r = read_in_turn(order, DataType::Time, frames + 1, body, at, table, from);
+    let r = read_times(order, frames + 1, body, at, table, from);
     let Run::Done(timed, after_times) = r else {
         return r;
     };

@@ -2,7 +2,7 @@
 ghost use mathlib.Core.Path.{_≡_};
 ghost use Prim.Native.Nat.{_≤_};
 ghost use Rattle.format.specs.Formats.{times, _▸_};
-ghost use Rattle.format.specs.Items.{run, path};
+ghost use Rattle.format.specs.Items.{run, path, time};
 ghost use Rattle.format.specs.Bodies.{value as valueOf, values as valuesOf};
 ghost use Rattle.table.specs.State.{shownOver};
 ghost use Rattle.table.specs.Run.{runLeaves};
@@ -152,6 +152,33 @@ fn read_in_turn(
     let mut left = count;
     while 0 < left {
         let r = read_value(order, what, body, place, table, index);
+        let Run::Done(next, behind) = r else {
+            return r;
+        };
+        place = next;
+        index = behind;
+        left -= 1;
+    }
+    Run::Done(place, index)
+}
+
+// n times. Apart from other values in turn, so that what an item is is not asked for each.
+fn read_times(
+    order: Order,
+    count: usize,
+    body: &[u8],
+    at: BitPlace,
+    table: &mut [u64],
+    from: usize,
+) -> Run
+    requires { ⌜ Fits (now body) (at .0) from ⌝ }
+    ensures { λ r. ⌜ runLeaves (now (table .exit)) r ≡ shownOver (now (table .entry)) from (run (orderOf order) (now (body .entry)) (times count time) (at .0)) ⌝ }
+{
+    let mut place = at;
+    let mut index = from;
+    let mut left = count;
+    while 0 < left {
+        let r = table::read_one(order, Item::Time, body, place, table, index);
         let Run::Done(next, behind) = r else {
             return r;
         };

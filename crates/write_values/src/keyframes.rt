@@ -13,7 +13,7 @@ ghost use Rattle.spelling.specs.Writing.{seen, ran, Fine};
 ghost use Rattle.write_values.specs.Easing.{Eases};
 use crate::write_announcing;
 use crate::write_frame_values;
-use crate::write_in_turn;
+use crate::write_times;
 use attributes::DataType;
 use attributes::Kind;
 use bits::Order;
@@ -156,7 +156,7 @@ fn write_frames(
     requires { ⌜ Fine sink × (frames ≤ 4096) × (easing < 2 ^ 32) ⌝ }
     ensures { λ r. ⌜ seen (now (out .exit)) r ≡ ran (orderOf order) (now (values .entry)) (under (now (out .entry)) sink) from (framesOf (kindOf kind) (typeOf what) flag frames easing) ⌝ }
 {
-    let r = write_in_turn(order, DataType::Time, frames + 1, out, sink, values, from);
+    let r = write_times(order, frames + 1, out, sink, values, from);
     let Put::Done(timed, after_times) = r else {
         return r;
     };

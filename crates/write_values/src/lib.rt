@@ -2,7 +2,7 @@
 ghost use mathlib.Core.Path.{_≡_};
 ghost use Prim.Native.Nat.{_≤_};
 ghost use Rattle.format.specs.Formats.{times, _▸_};
-ghost use Rattle.format.specs.Items.{path};
+ghost use Rattle.format.specs.Items.{path, time};
 ghost use Rattle.format.specs.Bodies.{value as valueOf, values as valuesOf};
 ghost use Rattle.items.specs.Kinds.{formatOf};
 ghost use Rattle.attributes.specs.Rows.{kindOf, typeOf};
@@ -154,6 +154,33 @@ fn write_in_turn(
     let mut left = count;
     while 0 < left {
         let r = write_value(order, what, out, cur, values, index);
+        let Put::Done(next, behind) = r else {
+            return r;
+        };
+        cur = next;
+        index = behind;
+        left -= 1;
+    }
+    Put::Done(cur, index)
+}
+
+// n times. Apart from other values in turn, so that what an item is is not asked for each.
+fn write_times(
+    order: Order,
+    count: usize,
+    out: &mut [u8],
+    sink: Sink,
+    values: &[u64],
+    from: usize,
+) -> Put
+    requires { ⌜ Fine sink ⌝ }
+    ensures { λ r. ⌜ seen (now (out .exit)) r ≡ ran (orderOf order) (now (values .entry)) (under (now (out .entry)) sink) from (times count time) ⌝ }
+{
+    let mut cur = sink;
+    let mut index = from;
+    let mut left = count;
+    while 0 < left {
+        let r = spelling::write_one(order, Item::Time, out, cur, values, index);
         let Put::Done(next, behind) = r else {
             return r;
         };
