@@ -1,11 +1,11 @@
-/* Generated PAG files, made item by item from document 01 and document 02's C-11: bits are put one after the other, and a tag's header when its length is known. */
+/* Generated PAG files, made item by item from document 01 and document 02's C-11 and C-12: bits are put one after the other, and a tag's header when its length is known. */
 #include "files.h"
 
 #include <string.h>
 
 enum { DEEPEST = 8, MOST_FLAGS = 9 };
 
-const char *const KIND_NAMES[KINDS] = {"opaque", "paths", "small", "nested", "fonts"};
+const char *const KIND_NAMES[KINDS] = {"opaque", "paths", "small", "nested", "fonts", "transforms"};
 
 /* ------------------------------------------------------------ random numbers and bits */
 
@@ -101,16 +101,19 @@ static void put_path(struct maker *m, size_t verbs)
 
 /* ------------------------------------------------------------ attribute blocks */
 
-/* Types of attributes, by a letter each: n none, u U32, t Time, f Float, r Ratio, o Bool, b byte, B blendMode, T trackMatteType, M maskMode, p Path. */
+/* Types of attributes, by a letter each: n none, u U32, t Time, f Float, r Ratio, o Bool, b byte, B blendMode, T trackMatteType, M maskMode,
+ * G anchorPointGrouping, p Path, P Point. */
 struct list {
     uint32_t code;
-    const char *kinds; /* V Value, F Fixed, B BitFlag, S Simple, D Discrete */
+    const char *kinds; /* V Value, F Fixed, B BitFlag, S Simple, D Discrete, M MultiDimension */
     const char *types;
 };
 
 static const struct list LAYER = {6, "BBVVVVVSF", "nnurtBTft"};
 static const struct list TEXT = {9, "VDDDSS", "uoooff"};
 static const struct list MASK = {14, "FBVSSS", "unMpbf"};
+static const struct list MORE = {10, "VM", "GP"};
+static const struct list TRANSFORM = {13, "VVVVVVV", "PPffPfb"};
 
 /* How long a keyframed path is: a small random one has none fixed. */
 struct shape {
@@ -130,6 +133,8 @@ static void put_value(struct maker *m, char type, const struct shape *shape)
     case 'B': put_byte(m, random_below(m, 2) ? random_below(m, 17) : 21 + random_below(m, 6)); break;
     case 'T': put_byte(m, random_below(m, 5)); break;
     case 'M': put_byte(m, random_below(m, 8)); break;
+    case 'G': put_byte(m, random_below(m, 7)); break;
+    case 'P': put_random_bytes(m, 8); break;
     case 'p': put_path(m, shape ? shape->verbs : random_below(m, 7)); break;
     default: break;
     }
@@ -152,14 +157,14 @@ static void put_keyframed(struct maker *m, char kind, char type, const struct sh
 {
     size_t frames = shape ? shape->frames : 1 + random_below(m, 6), beziers = 0;
     put_spelled(m, frames);
-    for (size_t i = 0; kind == 'S' && i < frames; i++) {
+    for (size_t i = 0; kind != 'D' && i < frames; i++) {
         unsigned interpolation = 1 + (unsigned)random_below(m, 3);
         put_bits(m, 2, interpolation);
         beziers += interpolation == 2;
     }
     for (size_t i = 0; i <= frames; i++) put_time(m);
     put_frame_values(m, type, frames + 1, shape);
-    put_scaled(m, 1 + (unsigned)random_below(m, 32), 4 * beziers);
+    put_scaled(m, 1 + (unsigned)random_below(m, 32), (kind == 'M' ? 8 : 4) * beziers);
     whole_byte(m);
 }
 
@@ -168,7 +173,7 @@ static void put_block(struct maker *m, const struct list *list, const struct sha
 {
     unsigned flags[MOST_FLAGS];
     for (size_t i = 0; list->kinds[i]; i++) {
-        int animatable = strchr("SD", list->kinds[i]) != NULL;
+        int animatable = strchr("SDM", list->kinds[i]) != NULL;
         flags[i] = shape || list->kinds[i] == 'F' ? 1 : (unsigned)random_below(m, 2);
         if (list->kinds[i] != 'F') put_bits(m, 1, flags[i]);
         if (!animatable || !flags[i]) continue;
@@ -211,7 +216,7 @@ static void close_tag(struct maker *m, size_t place, uint32_t code)
 
 static void put_opaque(struct maker *m, size_t len)
 {
-    static const uint32_t CODES[] = {4, 8, 10, 13, 15, 31, 32, 255, 1023};
+    static const uint32_t CODES[] = {4, 8, 28, 29, 30, 31, 32, 255, 1023};
     size_t place = open_tag(m);
     put_random_bytes(m, len);
     close_tag(m, place, CODES[random_below(m, sizeof CODES / sizeof *CODES)]);
@@ -228,22 +233,28 @@ static void put_fonts(struct maker *m, size_t fonts, size_t longest)
     close_tag(m, place, 1);
 }
 
-static void put_mask(struct maker *m, const struct shape *shape)
+static void put_block_tag(struct maker *m, const struct list *list, const struct shape *shape)
 {
     size_t place = open_tag(m);
-    put_block(m, &MASK, shape);
-    close_tag(m, place, 14);
+    put_block(m, list, shape);
+    close_tag(m, place, list->code);
 }
 
 /* A random leaf tag that is read at level 1023. */
 static void put_leaf(struct maker *m)
 {
     static const struct list *const BLOCKS[] = {&LAYER, &TEXT, &MASK};
-    size_t which = random_below(m, 8), place = open_tag(m);
+    size_t which = random_below(m, m->all_leaves ? 10 : 8);
     if (which < 3) {
-        put_block(m, BLOCKS[which], NULL);
-        close_tag(m, place, BLOCKS[which]->code);
-    } else if (which == 3) {
+        put_block_tag(m, BLOCKS[which], NULL);
+        return;
+    }
+    if (which >= 8) {
+        put_block_tag(m, which == 8 ? &MORE : &TRANSFORM, NULL);
+        return;
+    }
+    size_t place = open_tag(m);
+    if (which == 3) {
         put_i32(m), put_i32(m), put_time(m), put_random_bytes(m, 7);
         close_tag(m, place, 3);
     } else if (which == 4) {
@@ -349,10 +360,14 @@ static void put_piece(struct maker *m, enum kind kind)
 {
     static const struct shape LONG = {12, 200};
     switch (kind) {
-    case LONG_PATHS: put_mask(m, &LONG); break;
+    case LONG_PATHS: put_block_tag(m, &MASK, &LONG); break;
     case SMALL_TAGS: random_below(m, 2) ? put_leaf(m) : put_opaque(m, random_below(m, 6)); break;
     case NESTED: put_nest(m, 0); break;
     case FONT_TABLES: put_fonts(m, 200, 30); break;
+    case TRANSFORMS: /* any transform, and a keyframed alignment */
+        put_block_tag(m, &TRANSFORM, NULL);
+        put_block_tag(m, &MORE, &LONG);
+        break;
     default: break;
     }
 }

@@ -14,9 +14,10 @@ struct maker {
     uint64_t seed;
     int low; /* bytes are filled from their lowest bit */
     int any_headers; /* a body below 63 bytes may come by a long header: in random files, and in no long one */
+    int all_leaves; /* tags 10 and 13 among the small and the nested tags, too: not where bench/run measures, so that its counts can be compared with older ones */
 };
 
-enum kind { OPAQUE_BYTES, LONG_PATHS, SMALL_TAGS, NESTED, FONT_TABLES, KINDS };
+enum kind { OPAQUE_BYTES, LONG_PATHS, SMALL_TAGS, NESTED, FONT_TABLES, TRANSFORMS, KINDS };
 
 extern const char *const KIND_NAMES[KINDS];
 

@@ -1,7 +1,7 @@
 /*
  * The peer of bench/run: a plain reader and writer of PAG files, made from document 01 ("What is to be built"), document 02's C-18 (bit order), C-11 (long
- * headers on short bodies) and C-17 (packed opaque bodies), and the open points of docs/DECISIONS.md, with bounds checks and without proofs. Its author had seen
- * the library and the reference, so it is no independent reading of the paper.
+ * headers on short bodies), C-17 (packed opaque bodies) and C-12 (transforms and points), and the open points of docs/DECISIONS.md, with bounds checks and without
+ * proofs. Its author had seen the reference and the library as it was before C-12, so it is no independent reading of the paper.
  *
  * A refusal may change nothing lent, so each call walks twice: once to judge and to count, and once to fill. One function serves both walks:
  * where there is no memory to fill (a null pointer), it only counts, and skips what it need not look at.
@@ -22,10 +22,10 @@ enum { KNOWN_CODES = 15 };
 
 static const uint8_t CLASSES[KNOWN_CODES] = {
     [0] = END,   [1] = FONTS, [2] = CONTAINER, [3] = ITEMS,  [5] = CONTAINER, [6] = BLOCK,
-    [7] = ITEMS, [9] = BLOCK, [11] = ITEMS,    [12] = ITEMS, [14] = BLOCK,
+    [7] = ITEMS, [9] = BLOCK, [10] = BLOCK,    [11] = ITEMS, [12] = ITEMS,    [13] = BLOCK, [14] = BLOCK,
 };
 
-enum data_type { NONE, U32, I32, TIME, FLOAT, BYTE, BOOL, RATIO, BLEND_MODE, TRACK_MATTE, MASK_MODE, PATH };
+enum data_type { NONE, U32, I32, TIME, FLOAT, BYTE, BOOL, RATIO, BLEND_MODE, TRACK_MATTE, MASK_MODE, GROUPING, PATH, POINT };
 
 /* The items of plain bodies; those of containers stand before their list. NONE ends them. */
 static const uint8_t PLAIN[KNOWN_CODES][8] = {
@@ -37,7 +37,21 @@ static const uint8_t PLAIN[KNOWN_CODES][8] = {
     [12] = {U32, TIME},
 };
 
-enum attribute_kind { VALUE, FIXED, BIT_FLAG, SIMPLE, DISCRETE };
+/* From SIMPLE on they may be keyframed. */
+enum attribute_kind { VALUE, FIXED, BIT_FLAG, SIMPLE, DISCRETE, MULTI_DIMENSION, SPATIAL };
+
+enum { EXISTS = 1, ANIMATABLE = 2, HAS_SPATIAL = 4 };
+
+/* The flag numbers of a kind, as a set of bits. */
+static const uint8_t FLAG_NUMBERS[] = {
+    [VALUE] = 1 << 0 | 1 << 1,
+    [FIXED] = 1 << 1,
+    [BIT_FLAG] = 1 << 0 | 1 << 1,
+    [SIMPLE] = 1 << 0 | 1 << 1 | 1 << 3,
+    [DISCRETE] = 1 << 0 | 1 << 1 | 1 << 3,
+    [MULTI_DIMENSION] = 1 << 0 | 1 << 1 | 1 << 3,
+    [SPATIAL] = 1 << 0 | 1 << 1 | 1 << 3 | 1 << 7,
+};
 
 struct attribute {
     uint8_t kind;
@@ -58,6 +72,18 @@ static const struct attribute_list TEXT = {
     6,
     {{VALUE, U32}, {DISCRETE, BOOL}, {DISCRETE, BOOL}, {DISCRETE, BOOL}, {SIMPLE, FLOAT}, {SIMPLE, FLOAT}},
 };
+/* No tag has a Spatial row until C-24, so bench/compare compiles the peer a second time with one here. */
+#ifndef GROUPING_KIND
+#define GROUPING_KIND MULTI_DIMENSION
+#endif
+static const struct attribute_list MORE = {
+    2,
+    {{VALUE, GROUPING}, {GROUPING_KIND, POINT}},
+};
+static const struct attribute_list TRANSFORM = {
+    7,
+    {{VALUE, POINT}, {VALUE, POINT}, {VALUE, FLOAT}, {VALUE, FLOAT}, {VALUE, POINT}, {VALUE, FLOAT}, {VALUE, BYTE}},
+};
 static const struct attribute_list MASK = {
     6,
     {{FIXED, U32}, {BIT_FLAG, NONE}, {VALUE, MASK_MODE}, {SIMPLE, PATH}, {SIMPLE, BYTE}, {SIMPLE, FLOAT}},
@@ -69,12 +95,19 @@ enum { LINEAR = 1, BEZIER = 2, HOLD = 3 };
 
 static const struct attribute_list *attributes_of(uint32_t code)
 {
-    return code == 6 ? &LAYER : code == 9 ? &TEXT : &MASK;
+    static const struct attribute_list *const LISTS[KNOWN_CODES] = {[6] = &LAYER, [9] = &TEXT, [10] = &MORE, [13] = &TRANSFORM, [14] = &MASK};
+    return LISTS[code];
 }
 
 static enum tag_class class_of(uint32_t level, uint32_t code)
 {
     return code < KNOWN_CODES && code <= level ? (enum tag_class)CLASSES[code] : OPAQUE;
+}
+
+/* How many easing numbers a Bezier frame has: a curve of four, or one for x and one for y. */
+static size_t easing_of(enum attribute_kind kind, enum data_type type)
+{
+    return kind == MULTI_DIMENSION && type == POINT ? 8 : 4;
 }
 
 /* Is the byte one that its data type lists? */
@@ -85,6 +118,7 @@ static int is_listed(enum data_type type, uint64_t value)
     case BLEND_MODE: return value <= 16 || (value >= 21 && value <= 26);
     case TRACK_MATTE: return value <= 4;
     case MASK_MODE: return value <= 7;
+    case GROUPING: return value <= 6;
     default: return value <= 255;
     }
 }
@@ -257,24 +291,27 @@ static int read_width(struct body *b, unsigned *width)
     return 0;
 }
 
-/* n signed fields of one width from a bit on. The order is known where it is called, so that no field asks for it. */
-static inline void fill_signed(uint64_t *out, const struct body *b, unsigned width, size_t n, int low)
+/* n fields of one width from a bit on; `half` is what their top bit stands for, or 0 where they are unsigned. The order is known where it is called, so that no
+ * field asks for it. */
+static inline void fill_fields(uint64_t *out, const struct body *b, unsigned width, size_t n, uint64_t half, int low)
 {
     const uint8_t *bytes = b->bytes;
     size_t len = b->len, at = b->at;
-    uint64_t half = (uint64_t)1 << (width - 1);
     for (size_t i = 0; i < n; i++, at += width) out[i] = (field_at(bytes, len, at, width, low) ^ half) - half;
 }
 
-/* A width, and n signed fields of it. They have no values to judge, so a walk that only counts steps over them. */
-static int read_signed_fields(struct body *b, size_t n)
+enum { UNSIGNED, SIGNED };
+
+/* A width, and n fields of it. They have no values to judge, so a walk that only counts steps over them. */
+static int read_scaled(struct body *b, size_t n, int is_signed)
 {
     unsigned width = 0;
     int why = read_width(b, &width);
     if (why) return why;
     if (fitting(b, width, n) < n) return PAG_ITEM_PAST_THE_BODY;
-    if (b->out && b->low) fill_signed(b->out + b->count, b, width, n, 1);
-    else if (b->out) fill_signed(b->out + b->count, b, width, n, 0);
+    uint64_t half = is_signed ? (uint64_t)1 << (width - 1) : 0;
+    if (b->out && b->low) fill_fields(b->out + b->count, b, width, n, half, 1);
+    else if (b->out) fill_fields(b->out + b->count, b, width, n, half, 0);
     b->at += n * width;
     b->count += n;
     return 0;
@@ -303,7 +340,27 @@ static int read_path(struct body *b)
         coordinates += COORDINATES[verb];
         show(b, verb);
     }
-    return read_signed_fields(b, coordinates);
+    return read_scaled(b, coordinates, SIGNED);
+}
+
+/* n Floats in turn. Any pattern is one, so they are asked for once, and a walk that only counts steps over them. */
+static int read_floats(struct body *b, size_t n)
+{
+    int why = align(b);
+    if (why) return why;
+    const uint8_t *from = b->bytes + b->at / 8;
+    if ((b->len - b->at / 8) / 4 < n) return PAG_ITEM_PAST_THE_BODY;
+    if (b->out) {
+        uint64_t *out = b->out + b->count;
+        for (size_t i = 0; i < n; i++) {
+            uint32_t pattern;
+            memcpy(&pattern, from + 4 * i, 4);
+            out[i] = pattern;
+        }
+    }
+    b->at += 32 * n;
+    b->count += n;
+    return 0;
 }
 
 /* ------------------------------------------------------------ reading: bodies */
@@ -328,6 +385,7 @@ static int read_one(struct body *b, enum data_type type)
 static int read_value(struct body *b, enum data_type type)
 {
     if (type == PATH) return read_path(b);
+    if (type == POINT) return read_floats(b, 2);
     if (type != RATIO) return read_one(b, type);
     int why = read_one(b, I32);
     return why ? why : read_one(b, U32);
@@ -342,10 +400,12 @@ static int read_in_turn(struct body *b, enum data_type type, size_t n)
     return 0;
 }
 
-static int read_frame_values(struct body *b, enum data_type type, size_t n)
+static int read_frame_values(struct body *b, enum attribute_kind kind, enum data_type type, size_t n)
 {
     unsigned width = 0;
     if (type == BOOL) return read_fields(b, 1, n, 0, 1);
+    if (type == POINT) return kind == SPATIAL ? read_scaled(b, 2 * n, UNSIGNED) : read_floats(b, 2 * n);
+    if (type == FLOAT) return read_floats(b, n);
     if (type != BYTE) return read_in_turn(b, type, n);
     int why = read_width(b, &width);
     return why ? why : read_fields(b, width, n, 0, 255);
@@ -364,17 +424,32 @@ static int read_interpolations(struct body *b, size_t frames, size_t *beziers)
     return there < frames ? PAG_ITEM_PAST_THE_BODY : 0;
 }
 
-/* Keyframed content: each of its five parts starts on a whole byte. */
-static int read_keyframed(struct body *b, enum attribute_kind kind, enum data_type type)
+/* The sixth part: two flags a frame, in and out, then a width and two signed fields for each that is set. */
+static int read_spatial(struct body *b, size_t frames)
+{
+    size_t there = 0;
+    if (fitting(b, 1, 2 * frames) < 2 * frames) return PAG_ITEM_PAST_THE_BODY;
+    for (size_t i = 0; i < 2 * frames; i++) {
+        uint64_t flag = next_field(b, 1);
+        there += flag;
+        show(b, flag);
+    }
+    return read_scaled(b, 2 * there, SIGNED);
+}
+
+/* Keyframed content: each of its five parts, or six, starts on a whole byte. */
+static int read_keyframed(struct body *b, enum attribute_kind kind, enum data_type type, unsigned flags)
 {
     size_t frames = 0, beziers = 0;
     int why = read_count(b, 1, &frames);
     if (why || (why = align(b))) return why;
     if (kind != DISCRETE && (why = read_interpolations(b, frames, &beziers))) return why;
     if ((why = read_in_turn(b, TIME, frames + 1))) return why;
-    if ((why = align(b)) || (why = read_frame_values(b, type, frames + 1))) return why;
-    if ((why = align(b))) return why;
-    return read_signed_fields(b, 4 * beziers);
+    if ((why = align(b)) || (why = read_frame_values(b, kind, type, frames + 1))) return why;
+    if ((why = align(b)) || (why = read_scaled(b, easing_of(kind, type) * beziers, SIGNED))) return why;
+    if (!(flags & HAS_SPATIAL)) return 0;
+    why = align(b);
+    return why ? why : read_spatial(b, frames);
 }
 
 static int read_flag_bit(struct body *b, unsigned *bit)
@@ -386,13 +461,16 @@ static int read_flag_bit(struct body *b, unsigned *bit)
 
 static int read_flags(struct body *b, enum attribute_kind kind, unsigned *flags)
 {
-    unsigned animatable = 0;
-    *flags = 1;
+    unsigned animatable = 0, has_spatial = 0;
+    *flags = EXISTS;
     if (kind == FIXED) return 0;
     int why = read_flag_bit(b, flags);
-    if (why || *flags == 0 || (kind != SIMPLE && kind != DISCRETE)) return why;
+    if (why || *flags == 0 || kind < SIMPLE) return why;
     why = read_flag_bit(b, &animatable);
-    *flags += 2 * animatable;
+    *flags += ANIMATABLE * animatable;
+    if (why || !animatable || kind != SPATIAL) return why;
+    why = read_flag_bit(b, &has_spatial);
+    *flags += HAS_SPATIAL * has_spatial;
     return why;
 }
 
@@ -407,8 +485,8 @@ static int read_block(struct body *b, const struct attribute_list *list)
         enum data_type type = list->of[i].type;
         show(b, flags[i]);
         why = 0;
-        if (flags[i] == 3) why = read_keyframed(b, kind, type);
-        else if (flags[i] == 1 && kind != BIT_FLAG) why = read_value(b, type);
+        if (flags[i] & ANIMATABLE) why = read_keyframed(b, kind, type, flags[i]);
+        else if (flags[i] && kind != BIT_FLAG) why = read_value(b, type);
         if (why) return why;
     }
     return 0;
@@ -802,6 +880,21 @@ static int write_float(struct numbers *from, struct output *o)
     return 1;
 }
 
+/* n Floats in turn. */
+static int write_floats(struct numbers *from, struct output *o, size_t n)
+{
+    if (n > from->left) return 0;
+    put_zero_bits(o);
+    for (size_t i = 0; i < n; i++) {
+        if (from->next[i] > UINT32_MAX) return 0;
+        if (o->bytes) memcpy(o->bytes + o->len + 4 * i, from->next + i, 4);
+    }
+    o->len += 4 * n;
+    from->next += n;
+    from->left -= n;
+    return 1;
+}
+
 static int write_number(struct numbers *from, struct output *o, uint64_t most)
 {
     uint64_t value = 0;
@@ -837,11 +930,11 @@ static int write_width(struct numbers *from, struct output *o, unsigned *width)
     return 1;
 }
 
-static int write_signed_fields(struct numbers *from, struct output *o, size_t n)
+static int write_scaled(struct numbers *from, struct output *o, size_t n, int is_signed)
 {
     unsigned width = 0;
     if (!write_width(from, o, &width) || n > from->left) return 0;
-    uint64_t half = (uint64_t)1 << (width - 1), mask = 2 * half - 1;
+    uint64_t mask = ((uint64_t)1 << width) - 1, half = is_signed ? (uint64_t)1 << (width - 1) : 0;
     for (size_t i = 0; i < n; i++) {
         uint64_t value = from->next[i];
         if (value + half > mask) return 0;
@@ -873,7 +966,7 @@ static int write_path(struct numbers *from, struct output *o)
         put_bits(o, 3, verb);
         coordinates += COORDINATES[verb];
     }
-    return write_signed_fields(from, o, coordinates);
+    return write_scaled(from, o, coordinates, SIGNED);
 }
 
 /* ------------------------------------------------------------ writing: bodies */
@@ -887,6 +980,7 @@ static int write_value(struct numbers *from, struct output *o, enum data_type ty
     case FLOAT: return write_float(from, o);
     case RATIO: return write_i32(from, o) && write_number(from, o, UINT32_MAX);
     case PATH: return write_path(from, o);
+    case POINT: return write_floats(from, o, 2);
     default: return write_byte(from, o, type);
     }
 }
@@ -898,10 +992,12 @@ static int write_in_turn(struct numbers *from, struct output *o, enum data_type 
     return 1;
 }
 
-static int write_frame_values(struct numbers *from, struct output *o, enum data_type type, size_t n)
+static int write_frame_values(struct numbers *from, struct output *o, enum attribute_kind kind, enum data_type type, size_t n)
 {
     unsigned width = 0;
     if (type == BOOL) return write_fields(from, o, 1, n, 1);
+    if (type == POINT) return kind == SPATIAL ? write_scaled(from, o, 2 * n, UNSIGNED) : write_floats(from, o, 2 * n);
+    if (type == FLOAT) return write_floats(from, o, n);
     if (type != BYTE) return write_in_turn(from, o, type, n);
     return write_width(from, o, &width) && write_fields(from, o, width, n, 255);
 }
@@ -917,16 +1013,31 @@ static int write_interpolations(struct numbers *from, struct output *o, size_t f
     return 1;
 }
 
-static int write_keyframed(struct numbers *from, struct output *o, enum attribute_kind kind, enum data_type type)
+static int write_spatial(struct numbers *from, struct output *o, size_t frames)
+{
+    size_t there = 0;
+    uint64_t flag = 0;
+    for (size_t i = 0; i < 2 * frames; i++) {
+        if (!take(from, 0, 1, &flag)) return 0;
+        put_bits(o, 1, flag);
+        there += flag;
+    }
+    return write_scaled(from, o, 2 * there, SIGNED);
+}
+
+static int write_keyframed(struct numbers *from, struct output *o, enum attribute_kind kind, enum data_type type, uint64_t flags)
 {
     size_t frames = 0, beziers = 0;
     if (!write_count(from, o, 1, &frames)) return 0;
     if (kind != DISCRETE && !write_interpolations(from, o, frames, &beziers)) return 0;
     if (!write_in_turn(from, o, TIME, frames + 1)) return 0;
     put_zero_bits(o);
-    if (!write_frame_values(from, o, type, frames + 1)) return 0;
+    if (!write_frame_values(from, o, kind, type, frames + 1)) return 0;
     put_zero_bits(o);
-    return write_signed_fields(from, o, 4 * beziers);
+    if (!write_scaled(from, o, easing_of(kind, type) * beziers, SIGNED)) return 0;
+    if (!(flags & HAS_SPATIAL)) return 1;
+    put_zero_bits(o);
+    return write_spatial(from, o, frames);
 }
 
 /* The flags of a block, which stand before its contents and are known after them: the first is the highest bit. */
@@ -935,20 +1046,20 @@ struct flags {
     unsigned count;
 };
 
+static void add_flag(struct flags *flags, int is_set)
+{
+    flags->bits = flags->bits << 1 | (uint32_t)is_set;
+    flags->count++;
+}
+
 static int write_attribute(struct numbers *from, struct output *o, struct attribute attribute, struct flags *flags)
 {
-    int animatable = attribute.kind == SIMPLE || attribute.kind == DISCRETE;
     uint64_t number = 0;
-    if (!take(from, attribute.kind == FIXED, animatable ? 3 : 1, &number) || number == 2) return 0;
-    if (attribute.kind != FIXED) {
-        flags->bits = flags->bits << 1 | (uint32_t)(number & 1);
-        flags->count++;
-    }
-    if (animatable && number) {
-        flags->bits = flags->bits << 1 | (uint32_t)(number >> 1);
-        flags->count++;
-    }
-    if (number == 3) return write_keyframed(from, o, attribute.kind, attribute.type);
+    if (!take(from, 0, EXISTS + ANIMATABLE + HAS_SPATIAL, &number) || !(FLAG_NUMBERS[attribute.kind] >> number & 1)) return 0;
+    if (attribute.kind != FIXED) add_flag(flags, number & EXISTS);
+    if (attribute.kind >= SIMPLE && number) add_flag(flags, (number & ANIMATABLE) != 0);
+    if (attribute.kind == SPATIAL && number & ANIMATABLE) add_flag(flags, (number & HAS_SPATIAL) != 0);
+    if (number & ANIMATABLE) return write_keyframed(from, o, attribute.kind, attribute.type, number);
     if (number == 0 || attribute.kind == BIT_FLAG) return 1;
     return write_value(from, o, attribute.type);
 }

@@ -18,7 +18,7 @@
 
 enum { GUARD = 64, PAGE = 4096, SMALL_ROOM = 80, RANDOM_FILES = 1500, CHECKED_FILES = 100 };
 
-static const uint32_t LEVELS[] = {0, 1, 2, 4, 5, 6, 8, 9, 13, 14, 1023, 1024, UINT32_MAX};
+static const uint32_t LEVELS[] = {0, 1, 2, 4, 5, 6, 8, 9, 10, 12, 13, 14, 1023, 1024, UINT32_MAX};
 enum { LEVEL_COUNT = sizeof LEVELS / sizeof *LEVELS };
 
 static const uint32_t NEITHER[] = {2, 3, 255, 256, 257, 65536, UINT32_MAX};
@@ -329,8 +329,8 @@ static void try_small_file(struct maker *m, const uint8_t *file, size_t file_len
     for (size_t len = 0; len < file_len; len++) call_rooms(&READ, HIGH, file, len);
 }
 
-/* P2 of document 01; tag 2 holding tag 5 holding tag 11, all of them and their Ends by long headers; and tag 2 holding opaque tags of 0, 1, 7, 8 and 9 bytes, the
- * last by a long header. */
+/* P2 of document 01; tag 2 holding tag 5 holding tag 11, all of them and their Ends by long headers; tag 2 holding opaque tags of 0, 1, 7, 8 and 9 bytes, the
+ * last by a long header; and tag 13 with a position and an opacity, then tag 10 with a Bezier frame. */
 static void try_small_files(struct maker *m)
 {
     static const uint8_t P2[] = {0x50, 0x41, 0x47, 1, 0x13, 0, 0, 0, 0, 0xC6, 1, 0xFF, 0x80, 0, 0x80, 0x0A, 3, 0, 0};
@@ -338,9 +338,12 @@ static void try_small_files(struct maker *m)
                                    2, 1, 0, 0, 0, 7, 0x3F, 0, 0, 0, 0, 0, 0x3F, 0, 0, 0, 0, 0, 0x3F, 0, 0, 0, 0, 0};
     static const uint8_t PACKED[] = {0x50, 0x41, 0x47, 1, 0x37, 0, 0, 0, 0, 0xAA, 0, 5, 0, 2, 1, 2, 0xFF, 7, 2, 1, 2, 3, 4, 5, 6, 7, 8, 2,
                                      1, 2, 3, 4, 5, 6, 7, 8, 0x3F, 2, 9, 0, 0, 0, 1, 2, 3, 4, 5, 6, 7, 8, 9, 0, 0, 0, 0};
+    static const uint8_t POINTS[] = {0x50, 0x41, 0x47, 1, 0x34, 0, 0, 0, 0, 0x4A, 3, 0x42, 0, 0, 0xA0, 0x41, 0, 0, 0xF0, 0x41, 0x80, 0x9B, 2, 0xE0, 6, 1, 0x80,
+                                     0, 0x18, 0, 0, 0, 0, 0, 0, 0x80, 0x3F, 0, 0, 0, 0x40, 0, 0, 0x80, 0xBF, 0x18, 0xFB, 0xC1, 0x71, 0xE8, 0, 0};
     try_small_file(m, P2, sizeof P2);
     try_small_file(m, LONG, sizeof LONG);
     try_small_file(m, PACKED, sizeof PACKED);
+    try_small_file(m, POINTS, sizeof POINTS);
 }
 
 /* A fault that damage seldom makes: a container at depth 8. */
@@ -618,7 +621,7 @@ int main(int argc, char **argv)
         puts("usage: test [--checked | --cases] CASES");
         return 2;
     }
-    struct maker m = {.bytes = pages(RANDOM_FILE_MAX), .seed = 20260101};
+    struct maker m = {.bytes = pages(RANDOM_FILE_MAX), .seed = 20260101, .all_leaves = 1};
     input_end = fenced_end(LARGEST_INPUT);
     our_room = pages(LARGEST_ROOM);
     peer_room = pages(LARGEST_ROOM);

@@ -92,8 +92,8 @@ static void compare(uint32_t level, uint32_t order, const uint8_t *file, size_t 
 
 static void random_files(void)
 {
-    static const uint32_t levels[] = {0, 1, 2, 4, 5, 9, 14, 1023, 1024};
-    struct maker m = {file_bytes, 0, 0, 1907, 0, 1};
+    static const uint32_t levels[] = {0, 1, 2, 4, 5, 9, 10, 13, 14, 1023, 1024};
+    struct maker m = {.bytes = file_bytes, .seed = 1907, .any_headers = 1, .all_leaves = 1};
     for (size_t i = 0; i < RANDOM_FILES; i++) {
         m.low = i % 2;
         make_random_file(&m);
@@ -208,7 +208,7 @@ static size_t stack_of(void (*run)(void))
 
 static void measure_stack(void)
 {
-    struct maker m = {file_bytes, 0, 0, 1907, 0, 0};
+    struct maker m = {.bytes = file_bytes, .seed = 1907, .all_leaves = 1};
     size_t most = 0, own = stack_of(nothing_there);
     for (int kind = 0; kind < KINDS; kind++) {
         make_long_file(&m, kind, 1 << 17);

@@ -7,8 +7,8 @@ import sys
 
 import pag_reference as pag
 
-COVERED = (0, 1, 2, 3, 5, 6, 7, 9, 11, 12, 14)
-LEAVES = (1, 3, 6, 7, 9, 11, 12, 14)
+COVERED = (0, 1, 2, 3, 5, 6, 7, 9, 10, 11, 12, 13, 14)
+LEAVES = (1, 3, 6, 7, 9, 10, 11, 12, 13, 14)
 # Lengths of opaque bodies: every filling, and both sides of a whole number and of a long header.
 OPAQUE_LENGTHS = (*range(18), 23, 24, 25, 61, 62, 63, 64, 65, 100, 101)
 
@@ -101,6 +101,14 @@ def mask_mode(rng):
     return ub(rng.randint(0, 7), 8)
 
 
+def grouping(rng):
+    return ub(rng.randint(0, 6), 8)
+
+
+def point(rng):
+    return float_(rng) + float_(rng)
+
+
 def signed_fields(rng, width, count):
     half = 1 << (width - 1)
     return row(sb(rng.randint(-half, half - 1), width) for _ in range(count))
@@ -116,7 +124,15 @@ def path(rng):
 
 # ------------------------------------------------------------ bodies
 
-def frame_values(rng, data_type, count):
+def spatial_points(rng, count):
+    """Points of a Spatial attribute: a width, and unsigned fields for x and y of each."""
+    width = rng.randint(1, 32)
+    return ub(width - 1, 5) + row(ub(rng.getrandbits(width), width) for _ in range(2 * count))
+
+
+def frame_values(rng, kind, data_type, count):
+    if kind == 'Spatial':
+        return spatial_points(rng, count)
     if data_type is bool_:
         return row(ub(rng.getrandbits(1), 1) for _ in range(count))
     if data_type is byte:
@@ -126,17 +142,25 @@ def frame_values(rng, data_type, count):
     return row(pad(data_type(rng)) for _ in range(count))
 
 
-def keyframed(rng, kind, data_type):
+def spatial_list(rng, frames):
+    """The sixth part: in and out of each frame as flags, a width right behind them, and x and y for each that is set."""
+    flags = [rng.random() < rng.choice((0, 0.5, 1)) for _ in range(2 * frames)]
+    width = rng.randint(1, 32)
+    return row(ub(int(flag), 1) for flag in flags) + ub(width - 1, 5) + signed_fields(rng, width, 2 * sum(flags))
+
+
+def keyframed(rng, kind, data_type, has_spatial):
     frames = rng.choice((1, 1, 2, 3, 4, 7))
     fields, beziers = spelled(frames), 0
-    if kind == 'Simple':
+    if kind != 'Discrete':
         interpolations = [rng.randint(1, 3) for _ in range(frames)]
         beziers = interpolations.count(2)
         fields += pad(row(ub(one, 2) for one in interpolations))
     fields += row(time(rng) for _ in range(frames + 1))
-    fields += pad(frame_values(rng, data_type, frames + 1))
-    width = rng.randint(1, 32)
-    return fields + ub(width - 1, 5) + signed_fields(rng, width, 4 * beziers)
+    fields += pad(frame_values(rng, kind, data_type, frames + 1))
+    width, curves = rng.randint(1, 32), 2 if kind == 'MultiDimension' else 1
+    fields += ub(width - 1, 5) + signed_fields(rng, width, 4 * curves * beziers)
+    return pad(fields) + spatial_list(rng, frames) if has_spatial else fields
 
 
 LAYER = [('BitFlag', None), ('BitFlag', None), ('Value', u32), ('Value', ratio),
@@ -144,21 +168,30 @@ LAYER = [('BitFlag', None), ('BitFlag', None), ('Value', u32), ('Value', ratio),
          ('Simple', float_), ('Fixed', time)]
 TEXT = [('Value', u32), ('Discrete', bool_), ('Discrete', bool_),
         ('Discrete', bool_), ('Simple', float_), ('Simple', float_)]
+MORE = [('Value', grouping), ('MultiDimension', point)]
+TRANSFORM = [('Value', point), ('Value', point), ('Value', float_), ('Value', float_),
+             ('Value', point), ('Value', float_), ('Value', byte)]
 MASK = [('Fixed', u32), ('BitFlag', None), ('Value', mask_mode),
         ('Simple', path), ('Simple', byte), ('Simple', float_)]
+# How many flag bits a kind has at most; the next one is there where the one before it is set.
+FLAG_BITS = {'Fixed': 0, 'BitFlag': 1, 'Value': 1, 'Simple': 2, 'Discrete': 2, 'MultiDimension': 2, 'Spatial': 3}
+
+
+def flag_bits(rng, kind):
+    bits = []
+    while len(bits) < FLAG_BITS[kind] and all(bits):
+        bits.append(rng.getrandbits(1))
+    return bits
 
 
 def block(rng, attributes):
     flags, contents = [], []
     for kind, data_type in attributes:
-        exist = 1 if kind == 'Fixed' else rng.getrandbits(1)
-        animatable = kind in ('Simple', 'Discrete') and exist and rng.getrandbits(1)
-        if kind != 'Fixed':
-            flags += ub(exist, 1)
-        if kind in ('Simple', 'Discrete') and exist:
-            flags += ub(int(animatable), 1)
+        bits = flag_bits(rng, kind)
+        flags += row(ub(bit, 1) for bit in bits)
+        exist, animatable, has_spatial = (bits or [1]) + [0] * (3 - len(bits or [1]))
         if animatable:
-            contents += pad(keyframed(rng, kind, data_type))
+            contents += pad(keyframed(rng, kind, data_type, has_spatial))
         elif exist and kind != 'BitFlag':
             contents += pad(data_type(rng))
     return pad(flags) + contents
@@ -185,7 +218,19 @@ def leaf_fields(rng, code):
         return u32(rng)
     if code == 12:
         return u32(rng) + time(rng)
-    return block(rng, {6: LAYER, 9: TEXT, 14: MASK}[code])
+    return block(rng, {6: LAYER, 9: TEXT, 10: MORE, 13: TRANSFORM, 14: MASK}[code])
+
+
+# Tag 10's rows with its Point made Spatial: no tag has such a row until C-24.
+SPATIAL_ROWS = (pag.BLOCKS[10][0], ('groupingAlignment', 'Spatial', 'Point'))
+
+
+def give_spatial_row():
+    """From here on tag 10 has these rows, in the reference and in what is made here, and files have no leaves but 10 and 13."""
+    global LEAVES
+    pag.BLOCKS[10] = SPATIAL_ROWS
+    MORE[1] = ('Spatial', point)
+    LEAVES = (10, 10, 10, 13)
 
 
 def leaf_body(rng, order, code):
@@ -222,7 +267,7 @@ def opaque_body(rng, length):
 
 
 def opaque_tag(rng):
-    code = rng.randint(1, 1023) if rng.getrandbits(1) else rng.choice((4, 8, 10, 13, 15))
+    code = rng.randint(1, 1023) if rng.getrandbits(1) else rng.choice((4, 8, 15, 28, 29))
     if code in COVERED:
         code = 1023
     length = rng.choice(OPAQUE_LENGTHS) if rng.random() < 0.9 else rng.randint(0, 700)
@@ -441,7 +486,7 @@ def damaged_table(rng, table):
 # ------------------------------------------------------------ self-check
 
 def any_level(rng):
-    return rng.choice((0, 1, 2, 4, 5, 6, 8, 11, 13, 1023, 1023, 1023))
+    return rng.choice((0, 1, 2, 4, 5, 6, 8, 9, 10, 11, 12, 13, 1023, 1023, 1023, 1023))
 
 
 def any_order(rng):
@@ -614,11 +659,88 @@ def check_field(rng):
             assert answer == ('value', value % (1 << 64), place + width), (order, data.hex(), place, width)
 
 
+def block_read(order, attributes, body):
+    """The values of a block of any attributes, or the reason of its fault."""
+    reader = pag.BodyReader(order, body)
+    try:
+        pag.read_block(reader, attributes)
+        reader.align()
+        if reader.bytes_left():
+            raise pag.Fault(18)
+    except pag.Fault as fault:
+        return fault.reason
+    return reader.values
+
+
+def block_written(order, attributes, values):
+    """The body of these values, or None."""
+    writer = pag.BodyWriter(order, values)
+    try:
+        pag.write_block(writer, attributes)
+    except pag.Refusal:
+        return None
+    return bytes(writer.out) if writer.numbers.used_up() else None
+
+
+def damaged_bytes(rng, body):
+    """A body with bits changed, bytes cut off or bytes put in."""
+    place, way = rng.randint(0, len(body)), rng.randrange(4)
+    if way == 0:
+        return body[:place]
+    if way == 1:
+        return body[:place] + rng.randbytes(rng.randint(1, 3)) + body[place:]
+    out = bytearray(body)
+    for _ in range(rng.choice((1, 1, 2, 4))):
+        out[rng.randrange(len(out))] ^= 1 << rng.randrange(8)
+    return bytes(out)
+
+
+def damaged_values(rng, values):
+    """Values with one of them changed, taken out or put in."""
+    out, place, way = list(values), rng.randrange(len(values)), rng.randrange(4)
+    if way == 0:
+        del out[place]
+    elif way == 1:
+        out.insert(place, rng.choice((0, 1, 7, sized(rng, 64))))
+    elif way == 2:
+        out[place] = rng.choice((0, 1, 2, 3, 4, 5, 6, 7, 32, 33, 1 << 32, sized(rng, 64)))
+    else:
+        out[place] = other_number(rng, out[place], 33)
+    return out
+
+
+# Points by every kind that may have them, with others between: no tag has a Spatial row until C-24, so the body functions are tried with rows of their own.
+POINT_ROWS = [('Value', 'byte', byte), ('Value', 'Point', point), ('Fixed', 'Point', point), ('MultiDimension', 'Point', point),
+              ('Spatial', 'Point', point), ('Spatial', 'Point', point), ('Simple', 'Float', float_), ('Discrete', 'Bool', bool_), ('BitFlag', None, None)]
+
+
+def check_block(rng, tally):
+    """A block of random rows with Spatial ones among them: the same values in both orders, written back; and damaged, as bytes and as values."""
+    rows = rng.choices(POINT_ROWS, k=rng.randint(1, 5))
+    attributes = [('', kind, name) for kind, name, _ in rows]
+    seed, bodies = rng.getrandbits(32), []
+    for order in (pag.HIGH_FIRST, pag.LOW_FIRST):
+        bodies.append(as_bytes(order, block(random.Random(seed), [(kind, data_type) for kind, _, data_type in rows])))
+        values = block_read(order, attributes, bodies[-1])
+        assert block_written(order, attributes, values) == bodies[-1], (order, attributes, bodies[-1].hex())
+    assert block_read(pag.HIGH_FIRST, attributes, bodies[0]) == values, (attributes, bodies[0].hex())
+    order = any_order(rng)
+    damaged = damaged_bytes(rng, bodies[order])
+    answer = block_read(order, attributes, damaged)
+    if isinstance(answer, list):
+        assert block_written(order, attributes, answer) == damaged, (order, attributes, damaged.hex())
+    tally[answer if isinstance(answer, int) else 'taken'] = tally.get(answer if isinstance(answer, int) else 'taken', 0) + 1
+    changed = damaged_values(rng, values)
+    body = block_written(order, attributes, changed)
+    assert body is None or block_read(order, attributes, body) == changed, (order, attributes, changed)
+    tally['written'] = tally.get('written', 0) + (body is not None)
+
+
 def show(tally):
     return ', '.join('%s: %d' % (key, tally[key]) for key in sorted(tally, key=str))
 
 
-def main(seed=1, good=5000, damaged=20000, tables=10000, fields=20000):
+def main(seed=1, good=5000, damaged=20000, tables=10000, fields=20000, blocks=10000):
     rng = random.Random(seed)
     for _ in range(good):
         check_good(rng)
@@ -634,6 +756,10 @@ def main(seed=1, good=5000, damaged=20000, tables=10000, fields=20000):
     for _ in range(fields):
         check_field(rng)
     print('%d bit fields in both orders' % fields)
+    tally = {}
+    for _ in range(blocks):
+        check_block(rng, tally)
+    print('%d blocks with Spatial rows, and as many damaged ones: %s' % (blocks, show(tally)))
 
 
 if __name__ == '__main__':

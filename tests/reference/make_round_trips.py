@@ -14,7 +14,7 @@ import sys
 import check_cases
 import pag_reference
 
-LEVELS = [0, 1, 2, 5, 6, 10, 13, 1023]
+LEVELS = [0, 1, 2, 5, 6, 9, 10, 12, 13, 1023]
 LOW_LEVELS = [13, 1023]
 NEITHER = [2, 255]
 TOP_ORDER = 255

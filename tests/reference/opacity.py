@@ -52,7 +52,7 @@ def opacity_numbers(order, body):
     for (name, kind, data_type), flag in zip(attributes, flags):
         before = len(reader.values)
         if flag == 3:
-            pag.read_keyframed(reader, kind, data_type)
+            pag.read_keyframed(reader, kind, data_type, flag)
         elif flag == 1 and kind != 'BitFlag':
             pag.read_item(reader, data_type)
         numbers[name] = [flag] + reader.values[before:]

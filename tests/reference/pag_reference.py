@@ -1,12 +1,13 @@
 """An independent reference of the PAG reader and writer, made from document 01
-and from document 02's C-18 (bit order), C-11 (long headers on short bodies)
-and C-17 (packed opaque bodies).
+and from document 02's C-18 (bit order), C-11 (long headers on short bodies),
+C-17 (packed opaque bodies) and C-12 (transforms and points).
 
 `read` and `write` speak packed tables. Beside them stand `read_plain` and
 `write_plain` for the table of document 01, where an opaque tag's values are its
 body bytes, and `pack` and `unpack` between the two.
 
-Lines in quotation marks in the comments are their sentences.
+Lines in quotation marks in the comments are their sentences. "Chapter 4" and
+"chapter 5" are those of source 000.
 Decision n is point n of docs/DECISIONS.md.
 """
 
@@ -23,7 +24,7 @@ LISTING_NUMBERS = 8192      # "needing more than 8,192 numbers is refused by 19"
 HIGH_FIRST, LOW_FIRST = 0, 1        # C-18: "high first or low first"
 LINEAR, BEZIER, HOLD = 1, 2, 3      # "1 linear, 2 Bezier, 3 hold"
 CONTAINERS = (2, 5)                 # "Tags 2 and 5 are containers."
-COVERED = (0, 1, 2, 3, 5, 6, 7, 9, 11, 12, 14)
+COVERED = (0, 1, 2, 3, 5, 6, 7, 9, 10, 11, 12, 13, 14)
 COORDINATES = (0, 2, 2, 1, 1, 4, 4, 6)  # "Coordinates by verb 0 to 7"
 
 # The data types of bytes with an enumeration, and the numbers listed for each.
@@ -31,7 +32,12 @@ LISTED = {
     'blendMode': tuple(range(0, 17)) + tuple(range(21, 27)),
     'trackMatteType': tuple(range(0, 5)),
     'maskMode': tuple(range(0, 8)),
+    'anchorPointGrouping': tuple(range(0, 7)),      # C-12: "0 to 6"
 }
+
+# The kinds with an animatable bit, by the table of AttributeType in chapter 4:
+# those that take more than one bit of the flags.
+PROPERTIES = ('Simple', 'Discrete', 'MultiDimension', 'Spatial')
 
 # "These lists stand in the program as constant tables of attribute kind and
 # data type." (name, kind, data type)
@@ -51,6 +57,15 @@ BLOCKS = {
         ('forceAlignment', 'Discrete', 'Bool'),
         ('firstMargin', 'Simple', 'Float'),
         ('lastMargin', 'Simple', 'Float')),
+    10: (('anchorPointGrouping', 'Value', 'anchorPointGrouping'),
+         ('groupingAlignment', 'MultiDimension', 'Point')),
+    13: (('anchorPoint', 'Value', 'Point'),
+         ('position', 'Value', 'Point'),
+         ('xPosition', 'Value', 'Float'),
+         ('yPosition', 'Value', 'Float'),
+         ('scale', 'Value', 'Point'),
+         ('rotation', 'Value', 'Float'),
+         ('opacity', 'Value', 'byte')),
     14: (('id', 'Fixed', 'U32'),
          ('inverted', 'BitFlag', None),
          ('maskMode', 'Value', 'maskMode'),
@@ -369,6 +384,9 @@ def read_item(reader, data_type):
         reader.put(reader.u32())
     elif data_type == 'Float':
         read_float(reader)
+    elif data_type == 'Point':
+        read_float(reader)      # x
+        read_float(reader)      # y
     elif data_type == 'Bool':
         read_bool(reader)
     elif data_type == 'Path':
@@ -389,10 +407,22 @@ def read_interpolations(reader, frames):
     return interpolations
 
 
-def read_frame_values(reader, data_type, count):
+def easing_numbers(kind, data_type):
+    """How many numbers a Bezier frame's easing has. Chapter 5: a
+    MultiDimension attribute has a curve for each component of its data type,
+    two for a Point; every other kind has one. A curve is four numbers."""
+    return 8 if (kind, data_type) == ('MultiDimension', 'Point') else 4
+
+
+def read_frame_values(reader, kind, data_type, count):
     """"Values: Floats in turn; Bools one bit each; bytes as a width, then
-    UB[width] each, at most 255; Paths in turn." """
-    if data_type == 'Bool':
+    UB[width] each, at most 255; Paths in turn." Points by chapter 5: in turn,
+    but of a Spatial attribute their components as a width and unsigned
+    fields."""
+    if (kind, data_type) == ('Spatial', 'Point'):
+        width = reader.width()
+        reader.put(width, *[reader.unsigned(width) for _ in range(2 * count)])
+    elif data_type == 'Bool':
         reader.put(*[reader.unsigned(1) for _ in range(count)])
     elif data_type == 'byte':
         width = reader.width()
@@ -407,9 +437,20 @@ def read_frame_values(reader, data_type, count):
             read_item(reader, data_type)
 
 
-def read_keyframed(reader, kind, data_type):
+def read_spatial(reader, frames):
+    """C-12: "spatial flags, width and list form one part". Chapter 5: two flags
+    a frame, whether it has spatialIn and spatialOut; x and y of each that is
+    there, frame by frame. The source's readBits is signed, as in the easing."""
+    flags = [reader.unsigned(1) for _ in range(2 * frames)]
+    width = reader.width()
+    reader.put(*flags, width)
+    reader.put(*[reader.signed(width) for _ in range(2 * sum(flags))])
+
+
+def read_keyframed(reader, kind, data_type, flag):
     """"Keyframed content (animatable set), with n frames". "Each of these five
-    parts starts on a whole byte." """
+    parts starts on a whole byte." C-12: they "become six", the sixth "present
+    only when hasSpatial is set". """
     frames = reader.count(1)
     reader.put(frames)
     interpolations = []
@@ -420,22 +461,40 @@ def read_keyframed(reader, kind, data_type):
     for _ in range(frames + 1):
         reader.put(reader.u64())
     reader.align()
-    read_frame_values(reader, data_type, frames + 1)
+    read_frame_values(reader, kind, data_type, frames + 1)
     reader.align()
     width = reader.width()      # "The width stands always, Discrete included"
     reader.put(width)
-    for _ in range(4 * interpolations.count(BEZIER)):
+    for _ in range(easing_numbers(kind, data_type) * interpolations.count(BEZIER)):
         reader.put(reader.signed(width))
+    if flag >= 4:
+        reader.align()
+        read_spatial(reader, frames)
 
 
 def read_flags(reader, kind):
-    """The flags of one attribute as exist + 2 × animatable; "Fixed gives 1"."""
+    """The flags of one attribute as exist + 2 × animatable; "Fixed gives 1".
+    C-12: "A set hasSpatial adds 4 to the flag number". """
     if kind == 'Fixed':
         return 1
     exist = reader.unsigned(1)
-    if kind in ('Simple', 'Discrete') and exist:
-        return 1 + 2 * reader.unsigned(1)
-    return exist
+    if not exist or kind not in PROPERTIES:
+        return exist
+    animatable = reader.unsigned(1)
+    if not animatable or kind != 'Spatial':
+        return exist + 2 * animatable
+    return exist + 2 * animatable + 4 * reader.unsigned(1)
+
+
+def read_content(reader, kind, data_type, flag):
+    """Every content starts on a whole byte."""
+    if flag == 0 or kind == 'BitFlag':
+        return
+    reader.align()
+    if flag == 1:
+        read_item(reader, data_type)
+    else:
+        read_keyframed(reader, kind, data_type, flag)
 
 
 def read_block(reader, attributes):
@@ -443,10 +502,7 @@ def read_block(reader, attributes):
     flags = [read_flags(reader, kind) for _, kind, _ in attributes]
     for (_, kind, data_type), flag in zip(attributes, flags):
         reader.put(flag)
-        if flag == 3:
-            read_keyframed(reader, kind, data_type)
-        elif flag == 1 and kind != 'BitFlag':
-            read_item(reader, data_type)
+        read_content(reader, kind, data_type, flag)
 
 
 def read_fonts(reader):
@@ -767,6 +823,9 @@ def write_item(writer, data_type):
         writer.u32()
     elif data_type == 'Float':
         write_float(writer)
+    elif data_type == 'Point':
+        write_float(writer)
+        write_float(writer)
     elif data_type == 'Bool':
         writer.byte(writer.take(most=1))
     elif data_type == 'Path':
@@ -775,8 +834,12 @@ def write_item(writer, data_type):
         write_listed(writer, data_type)
 
 
-def write_frame_values(writer, data_type, count):
-    if data_type == 'Bool':
+def write_frame_values(writer, kind, data_type, count):
+    if (kind, data_type) == ('Spatial', 'Point'):
+        width = writer.width()
+        for _ in range(2 * count):
+            writer.unsigned(width)
+    elif data_type == 'Bool':
         for _ in range(count):
             writer.unsigned(1)
     elif data_type == 'byte':
@@ -788,7 +851,14 @@ def write_frame_values(writer, data_type, count):
             write_item(writer, data_type)
 
 
-def write_keyframed(writer, kind, data_type):
+def write_spatial(writer, frames):
+    there = sum(writer.unsigned(1) for _ in range(2 * frames))
+    width = writer.width()
+    for _ in range(2 * there):
+        writer.signed(width)
+
+
+def write_keyframed(writer, kind, data_type, flag):
     frames = writer.count(1)
     bezier_frames = 0
     if kind != 'Discrete':
@@ -799,38 +869,46 @@ def write_keyframed(writer, kind, data_type):
     for _ in range(frames + 1):
         writer.spelled(writer.take())
     writer.align()
-    write_frame_values(writer, data_type, frames + 1)
+    write_frame_values(writer, kind, data_type, frames + 1)
     writer.align()
     width = writer.width()
-    for _ in range(4 * bezier_frames):
+    for _ in range(easing_numbers(kind, data_type) * bezier_frames):
         writer.signed(width)
+    if flag >= 4:
+        writer.align()
+        write_spatial(writer, frames)
 
 
 def write_content(writer, kind, data_type, flag):
-    if flag == 3:
-        write_keyframed(writer, kind, data_type)
-    elif flag == 1 and kind != 'BitFlag':
+    if flag == 0 or kind == 'BitFlag':
+        return
+    writer.align()
+    if flag == 1:
         write_item(writer, data_type)
+    else:
+        write_keyframed(writer, kind, data_type, flag)
 
 
-FLAGS_BY_KIND = {'BitFlag': (0, 1), 'Value': (0, 1), 'Fixed': (1,),
-                 'Simple': (0, 1, 3), 'Discrete': (0, 1, 3)}
+# The flags that a flag number stands for, by kind: as many bits as it has.
+FLAGS_BY_KIND = {'BitFlag': {0: (0,), 1: (1,)}, 'Value': {0: (0,), 1: (1,)}, 'Fixed': {1: ()},
+                 'Simple': {0: (0,), 1: (1, 0), 3: (1, 1)},
+                 'Discrete': {0: (0,), 1: (1, 0), 3: (1, 1)},
+                 'MultiDimension': {0: (0,), 1: (1, 0), 3: (1, 1)},
+                 'Spatial': {0: (0,), 1: (1, 0), 3: (1, 1, 0), 7: (1, 1, 1)}}
 
 
 def write_block(writer, attributes):
     """The table gives flags and content attribute by attribute; the file gives
     all flags first. So the contents go to a writer of their own: they start
-    on a whole byte, because every content starts with a byte item."""
+    on a whole byte."""
     contents = BodyWriter(writer.order, ())
     contents.numbers = writer.numbers
     for _, kind, data_type in attributes:
         flag = writer.take()
         if flag not in FLAGS_BY_KIND[kind]:
             raise no_file()
-        if kind != 'Fixed':
-            writer.bits(1, flag % 2)
-        if kind in ('Simple', 'Discrete') and flag:
-            writer.bits(1, flag // 2)
+        for bit in FLAGS_BY_KIND[kind][flag]:
+            writer.bits(1, bit)
         write_content(contents, kind, data_type, flag)
     writer.align()
     contents.align()

@@ -1,11 +1,13 @@
 -- The constant rows are the definitions' lists; flag bits one by one; and the flags of all rows, step by step. Assumes nothing.
-use Prim.Native.Nat.{ℕ, zero, suc, _+_, _-_, _*_, _≤_, _<_}
+use Prim.Native.Nat.{ℕ, zero, suc, _+_, _-_, _*_, _^_, _≤_, _<_}
 use mathlib.Core.List.{List, [], _∷_, map}
 use mathlib.Core.Path.{_≡_, refl, ap, sym, _∙_}
 use mathlib.Core.Bool as truth
 use mathlib.Core.Bool.{true, false}
 use native.Mathlib.Numerals.{add-one}
 use native.Mathlib.Omega.{arith}
+use native.Mathlib.Nat.{pow-suc}
+use lib.Pow.{pow-pos}
 use lib.ListN.{length, getD, set, take, length-set, List·getD-map}
 use lib.Seq.{sets-eq, slice-cons, slice-empty, length-slice, take-at}
 use lib.Dec.{eqb}
@@ -13,12 +15,13 @@ use borrow.Author.Tests.{ne-eqb}
 use Rattle.format.specs.Tests.{pick}
 use Rattle.format.specs.Bits.{Order, ub}
 use Rattle.format.specs.Reading.{Ending, Reading, At, Fault, shows}
-use Rattle.format.specs.Formats.{Item, item, _▸_}
+use Rattle.format.specs.Formats.{Item, item, _▸_, the}
 use Rattle.format.specs.Items.{Num, num, bad, room, exist, readUB, readFlag, readItem, showNum, run}
 use Rattle.format.specs.Bodies as bodies
 use Rattle.format.specs.Bodies.{flagsOf, allFlags}
 use Rattle.format.proofs.BitLaws.{ub-lt}
 use Rattle.format.proofs.BlockLaws.{as-many}
+use Rattle.format.proofs.Absurd.{clash}
 use Rattle.format.proofs.WalkLaws.{run-le}
 use Rattle.bits.specs.Places.{PlaceIn, numOf}
 use Rattle.bits.specs.declared.BitPlace.{BitPlace}
@@ -30,9 +33,9 @@ use Rattle.attributes.specs.Rows.{kindOf, attributeOf, allAttributes, at
 use Rattle.attributes.specs.declared.Attribute.{Attribute}
 use Rattle.attributes.specs.declared.Rows.{Rows}
 use Rattle.attributes.specs.declared.Kind.{Kind}
-use Rattle.attributes.specs.declared.Kind.the-variants.{Value, Fixed, BitFlag, Simple, Discrete}
+use Rattle.attributes.specs.declared.Kind.the-variants.{Value, Fixed, BitFlag, Simple, Discrete, MultiDimension, Spatial}
 use Rattle.attributes.specs.declared.DataType.{DataType}
-use Rattle.attributes.specs.declared.DataType.the-variants.{U32, Time, Float, Ratio, Bool, Byte, BlendMode, TrackMatteType, MaskMode, Path}
+use Rattle.attributes.specs.declared.DataType.the-variants.{U32, Time, Float, Ratio, Bool, Byte, BlendMode, TrackMatteType, MaskMode, Path, Point, AnchorPointGrouping}
 
 -- ---- the constant rows
 
@@ -43,6 +46,8 @@ codeKind bodies.Fixed = Fixed
 codeKind bodies.BitFlag = BitFlag
 codeKind bodies.Simple = Simple
 codeKind bodies.Discrete = Discrete
+codeKind bodies.MultiDimension = MultiDimension
+codeKind bodies.Spatial = Spatial
 
 abbrev codeType : bodies.DataType → DataType
 codeType bodies.U32s = U32
@@ -55,6 +60,8 @@ codeType bodies.BlendModes = BlendMode
 codeType bodies.TrackMatteTypes = TrackMatteType
 codeType bodies.MaskModes = MaskMode
 codeType bodies.Paths = Path
+codeType bodies.Points = Point
+codeType bodies.AnchorPointGroupings = AnchorPointGrouping
 
 abbrev codeRow : bodies.Attribute → Attribute
 codeRow a = record { kind = codeKind (a .kind); data_type = codeType (a .dataType) }
@@ -68,24 +75,33 @@ abbrev pub rowAt : ℕ → Attribute
 rowAt i = getD (map codeRow allAttributes) i noRow
 
 -- THE table: its rows, read back, compute to the lists; so the rows from here are the row here and the rows after it
-pub rows-next : {row end : ℕ} → row < end → end ≤ 21 → rowsFrom row end ≡ attributeOf (rowAt row) ∷ rowsFrom (row + 1) end
+pub rows-next : {row end : ℕ} → row < end → end ≤ 30 → rowsFrom row end ≡ attributeOf (rowAt row) ∷ rowsFrom (row + 1) end
 rows-next {row} {end} h l =
     slice-cons row end allAttributes (attributeOf noRow) h l ∙ rw (List·getD-map attributeOf (map codeRow allAttributes) row noRow, add-one row)
 
 -- the rows of a code are its list
 pub rows-are : (code : ℕ) (r : Rows) → r ≡ rowsAt code → AreRows (r .start) (r .end) × (rowsFrom (r .start) (r .end) ≡ attributesOf code)
 unfolding attributesOf
-rows-are code r e = rw e (go (eqb code 6) (eqb code 9) (eqb code 14))
+rows-are code r e = rw e (go (eqb code 6) (eqb code 9) (eqb code 10) (eqb code 13) (eqb code 14))
   where
-    at : (a b c : truth.Bool) → Rows
-    at a b c = pick a (record { start = 0; end = 9 }) (pick b (record { start = 9; end = 15 }) (pick c (record { start = 15; end = 21 }) (record { start = 0; end = 0 })))
+    at : (a b c d e : truth.Bool) → Rows
+    at a b c d e =
+        pick a (record { start = 0; end = 9 })
+        (pick b (record { start = 9; end = 15 })
+        (pick c (record { start = 15; end = 17 })
+        (pick d (record { start = 17; end = 24 })
+        (pick e (record { start = 24; end = 30 })
+        (record { start = 0; end = 0 })))))
 
-    go : (a b c : truth.Bool) → AreRows (at a b c .start) (at a b c .end)
-        × (rowsFrom (at a b c .start) (at a b c .end) ≡ pick a bodies.layerAttributes (pick b bodies.textPathOption (pick c bodies.maskBlock [])))
-    go true b c = (record { up = omega arith; few = omega arith; inside = omega arith }, refl)
-    go false true c = (record { up = omega arith; few = omega arith; inside = omega arith }, refl)
-    go false false true = (record { up = omega arith; few = omega arith; inside = omega arith }, refl)
-    go false false false = (record { up = omega arith; few = omega arith; inside = omega arith }, refl)
+    go : (a b c d e : truth.Bool) → AreRows (at a b c d e .start) (at a b c d e .end)
+        × (rowsFrom (at a b c d e .start) (at a b c d e .end)
+        ≡ pick a bodies.layerAttributes (pick b bodies.textPathOption (pick c bodies.textMoreOption (pick d bodies.transform2D (pick e bodies.maskBlock [])))))
+    go true b c d e = (record { up = omega arith; few = omega arith; inside = omega arith }, refl)
+    go false true c d e = (record { up = omega arith; few = omega arith; inside = omega arith }, refl)
+    go false false true d e = (record { up = omega arith; few = omega arith; inside = omega arith }, refl)
+    go false false false true e = (record { up = omega arith; few = omega arith; inside = omega arith }, refl)
+    go false false false false true = (record { up = omega arith; few = omega arith; inside = omega arith }, refl)
+    go false false false false false = (record { up = omega arith; few = omega arith; inside = omega arith }, refl)
 
 pub rows-many : {start end : ℕ} → AreRows start end → length (rowsFrom start end) ≡ end - start
 rows-many {start} {end} a = length-slice start end allAttributes (a .inside)
@@ -121,30 +137,65 @@ pub one-bit : (o : Order) (b : List ℕ) (p : ℕ) {n : Num} → n ≡ readUB o 
 unfolding run readItem
 one-bit o b p e = ap showNum (e ∙ sym (flag-one o b p))
 
--- two bits, by what the first gave
-module _ (o : Order) (b : List ℕ) (p : ℕ) (r : Got) (first : numOf r ≡ readUB o b p 1) where
-  two-bits : run o b (item (Item.flag 2)) p ≡ showNum (onward o b 1 (numOf r))
+-- a bit is a flag, and flags from p on are what reading them gives
+abbrev Flags : Order → List ℕ → ℕ → ℕ → Num → Type 0
+Flags o b p n x = showNum x ≡ run o b (item (Item.flag n)) p
+
+-- the number that a reading shows
+abbrev numFrom : Ending → ℕ → Num
+numFrom (At p) v = num v p
+numFrom (Fault e) v = bad e
+
+num-from : (x : Num) → numFrom (showNum x .ended) (the (showNum x .shown)) ≡ x
+num-from (num v p) = refl
+num-from (bad e) = refl
+
+same-num : (x y : Num) → showNum x ≡ showNum y → x ≡ y
+same-num x y e = sym (num-from x) ∙ ap (λ (r : Reading). numFrom (r .ended) (the (r .shown))) e ∙ num-from y
+
+flags-num : (o : Order) (b : List ℕ) (p n : ℕ) (x : Num) → Flags o b p n x → x ≡ readFlag o b p n
+unfolding run readItem
+flags-num o b p n x e = same-num x (readFlag o b p n) e
+
+-- n flags are less than 2 ^ n
+flag-lt : (o : Order) (b : List ℕ) (p n v q : ℕ) → num v q ≡ readFlag o b p n → v < 2 ^ n
+unfolding readFlag
+flag-lt o b p zero v q e = let z : v ≡ 0 = cc in rw z (omega arith)
+flag-lt o b p (suc n) v q e = go (room b p 1) (eqb (ub o b p 1) 0) (readFlag o b (p + 1) n) (λ w r. flag-lt o b (p + 1) n w r) e
+  where
+    go : (t c : truth.Bool) (x : Num) → ((w r : ℕ) → num w r ≡ x → w < 2 ^ n) → num v q ≡ pick t (pick c (num 0 (p + 1)) (exist x)) (bad 13) → v < 2 ^ suc n
+    go false c x h e = clash cc
+    go true true x h e = let z : v ≡ 0 = cc in rw z (pow-pos (suc n))
+    go true false (bad z) h e = clash cc
+    go true false (num w r) h e = let z : v ≡ 1 + 2 * w = cc in omega (arith, h w r refl, pow-suc 2 n)
+
+-- flags up to n + 1, by what the first gave
+module _ (o : Order) (b : List ℕ) (p n : ℕ) (r : Got) (first : numOf r ≡ readUB o b p 1) where
+  more-bits : run o b (item (Item.flag (suc n))) p ≡ showNum (onward o b n (numOf r))
   unfolding run readItem
-  two-bits = rw (first, flag-bit o b p 1)
+  more-bits = rw (first, flag-bit o b p n)
 
   -- it is not there
-  pub two-past : {e : ℕ} → r ≡ GotFault e → showNum (numOf r) ≡ run o b (item (Item.flag 2)) p
-  two-past e = rw (two-bits, e)
+  pub flag-past : {e : ℕ} → r ≡ GotFault e → showNum (numOf r) ≡ run o b (item (Item.flag (suc n))) p
+  flag-past e = rw (more-bits, e)
 
   -- it is 0
-  pub two-none : {v : ℕ} {q : BitPlace} → r ≡ GotValue v q → v ≡ 0 → showNum (num 0 (q .0)) ≡ run o b (item (Item.flag 2)) p
-  two-none e z = rw (two-bits, e, z)
+  pub flag-none : {v : ℕ} {q : BitPlace} → r ≡ GotValue v q → v ≡ 0 → showNum (num 0 (q .0)) ≡ run o b (item (Item.flag (suc n))) p
+  flag-none e z = rw (more-bits, e, z)
 
-  -- it is 1, and a is what the second gave
-  module _ {v : ℕ} {q : BitPlace} (a : Got) (e : r ≡ GotValue v q) (one : v ≡ 0 → ⊥) (second : numOf a ≡ readUB o b (q .0) 1) where
-    two-more : run o b (item (Item.flag 2)) p ≡ showNum (exist (numOf a))
-    two-more = rw (two-bits, e, ne-eqb v 0 one, flag-one o b (q .0), second)
+  -- it is 1, and a is what those after it gave
+  module _ {v : ℕ} {q : BitPlace} (a : Got) (e : r ≡ GotValue v q) (one : v ≡ 0 → ⊥) (second : Flags o b (q .0) n (numOf a)) where
+    flags-more : run o b (item (Item.flag (suc n))) p ≡ showNum (exist (numOf a))
+    flags-more = rw (more-bits, e, ne-eqb v 0 one, flags-num o b (q .0) n (numOf a) second)
 
-    pub two-cut : {z : ℕ} → a ≡ GotFault z → showNum (numOf a) ≡ run o b (item (Item.flag 2)) p
-    two-cut f = rw (two-more, f)
+    pub flag-cut : {z : ℕ} → a ≡ GotFault z → showNum (numOf a) ≡ run o b (item (Item.flag (suc n))) p
+    flag-cut f = rw (flags-more, f)
 
-    pub two-both : {w : ℕ} {z : BitPlace} → a ≡ GotValue w z → showNum (num (1 + 2 * w) (z .0)) ≡ run o b (item (Item.flag 2)) p
-    two-both f = rw (two-more, f)
+    pub flag-both : {w : ℕ} {z : BitPlace} → a ≡ GotValue w z → showNum (num (1 + 2 * w) (z .0)) ≡ run o b (item (Item.flag (suc n))) p
+    flag-both f = rw (flags-more, f)
+
+    pub flag-small : {w : ℕ} {z : BitPlace} → a ≡ GotValue w z → w < 2 ^ n
+    flag-small {w} {z} f = flag-lt o b (q .0) n w (z .0) (ap numOf (sym f) ∙ flags-num o b (q .0) n (numOf a) second)
 
 -- the kind that a `match` tells
 pub flag-of : (o : Order) (b : List ℕ) (p : ℕ) {kind : Kind} {r : Reading} (told : Kind) → kind ≡ told → r ≡ run o b (item (flagsOf (kindOf told))) p
@@ -170,7 +221,7 @@ module _ (o : Order) (s t₀ : List ℕ) (start end p₀ : ℕ) where
     pub stored : j ≤ row
 
   -- the kind of the row here tells its flag
-  module _ {t : List ℕ} {p row j : ℕ} (some : row < end) (rows : end ≤ 21) (g : Going t p row j) where
+  module _ {t : List ℕ} {p row j : ℕ} (some : row < end) (rows : end ≤ 30) (g : Going t p row j) where
     abbrev flagHere : Item
     flagHere = flagsOf (kindOf (rowAt row .kind))
 

@@ -1,13 +1,14 @@
-// The attribute lists of tags 6, 9 and 14 as constant rows of kind and data type, and their flags.
+// The attribute lists of tags 6, 9, 10, 13 and 14 as constant rows of kind and data type, their flags, and what their kinds and data types tell.
 ghost use mathlib.Core.Path.{_≡_};
+ghost use Prim.Native.Nat.{_≤_};
 ghost use Rattle.format.specs.Formats.{item};
 ghost use Rattle.format.specs.Items.{run, showNum};
-ghost use Rattle.format.specs.Bodies.{flagsOf, allFlags};
+ghost use Rattle.format.specs.Bodies.{flagsOf, allFlags, dimensions as dimensionsOf, curves as curvesOf};
 ghost use Rattle.bits.specs.Places.{PlaceIn, numOf, orderOf};
 ghost use Rattle.table.specs.State.{shownOver};
 ghost use Rattle.table.specs.Run.{runLeaves};
-ghost use Rattle.attributes.specs.Rows.{kindOf, rowsAt, rowsFrom, AreRows};
-ghost use Rattle.attributes.specs.Contents.{animatableBy, contentBy};
+ghost use Rattle.attributes.specs.Rows.{kindOf, typeOf, rowsAt, rowsFrom, AreRows};
+ghost use Rattle.attributes.specs.Contents.{animatableBy, contentBy, interpolated, pointsBy, layoutBy};
 use bits::BitPlace;
 use bits::Got;
 use bits::Order;
@@ -19,6 +20,8 @@ pub enum Kind {
     BitFlag,
     Simple,
     Discrete,
+    MultiDimension,
+    Spatial,
 }
 
 pub enum DataType {
@@ -32,6 +35,8 @@ pub enum DataType {
     TrackMatteType,
     MaskMode,
     Path,
+    Point,
+    AnchorPointGrouping,
 }
 
 pub struct Attribute {
@@ -45,7 +50,7 @@ pub struct Rows {
     pub end: usize,
 }
 
-pub const ATTRIBUTES: [Attribute; 21] = [
+pub const ATTRIBUTES: [Attribute; 30] = [
     // 6: isActive, autoOrientation, parent, stretch, startTime, blendMode, trackMatteType, timeRemap, duration
     Attribute {
         kind: Kind::BitFlag,
@@ -108,6 +113,44 @@ pub const ATTRIBUTES: [Attribute; 21] = [
         kind: Kind::Simple,
         data_type: DataType::Float,
     },
+    // 10: anchorPointGrouping, groupingAlignment
+    Attribute {
+        kind: Kind::Value,
+        data_type: DataType::AnchorPointGrouping,
+    },
+    Attribute {
+        kind: Kind::MultiDimension,
+        data_type: DataType::Point,
+    },
+    // 13: anchorPoint, position, xPosition, yPosition, scale, rotation, opacity
+    Attribute {
+        kind: Kind::Value,
+        data_type: DataType::Point,
+    },
+    Attribute {
+        kind: Kind::Value,
+        data_type: DataType::Point,
+    },
+    Attribute {
+        kind: Kind::Value,
+        data_type: DataType::Float,
+    },
+    Attribute {
+        kind: Kind::Value,
+        data_type: DataType::Float,
+    },
+    Attribute {
+        kind: Kind::Value,
+        data_type: DataType::Point,
+    },
+    Attribute {
+        kind: Kind::Value,
+        data_type: DataType::Float,
+    },
+    Attribute {
+        kind: Kind::Value,
+        data_type: DataType::Byte,
+    },
     // 14: id, inverted, maskMode, path, opacity, expansion
     Attribute {
         kind: Kind::Fixed,
@@ -142,7 +185,9 @@ pub fn rows_of(code: u32) -> Rows
     match code {
         6 => Rows { start: 0, end: 9 },
         9 => Rows { start: 9, end: 15 },
-        14 => Rows { start: 15, end: 21 },
+        10 => Rows { start: 15, end: 17 },
+        13 => Rows { start: 17, end: 24 },
+        14 => Rows { start: 24, end: 30 },
         _ => Rows { start: 0, end: 0 },
     }
 }
@@ -166,7 +211,26 @@ fn read_two_flags(order: Order, body: &[u8], at: BitPlace) -> Got
     Got::Value(1 + 2 * animatable, end)
 }
 
-// The flags of one attribute as a number: exist + 2 × animatable; a Fixed one has no bit, and gives 1.
+// An exist bit; if set, an animatable bit; if that is set too, a hasSpatial bit.
+fn read_three_flags(order: Order, body: &[u8], at: BitPlace) -> Got
+    requires { ⌜ PlaceIn (now body) (at .0) ⌝ }
+    ensures { λ r. ⌜ showNum (numOf r) ≡ run (orderOf order) (now (body .entry)) (item (flagsOf (kindOf Kind.Spatial))) (at .0) ⌝ }
+{
+    let e = bits::fields::read_ub(order, body, at, 1);
+    let Got::Value(exist, next) = e else {
+        return e;
+    };
+    if exist == 0 {
+        return Got::Value(0, next);
+    }
+    let a = read_two_flags(order, body, next);
+    let Got::Value(more, end) = a else {
+        return a;
+    };
+    Got::Value(1 + 2 * more, end)
+}
+
+// The flags of one attribute as a number: exist + 2 × animatable + 4 × hasSpatial; a Fixed one has no bit, and gives 1.
 fn read_flag(order: Order, kind: Kind, body: &[u8], at: BitPlace) -> Got
     requires { ⌜ PlaceIn (now body) (at .0) ⌝ }
     ensures { λ r. ⌜ showNum (numOf r) ≡ run (orderOf order) (now (body .entry)) (item (flagsOf (kindOf kind))) (at .0) ⌝ }
@@ -177,6 +241,8 @@ fn read_flag(order: Order, kind: Kind, body: &[u8], at: BitPlace) -> Got
         Kind::BitFlag => bits::fields::read_ub(order, body, at, 1),
         Kind::Simple => read_two_flags(order, body, at),
         Kind::Discrete => read_two_flags(order, body, at),
+        Kind::MultiDimension => read_two_flags(order, body, at),
+        Kind::Spatial => read_three_flags(order, body, at),
     }
 }
 
@@ -216,7 +282,7 @@ pub enum Content {
     Frames,
 }
 
-// Of a Simple or Discrete one: by its two flags.
+// Of one that may be keyframed: by its flags.
 fn animatable(flag: u64) -> Content
     ensures { λ r. ⌜ r ≡ animatableBy flag ⌝ }
 {
@@ -243,5 +309,100 @@ pub fn content_of(kind: Kind, flag: u64) -> Content
         Kind::BitFlag => Content::Nothing,
         Kind::Simple => animatable(flag),
         Kind::Discrete => animatable(flag),
+        Kind::MultiDimension => animatable(flag),
+        Kind::Spatial => animatable(flag),
+    }
+}
+
+// Do frames of an attribute of this kind have an interpolation? Those of a Discrete one have none, and the others are never keyframed.
+pub fn has_interpolations(kind: Kind) -> bool
+    ensures { λ r. ⌜ r ≡ interpolated (kindOf kind) ⌝ }
+{
+    match kind {
+        Kind::Value => false,
+        Kind::Fixed => false,
+        Kind::BitFlag => false,
+        Kind::Simple => true,
+        Kind::Discrete => false,
+        Kind::MultiDimension => true,
+        Kind::Spatial => true,
+    }
+}
+
+// How keyframed values stand: in turn; as one bit each; as fields of a width, which are bytes or the x and y of Points.
+pub enum Layout {
+    InTurn,
+    Bits,
+    ByteFields,
+    PointFields,
+}
+
+// Points in turn, but for those of a Spatial attribute.
+fn points_layout(kind: Kind) -> Layout
+    ensures { λ r. ⌜ r ≡ pointsBy (kindOf kind) ⌝ }
+{
+    match kind {
+        Kind::Value => Layout::InTurn,
+        Kind::Fixed => Layout::InTurn,
+        Kind::BitFlag => Layout::InTurn,
+        Kind::Simple => Layout::InTurn,
+        Kind::Discrete => Layout::InTurn,
+        Kind::MultiDimension => Layout::InTurn,
+        Kind::Spatial => Layout::PointFields,
+    }
+}
+
+// The layout of keyframed values, by kind and data type.
+pub fn layout_of(kind: Kind, what: DataType) -> Layout
+    ensures { λ r. ⌜ r ≡ layoutBy (kindOf kind) (typeOf what) ⌝ }
+{
+    match what {
+        DataType::U32 => Layout::InTurn,
+        DataType::Time => Layout::InTurn,
+        DataType::Float => Layout::InTurn,
+        DataType::Ratio => Layout::InTurn,
+        DataType::Bool => Layout::Bits,
+        DataType::Byte => Layout::ByteFields,
+        DataType::BlendMode => Layout::InTurn,
+        DataType::TrackMatteType => Layout::InTurn,
+        DataType::MaskMode => Layout::InTurn,
+        DataType::Path => Layout::InTurn,
+        DataType::Point => points_layout(kind),
+        DataType::AnchorPointGrouping => Layout::InTurn,
+    }
+}
+
+// The dimensions of a value.
+fn dimensions(what: DataType) -> usize
+    ensures { λ r. ⌜ (r ≡ dimensionsOf (typeOf what)) × (r ≤ 2) ⌝ }
+{
+    match what {
+        DataType::U32 => 1,
+        DataType::Time => 1,
+        DataType::Float => 1,
+        DataType::Ratio => 1,
+        DataType::Bool => 1,
+        DataType::Byte => 1,
+        DataType::BlendMode => 1,
+        DataType::TrackMatteType => 1,
+        DataType::MaskMode => 1,
+        DataType::Path => 1,
+        DataType::Point => 2,
+        DataType::AnchorPointGrouping => 1,
+    }
+}
+
+// The easing curves of a Bezier frame: of a MultiDimension attribute one for each dimension, else one.
+pub fn curves(kind: Kind, what: DataType) -> usize
+    ensures { λ r. ⌜ (r ≡ curvesOf (kindOf kind) (typeOf what)) × (r ≤ 2) ⌝ }
+{
+    match kind {
+        Kind::Value => 1,
+        Kind::Fixed => 1,
+        Kind::BitFlag => 1,
+        Kind::Simple => 1,
+        Kind::Discrete => 1,
+        Kind::MultiDimension => dimensions(what),
+        Kind::Spatial => 1,
     }
 }

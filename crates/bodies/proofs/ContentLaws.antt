@@ -71,7 +71,7 @@ module _ (o : Order) (s t₀ flags : List ℕ) (k start end p₀ : ℕ) where
     pub below : row ≤ end
 
   -- the row here has the flag number φ; R is the answer of the call that read it
-  module _ {t : List ℕ} {p j row φ : ℕ} (some : row < end) (inside : end ≤ 21) (lent : end - start ≤ length flags)
+  module _ {t : List ℕ} {p j row φ : ℕ} (some : row < end) (inside : end ≤ 30) (lent : end - start ≤ length flags)
       (flag : φ ≡ getD flags (row - start) 0) (g : Going t p j row) where
     abbrev attributeHere : bodies.Attribute
     attributeHere = attributeOf (rowAt row)

@@ -7,9 +7,9 @@ use Rattle.format.specs.Bodies.{Body, fixed, attributes}
 use Rattle.attributes.specs.Rows.{attributesOf}
 use Rattle.fixed.specs.Fixed.{fixedOf}
 
--- 6, 9 and 14 are attribute blocks
+-- 6, 9, 10, 13 and 14 are attribute blocks
 abbrev pub isBlock : ℕ → Bool
-isBlock code = eqb code 6 or eqb code 9 or eqb code 14
+isBlock code = eqb code 6 or eqb code 9 or eqb code 10 or eqb code 13 or eqb code 14
 
 -- a code that has no body of its own has no items
 unfoldable pub leafBody : ℕ → Body

@@ -40,6 +40,7 @@ fn read_content(
             order,
             kind,
             what,
+            flag,
             body,
             at,
             table,

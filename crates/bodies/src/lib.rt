@@ -27,13 +27,14 @@ pub enum Shown {
 pub fn is_block(code: u32) -> bool
     ensures { λ r. ⌜ r ≡ isBlock code ⌝ }
 {
-    if code == 6 {
-        return true;
+    match code {
+        6 => true,
+        9 => true,
+        10 => true,
+        13 => true,
+        14 => true,
+        _ => false,
     }
-    if code == 9 {
-        return true;
-    }
-    code == 14
 }
 
 // The items of a body, up to where they end.

@@ -11,7 +11,7 @@ use Rattle.format.specs.Bits.{Order}
 use Rattle.format.specs.Reading.{Ending, At, Fault, Reading}
 use Rattle.format.specs.Formats.{Item, Format, nothing, item, only, _▹_}
 use Rattle.format.specs.Items.{readItem, readFlag, Num, num, bad, showNum, run}
-use Rattle.format.specs.Bodies.{Kind, Value, Fixed, BitFlag, Simple, Discrete, Attribute, flagsOf, content, allFlags, rows, handOn, readBlock}
+use Rattle.format.specs.Bodies.{Kind, Value, Fixed, BitFlag, Simple, Discrete, MultiDimension, Spatial, Attribute, flagsOf, content, allFlags, rows, handOn, readBlock}
 use Rattle.format.specs.Possible.{Possible, this, cannot}
 use Rattle.format.specs.WritingItems.{Written, wrote, writeItem}
 use Rattle.format.specs.WritingFormats.{passing, adjoin, onward, unrun}
@@ -184,6 +184,8 @@ module _ (o : Order) where
       by BitFlag h = go (readFlag o b p 1) h
       by Simple h = go (readFlag o b p 2) h
       by Discrete h = go (readFlag o b p 2) h
+      by MultiDimension h = go (readFlag o b p 2) h
+      by Spatial h = go (readFlag o b p 3) h
 
   pub as-many : (attrs : List Attribute) (b : List ℕ) (p q : ℕ) → run o b (allFlags attrs) p .ended ≡ At q → length (run o b (allFlags attrs) p .shown) ≡ length attrs
   unfolding run allFlags

@@ -13,8 +13,8 @@ use Rattle.format.specs.Tests.{pick, _and_, _or_}
 use Rattle.format.specs.Bits.{Order, ub, orderNamed}
 use Rattle.format.specs.Reading.{Ending, At, Fault, Reading, follow}
 use Rattle.format.specs.Formats.{Item, Format, nothing, item, only, _▹_, _▸_, times, the}
-use Rattle.format.specs.Items.{skipped, room, Num, num, bad, showNum, mapNum, signExtend, readUB, carry, readVar, sign, notOne, exist, readFlag, above, readLE, Text, text, cut, readText, showText, readAlign, readItem, judge, run, byteItem, u32, i32, time, color, count, coordinates, path}
-use Rattle.format.specs.Bodies.{fontTables, compositionAttributes, solidColor, Kind, Value, Fixed, BitFlag, Simple, Discrete, DataType, U32s, Times, Floats, Ratios, Bools, Bytes, BlendModes, TrackMatteTypes, MaskModes, Paths, Attribute, flagsOf, value, values, interpolations, beziers, aligned, keyframed, contentOf, allFlags, rows, handOn, readBlock, Body, fixed, attributes, readPart, toEnd, usedUp, readBody}
+use Rattle.format.specs.Items.{skipped, room, Num, num, bad, showNum, mapNum, signExtend, readUB, carry, readVar, sign, notOne, exist, readFlag, above, readLE, Text, text, cut, readText, showText, readAlign, readItem, judge, run, byteItem, u32, i32, time, color, count, coordinates, point, scaled, path}
+use Rattle.format.specs.Bodies.{fontTables, compositionAttributes, solidColor, Kind, Value, Fixed, BitFlag, Simple, Discrete, MultiDimension, Spatial, DataType, U32s, Times, Floats, Ratios, Bools, Bytes, BlendModes, TrackMatteTypes, MaskModes, Paths, Points, AnchorPointGroupings, Attribute, flagsOf, value, values, interpolation, interpolations, howMany, points, curves, spatial, hasSpatial, animated, aligned, keyframed, contentOf, allFlags, rows, handOn, readBlock, Body, fixed, attributes, readPart, toEnd, usedUp, readBody}
 use Rattle.format.specs.FileAndTags.{signatureRight, versionRight, lengthRight, Class, opaque, end, container, known, codes, classOf, isEnd, isContainer, Tag, Outcome, whole, fault, Walk, broken, chain, Head, head, noHead, le16, le32, rawHead, passes, readHead, Owner, file, inside, endAt, front, opened, within, afterTag, oneTag, walk, walkList}
 use Rattle.format.specs.TableOfNumbers.{table, tagTable}
 use Rattle.format.specs.Reasons.{startFault, walkFile, Result, gives, refuses, result, readFile, readTags, Answer, accepted, refused, Left, into}
@@ -164,7 +164,7 @@ module _ (o : Order) where
   named-color = named-times 3 (named-byte (Item.UB 8))
 
   -- a width, and n fields of that width
-  named-fields : (n : ℕ) → Named (item Item.width ▹ λ w. times n (item (Item.SB (the w))))
+  named-fields : (n : ℕ) → Named (scaled n)
   named-fields n = named-then (named-item Item.width) (λ w. named-times n (named-item (Item.SB (the w))))
 
   named-path : Named path
@@ -181,42 +181,68 @@ module _ (o : Order) where
   named-value TrackMatteTypes = named-only (reason tt) (named-byte (Item.UB 8))
   named-value MaskModes = named-only (reason tt) (named-byte (Item.UB 8))
   named-value Paths = named-path
+  named-value Points = named-seq (named-byte (Item.LE 4)) (named-byte (Item.LE 4))
+  named-value AnchorPointGroupings = named-only (reason tt) (named-byte (Item.UB 8))
 
-  named-values : (d : DataType) (n : ℕ) → Named (values d n)
-  named-values U32s n = named-times n (named-value U32s)
-  named-values Times n = named-times n (named-value Times)
-  named-values Floats n = named-times n (named-value Floats)
-  named-values Ratios n = named-times n (named-value Ratios)
-  named-values Bools n = named-times n (named-item (Item.UB 1))
-  named-values Bytes n = named-then (named-item Item.width) (λ w. named-times n (named-only (reason tt) (named-item (Item.UB (the w)))))
-  named-values BlendModes n = named-times n (named-value BlendModes)
-  named-values TrackMatteTypes n = named-times n (named-value TrackMatteTypes)
-  named-values MaskModes n = named-times n (named-value MaskModes)
-  named-values Paths n = named-times n named-path
+  named-points : (k : Kind) (n : ℕ) → Named (points k n)
+  named-points Value n = named-times n (named-value Points)
+  named-points Fixed n = named-times n (named-value Points)
+  named-points BitFlag n = named-times n (named-value Points)
+  named-points Simple n = named-times n (named-value Points)
+  named-points Discrete n = named-times n (named-value Points)
+  named-points MultiDimension n = named-times n (named-value Points)
+  named-points Spatial n = named-then (named-item Item.width) (λ w. named-times (n * 2) (named-item (Item.UB (the w))))
+
+  named-values : (k : Kind) (d : DataType) (n : ℕ) → Named (values k d n)
+  named-values k U32s n = named-times n (named-value U32s)
+  named-values k Times n = named-times n (named-value Times)
+  named-values k Floats n = named-times n (named-value Floats)
+  named-values k Ratios n = named-times n (named-value Ratios)
+  named-values k Bools n = named-times n (named-item (Item.UB 1))
+  named-values k Bytes n = named-then (named-item Item.width) (λ w. named-times n (named-only (reason tt) (named-item (Item.UB (the w)))))
+  named-values k BlendModes n = named-times n (named-value BlendModes)
+  named-values k TrackMatteTypes n = named-times n (named-value TrackMatteTypes)
+  named-values k MaskModes n = named-times n (named-value MaskModes)
+  named-values k Paths n = named-times n named-path
+  named-values k Points n = named-points k n
+  named-values k AnchorPointGroupings n = named-times n (named-value AnchorPointGroupings)
+
+  named-types : (n : ℕ) → Named (times n interpolation)
+  named-types n = named-times n (named-only (reason tt) (named-item (Item.UB 2)))
 
   named-interpolations : (k : Kind) (n : ℕ) → Named (interpolations k n)
   named-interpolations Value n = named-nothing
   named-interpolations Fixed n = named-nothing
   named-interpolations BitFlag n = named-nothing
-  named-interpolations Simple n = named-times n (named-only (reason tt) (named-item (Item.UB 2)))
+  named-interpolations Simple n = named-types n
   named-interpolations Discrete n = named-nothing
+  named-interpolations MultiDimension n = named-types n
+  named-interpolations Spatial n = named-types n
 
   named-aligned : {f : Format} → Named f → Named (aligned ▸ f)
   named-aligned h = named-seq (named-item Item.align) h
 
-  named-keyframed : (k : Kind) (d : DataType) → Named (keyframed k d)
-  named-keyframed k d = named-then (named-count 1 4096) (λ n.
+  named-spatial : (n : ℕ) → Named (spatial n)
+  named-spatial n = named-aligned (named-then (named-times (n * 2) (named-item (Item.UB 1))) (λ flags. named-fields (howMany 1 flags * 2)))
+
+  named-keyframed : (k : Kind) (d : DataType) (φ : ℕ) → Named (keyframed k d φ)
+  named-keyframed k d φ = named-then (named-count 1 4096) (λ n.
       named-then (named-aligned (named-interpolations k (the n))) (λ kinds.
       named-seq (named-times (suc (the n)) (named-value Times))
-      (named-aligned (named-seq (named-values d (suc (the n)))
-      (named-aligned (named-fields (beziers kinds * 4)))))))
+      (named-aligned (named-seq (named-values k d (suc (the n)))
+      (named-aligned (named-seq (named-fields (howMany 2 kinds * 4 * curves k d)) (either-way Named (hasSpatial φ) (named-spatial (the n)) named-nothing)))))))
+
+  named-animated : (k : Kind) (d : DataType) (φ : ℕ) → Named (animated k d φ)
+  named-animated k d φ = either-way Named (eqb φ 0) named-nothing (either-way Named (eqb φ 1) (named-value d) (named-keyframed k d φ))
 
   named-content : (k : Kind) (d : DataType) (φ : ℕ) → Named (contentOf k d φ)
   named-content Value d φ = either-way Named (eqb φ 0) named-nothing (named-value d)
   named-content Fixed d φ = named-value d
   named-content BitFlag d φ = named-nothing
-  named-content Simple d φ = either-way Named (eqb φ 0) named-nothing (either-way Named (eqb φ 1) (named-value d) (named-keyframed Simple d))
-  named-content Discrete d φ = either-way Named (eqb φ 0) named-nothing (either-way Named (eqb φ 1) (named-value d) (named-keyframed Discrete d))
+  named-content Simple d φ = named-animated Simple d φ
+  named-content Discrete d φ = named-animated Discrete d φ
+  named-content MultiDimension d φ = named-animated MultiDimension d φ
+  named-content Spatial d φ = named-animated Spatial d φ
 
   -- ---- attribute blocks, whatever their attributes
   named-flags : (attrs : List Attribute) → Named (allFlags attrs)

@@ -13,7 +13,7 @@ use Rattle.format.specs.Bits.{Order, ub, orderNamed}
 use Rattle.format.specs.Reading.{Ending, At, Fault, Reading, shows, stop, follow}
 use Rattle.format.specs.Formats.{Item, nothing, item, _▸_, times, the}
 use Rattle.format.specs.Items.{skipped, readItem, run, u32, i32, time, float, byte, color, string, count}
-use Rattle.format.specs.Bodies.{fontTables, compositionAttributes, solidColor, Kind, Value, Fixed, BitFlag, Simple, Discrete, Attribute, flagsOf, content, allFlags, rows, handOn, readBlock, Body, fixed, attributes, readPart, usedUp, readBody}
+use Rattle.format.specs.Bodies.{fontTables, compositionAttributes, solidColor, Kind, Value, Fixed, BitFlag, Simple, Discrete, MultiDimension, Spatial, Attribute, flagsOf, content, allFlags, rows, handOn, readBlock, Body, fixed, attributes, readPart, usedUp, readBody}
 use Rattle.format.specs.FileAndTags.{Class, opaque, end, container, known, codes, classOf, isEnd, Tag, Outcome, whole, fault, Walk, broken, chain, Head, head, noHead, isRead, longOnShort, stateOf, readHead, Owner, file, inside, TagInside, front, opened, within, afterTag, tagThen, oneTag, walk, walkList}
 use Rattle.format.specs.TableOfNumbers.{numbers, table, isOpaque, bodyIn, plainTag, plainTable, tagTable}
 use Rattle.format.specs.Reasons.{startFault, walkFile, gives, result, readFile, readPlain, readTags}
@@ -36,6 +36,8 @@ fixedBy Fixed = 1
 fixedBy BitFlag = 0
 fixedBy Simple = 0
 fixedBy Discrete = 0
+fixedBy MultiDimension = 0
+fixedBy Spatial = 0
 
 -- how many attributes are Fixed
 abbrev pub fixedCount : List Attribute → ℕ
@@ -67,6 +69,8 @@ module _ (o : Order) where
   fair-flag BitFlag = fair-item o (Item.flag 1) (omega arith)
   fair-flag Simple = fair-item o (Item.flag 2) (omega arith)
   fair-flag Discrete = fair-item o (Item.flag 2) (omega arith)
+  fair-flag MultiDimension = fair-item o (Item.flag 2) (omega arith)
+  fair-flag Spatial = fair-item o (Item.flag 3) (omega arith)
 
   fair-flags : (attrs : List Attribute) → Fair o (fixedCount attrs) (allFlags attrs)
   unfolding allFlags
@@ -166,7 +170,7 @@ module _ (o : Order) where
   fair-color = fair-times o 3 byte (fair-byte o (Item.UB 8) (omega arith))
 
   fair-codes : FairAll codes
-  fair-codes = (tt, (fonts, (fair-u32, (composition, (tt, (fair-seq o byte u32 (fair-byte o (Item.UB 8) (omega arith)) fair-u32, (omega arith, (solid, (tt, (omega arith, (tt, (fair-u32, (fair-seq o u32 time fair-u32 fair-time, (tt, (omega arith, tt)))))))))))))))
+  fair-codes = (tt, (fonts, (fair-u32, (composition, (tt, (fair-seq o byte u32 (fair-byte o (Item.UB 8) (omega arith)) fair-u32, (omega arith, (solid, (tt, (omega arith, (omega arith, (fair-u32, (fair-seq o u32 time fair-u32 fair-time, (omega arith, (omega arith, tt)))))))))))))))
     where
       fonts : Fair o 0 fontTables
       fonts = fair-then o 0 0 (count 0 4096) (λ n. times (the n) (string ▸ string)) (fair-only o 0 _ 17 u32 fair-u32)

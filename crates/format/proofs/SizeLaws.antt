@@ -11,8 +11,8 @@ use Rattle.format.specs.Tests.{pick}
 use Rattle.format.specs.Bits.{Order, ub}
 use Rattle.format.specs.Reading.{Ending, At, Fault, Reading, shows, stop, follow}
 use Rattle.format.specs.Formats.{Item, Format, nothing, item, only, _▹_, _▸_, times, the}
-use Rattle.format.specs.Items.{signExtend, skipped, room, Num, num, bad, showNum, mapNum, readUB, carry, readVar, sign, notOne, exist, readFlag, above, readLE, Text, text, cut, addText, readText, showText, readItem, judge, run, byteItem, u32, i32, time, float, byte, color, ratio, enum, count, coordinates, path}
-use Rattle.format.specs.Bodies.{Kind, Value, Fixed, BitFlag, Simple, Discrete, DataType, U32s, Times, Floats, Ratios, Bools, Bytes, BlendModes, TrackMatteTypes, MaskModes, Paths, blendMode, value, values, interpolation, interpolations, beziers, aligned, keyframed, contentOf}
+use Rattle.format.specs.Items.{signExtend, skipped, room, Num, num, bad, showNum, mapNum, readUB, carry, readVar, sign, notOne, exist, readFlag, above, readLE, Text, text, cut, addText, readText, showText, readItem, judge, run, byteItem, u32, i32, time, float, byte, color, ratio, enum, count, coordinates, point, scaled, path}
+use Rattle.format.specs.Bodies.{Kind, Value, Fixed, BitFlag, Simple, Discrete, MultiDimension, Spatial, DataType, U32s, Times, Floats, Ratios, Bools, Bytes, BlendModes, TrackMatteTypes, MaskModes, Paths, Points, AnchorPointGroupings, blendMode, value, values, interpolation, interpolations, howMany, points, curves, spatial, hasSpatial, animated, aligned, keyframed, contentOf}
 use Rattle.format.proofs.WalkLaws.{run-le}
 use Rattle.format.proofs.Absurd.{clash}
 
@@ -243,17 +243,22 @@ module _ (o : Order) where
   fair-enum : (top : ℕ) → Fair o 0 (enum top)
   fair-enum top = fair-only 0 (λ ns. leb (the ns) top) 16 byte (fair-byte (Item.UB 8) (omega arith))
 
+  fair-scaled : (n : ℕ) → Fair o 0 (scaled n)
+  fair-scaled n = fair-width (λ w. times n (item (Item.SB w))) (λ w. fair-times n (item (Item.SB (suc w))) (fair-item (Item.SB (suc w)) (omega arith)))
+
   pub fair-path : Fair o 0 path
   fair-path = fair-then 0 0 (count 0 4096) _ (fair-count 0 4096) (λ b p q e.
       fair-then 0 0 (times (the (run o b (count 0 4096) p .shown)) (item (Item.UB 3))) _ (fair-times (the (run o b (count 0 4096) p .shown)) (item (Item.UB 3)) (fair-item (Item.UB 3) (omega arith))) (λ b′ p′ q′ e′.
-      fair-width (λ n. times (coordinates (run o b′ (times (the (run o b (count 0 4096) p .shown)) (item (Item.UB 3))) p′ .shown)) (item (Item.SB n)))
-      (λ n. fair-times (coordinates (run o b′ (times (the (run o b (count 0 4096) p .shown)) (item (Item.UB 3))) p′ .shown)) (item (Item.SB (suc n))) (fair-item (Item.SB (suc n)) (omega arith)))))
+      fair-scaled (coordinates (run o b′ (times (the (run o b (count 0 4096) p .shown)) (item (Item.UB 3))) p′ .shown))))
 
   fair-color : Fair o 0 color
   fair-color = fair-times 3 byte (fair-byte (Item.UB 8) (omega arith))
 
   fair-ratio : Fair o 0 ratio
   fair-ratio = fair-seq i32 u32 (fair-byte Item.I32 tt) (fair-byte Item.U32 tt)
+
+  fair-point : Fair o 0 point
+  fair-point = fair-seq float float (fair-byte (Item.LE 4) (omega arith)) (fair-byte (Item.LE 4) (omega arith))
 
   fair-blend : Fair o 0 blendMode
   fair-blend = fair-only 0 (λ ns. pick (leb (the ns) 16) true (pick (leb 21 (the ns)) (leb (the ns) 26) false)) 16 byte (fair-byte (Item.UB 8) (omega arith))
@@ -269,50 +274,80 @@ module _ (o : Order) where
   fair-value TrackMatteTypes = fair-enum 4
   fair-value MaskModes = fair-enum 7
   fair-value Paths = fair-path
+  fair-value Points = fair-point
+  fair-value AnchorPointGroupings = fair-enum 6
 
-  pub fair-values : (d : DataType) (n : ℕ) → Fair o 0 (values d n)
-  fair-values U32s n = fair-times n u32 (fair-value U32s)
-  fair-values Times n = fair-times n time (fair-value Times)
-  fair-values Floats n = fair-times n float (fair-value Floats)
-  fair-values Ratios n = fair-times n ratio fair-ratio
-  fair-values Bools n = fair-times n (item (Item.UB 1)) (fair-item (Item.UB 1) (omega arith))
-  fair-values Bytes n = fair-width (λ w. times n (only (λ ns. leb (the ns) 255) 16 (item (Item.UB w))))
+  fair-points : (k : Kind) (n : ℕ) → Fair o 0 (points k n)
+  fair-points Value n = fair-times n point fair-point
+  fair-points Fixed n = fair-times n point fair-point
+  fair-points BitFlag n = fair-times n point fair-point
+  fair-points Simple n = fair-times n point fair-point
+  fair-points Discrete n = fair-times n point fair-point
+  fair-points MultiDimension n = fair-times n point fair-point
+  fair-points Spatial n = fair-width (λ w. times (n * 2) (item (Item.UB w))) (λ w. fair-times (n * 2) (item (Item.UB (suc w))) (fair-item (Item.UB (suc w)) (omega arith)))
+
+  pub fair-values : (k : Kind) (d : DataType) (n : ℕ) → Fair o 0 (values k d n)
+  fair-values k U32s n = fair-times n u32 (fair-value U32s)
+  fair-values k Times n = fair-times n time (fair-value Times)
+  fair-values k Floats n = fair-times n float (fair-value Floats)
+  fair-values k Ratios n = fair-times n ratio fair-ratio
+  fair-values k Bools n = fair-times n (item (Item.UB 1)) (fair-item (Item.UB 1) (omega arith))
+  fair-values k Bytes n = fair-width (λ w. times n (only (λ ns. leb (the ns) 255) 16 (item (Item.UB w))))
       (λ w. fair-times n (only (λ ns. leb (the ns) 255) 16 (item (Item.UB (suc w)))) (fair-only 0 (λ ns. leb (the ns) 255) 16 (item (Item.UB (suc w))) (fair-item (Item.UB (suc w)) (omega arith))))
-  fair-values BlendModes n = fair-times n blendMode fair-blend
-  fair-values TrackMatteTypes n = fair-times n (enum 4) (fair-enum 4)
-  fair-values MaskModes n = fair-times n (enum 7) (fair-enum 7)
-  fair-values Paths n = fair-times n path fair-path
+  fair-values k BlendModes n = fair-times n blendMode fair-blend
+  fair-values k TrackMatteTypes n = fair-times n (enum 4) (fair-enum 4)
+  fair-values k MaskModes n = fair-times n (enum 7) (fair-enum 7)
+  fair-values k Paths n = fair-times n path fair-path
+  fair-values k Points n = fair-points k n
+  fair-values k AnchorPointGroupings n = fair-times n (enum 6) (fair-enum 6)
+
+  fair-types : (n : ℕ) → Fair o 0 (times n interpolation)
+  fair-types n = fair-times n interpolation (fair-only 0 (λ ns. ltb 0 (the ns)) 16 (item (Item.UB 2)) (fair-item (Item.UB 2) (omega arith)))
 
   pub fair-interpolations : (k : Kind) (n : ℕ) → Fair o 0 (interpolations k n)
   fair-interpolations Value n = fair-nothing
   fair-interpolations Fixed n = fair-nothing
   fair-interpolations BitFlag n = fair-nothing
-  fair-interpolations Simple n = fair-times n interpolation (fair-only 0 (λ ns. ltb 0 (the ns)) 16 (item (Item.UB 2)) (fair-item (Item.UB 2) (omega arith)))
+  fair-interpolations Simple n = fair-types n
   fair-interpolations Discrete n = fair-nothing
+  fair-interpolations MultiDimension n = fair-types n
+  fair-interpolations Spatial n = fair-types n
 
-  pub fair-keyframed : (k : Kind) (d : DataType) → Fair o 0 (keyframed k d)
-  fair-keyframed k d = fair-then 0 0 (count 1 4096) _ (fair-count 1 4096) (λ b p q e. frames (the (run o b (count 1 4096) p .shown)))
-    where
-      easing : (m : ℕ) → Fair o 0 (aligned ▸ item Item.width ▹ λ w. times m (item (Item.SB (the w))))
-      easing m = fair-seq aligned (item Item.width ▹ λ w. times m (item (Item.SB (the w)))) (fair-item Item.align tt)
-          (fair-width (λ w. times m (item (Item.SB w))) (λ w. fair-times m (item (Item.SB (suc w))) (fair-item (Item.SB (suc w)) (omega arith))))
+  pub fair-aligned : (f : Format) → Fair o 0 f → Fair o 0 (aligned ▸ f)
+  fair-aligned f h = fair-seq aligned f (fair-item Item.align tt) h
 
-      frames : (n : ℕ) → Fair o 0 ((aligned ▸ interpolations k n) ▹ λ kinds.
-          times (suc n) time ▸ aligned ▸ values d (suc n) ▸ aligned ▸ item Item.width ▹ λ w. times (beziers kinds * 4) (item (Item.SB (the w))))
-      frames n = fair-then 0 0 (aligned ▸ interpolations k n) _ (fair-seq aligned (interpolations k n) (fair-item Item.align tt) (fair-interpolations k n)) (λ b p q e.
-          rest (beziers (run o b (aligned ▸ interpolations k n) p .shown) * 4))
-        where
-          rest : (m : ℕ) → Fair o 0 (times (suc n) time ▸ aligned ▸ values d (suc n) ▸ aligned ▸ item Item.width ▹ λ w. times m (item (Item.SB (the w))))
-          rest m = fair-seq (times (suc n) time) _ (fair-times (suc n) time (fair-value Times))
-              (fair-seq aligned _ (fair-item Item.align tt) (fair-seq (values d (suc n)) _ (fair-values d (suc n)) (easing m)))
+  pub fair-easing : (m : ℕ) → Fair o 0 (aligned ▸ scaled m)
+  fair-easing m = fair-aligned (scaled m) (fair-scaled m)
+
+  pub fair-spatial : (n : ℕ) → Fair o 0 (spatial n)
+  fair-spatial n = fair-aligned _ (fair-then 0 0 (times (n * 2) (item (Item.UB 1))) _ (fair-times (n * 2) (item (Item.UB 1)) (fair-item (Item.UB 1) (omega arith))) (λ b p q e.
+      fair-scaled (howMany 1 (run o b (times (n * 2) (item (Item.UB 1))) p .shown) * 2)))
 
   fair-pick : (c : Bool) (f g : Format) → Fair o 0 f → Fair o 0 g → Fair o 0 (pick c f g)
   fair-pick true f g h k = h
   fair-pick false f g h k = k
 
+  pub fair-keyframed : (k : Kind) (d : DataType) (φ : ℕ) → Fair o 0 (keyframed k d φ)
+  fair-keyframed k d φ = fair-then 0 0 (count 1 4096) _ (fair-count 1 4096) (λ b p q e. frames (the (run o b (count 1 4096) p .shown)))
+    where
+      rest : (n m : ℕ) → Fair o 0 (times (suc n) time ▸ aligned ▸ values k d (suc n) ▸ aligned ▸ scaled m ▸ pick (hasSpatial φ) (spatial n) nothing)
+      rest n m = fair-seq (times (suc n) time) _ (fair-times (suc n) time (fair-value Times))
+          (fair-aligned _ (fair-seq (values k d (suc n)) _ (fair-values k d (suc n))
+          (fair-aligned _ (fair-seq (scaled m) _ (fair-scaled m) (fair-pick (hasSpatial φ) (spatial n) nothing (fair-spatial n) fair-nothing)))))
+
+      frames : (n : ℕ) → Fair o 0 ((aligned ▸ interpolations k n) ▹ λ kinds.
+          times (suc n) time ▸ aligned ▸ values k d (suc n) ▸ aligned ▸ scaled (howMany 2 kinds * 4 * curves k d) ▸ pick (hasSpatial φ) (spatial n) nothing)
+      frames n = fair-then 0 0 (aligned ▸ interpolations k n) _ (fair-aligned (interpolations k n) (fair-interpolations k n)) (λ b p q e.
+          rest n (howMany 2 (run o b (aligned ▸ interpolations k n) p .shown) * 4 * curves k d))
+
+  fair-animated : (k : Kind) (d : DataType) (φ : ℕ) → Fair o 0 (animated k d φ)
+  fair-animated k d φ = fair-pick (eqb φ 0) nothing _ fair-nothing (fair-pick (eqb φ 1) (value d) (keyframed k d φ) (fair-value d) (fair-keyframed k d φ))
+
   pub fair-content : (k : Kind) (d : DataType) (φ : ℕ) → Fair o 0 (contentOf k d φ)
   fair-content Value d φ = fair-pick (eqb φ 0) nothing (value d) fair-nothing (fair-value d)
   fair-content Fixed d φ = fair-value d
   fair-content BitFlag d φ = fair-nothing
-  fair-content Simple d φ = fair-pick (eqb φ 0) nothing _ fair-nothing (fair-pick (eqb φ 1) (value d) (keyframed Simple d) (fair-value d) (fair-keyframed Simple d))
-  fair-content Discrete d φ = fair-pick (eqb φ 0) nothing _ fair-nothing (fair-pick (eqb φ 1) (value d) (keyframed Discrete d) (fair-value d) (fair-keyframed Discrete d))
+  fair-content Simple d φ = fair-animated Simple d φ
+  fair-content Discrete d φ = fair-animated Discrete d φ
+  fair-content MultiDimension d φ = fair-animated MultiDimension d φ
+  fair-content Spatial d φ = fair-animated Spatial d φ

@@ -1,13 +1,14 @@
--- Document 01, 'Bodies', sentence by sentence.
+-- Document 01, 'Bodies', sentence by sentence; and document 02's C-12, transforms and points, by the chapters of source 000 that it names.
 use Prim.Native.Nat.{ℕ, suc, _*_}
 use mathlib.Core.List.{List, [], _∷_}
+use mathlib.Core.Bool.{Bool}
 use lib.ListN.{length}
 use lib.Dec.{ltb, leb, eqb}
 use Rattle.format.specs.Tests.{pick, _and_, _or_}
 use Rattle.format.specs.Bits.{Order}
 use Rattle.format.specs.Reading.{Ending, At, Fault, Reading, stop, follow}
 use Rattle.format.specs.Formats.{Item, Format, nothing, item, only, _▹_, _▸_, times, the}
-use Rattle.format.specs.Items.{u32, i32, time, float, byte, enum, bool, string, ratio, color, path, count, readAlign, run}
+use Rattle.format.specs.Items.{u32, i32, time, float, byte, enum, bool, string, ratio, color, point, path, count, scaled, readAlign, run}
 
 -- ---- 1: count U32, then two Strings each. 3: I32 width, I32 height, Time, Float, Color. 7: Color, I32, I32. 11: U32. 12: U32, Time.
 abbrev pub fontTables : Format
@@ -25,20 +26,23 @@ imageReference = u32
 abbrev pub compositionReference : Format
 compositionReference = u32 ▸ time
 
--- ---- Attribute blocks (6, 9, 14): flags of all attributes in order as bits, then contents in order.
+-- ---- Attribute blocks (6, 9, 10, 13, 14): flags of all attributes in order as bits, then contents in order.
 pub data Kind : Type 0 where
-  Value Fixed BitFlag Simple Discrete : Kind
+  Value Fixed BitFlag Simple Discrete MultiDimension Spatial : Kind
 
--- Value: 1 bit. Fixed: no bit, and its flag number is 1. BitFlag: 1 bit. Simple and Discrete: exist bit; if set, an animatable bit.
+-- Value: 1 bit. Fixed: no bit, and its flag number is 1. BitFlag: 1 bit. Simple, Discrete and MultiDimension: exist bit; if set, an animatable
+-- bit. Spatial: if that is set too, a hasSpatial bit (source 000, chapter 4), which adds 4 to the flag number.
 abbrev pub flagsOf : Kind → Item
 flagsOf Value = Item.flag 1
 flagsOf Fixed = Item.echo 1
 flagsOf BitFlag = Item.flag 1
 flagsOf Simple = Item.flag 2
 flagsOf Discrete = Item.flag 2
+flagsOf MultiDimension = Item.flag 2
+flagsOf Spatial = Item.flag 3
 
 pub data DataType : Type 0 where
-  U32s Times Floats Ratios Bools Bytes BlendModes TrackMatteTypes MaskModes Paths : DataType
+  U32s Times Floats Ratios Bools Bytes BlendModes TrackMatteTypes MaskModes Paths Points AnchorPointGroupings : DataType
 
 pub record Attribute : Type 0 where
   pub kind : Kind
@@ -74,6 +78,26 @@ textPathOption =
     ∷ Simple of Floats
     ∷ []
 
+-- ---- 10, TextMoreOption (source 000, chapter 6): anchorPointGrouping byte Value; groupingAlignment Point MultiDimension.
+abbrev pub textMoreOption : List Attribute
+textMoreOption =
+    Value of AnchorPointGroupings
+    ∷ MultiDimension of Points
+    ∷ []
+
+-- ---- 13, Transform2D (source 000, chapter 6): anchorPoint Point, position Point, xPosition Float, yPosition Float, scale Point, rotation Float,
+-- opacity byte, all of them Value.
+abbrev pub transform2D : List Attribute
+transform2D =
+    Value of Points
+    ∷ Value of Points
+    ∷ Value of Floats
+    ∷ Value of Floats
+    ∷ Value of Points
+    ∷ Value of Floats
+    ∷ Value of Bytes
+    ∷ []
+
 -- ---- 14: id U32 Fixed; inverted BitFlag; maskMode byte Value; path Path Simple; opacity byte Simple; expansion Float Simple.
 abbrev pub maskBlock : List Attribute
 maskBlock =
@@ -85,7 +109,7 @@ maskBlock =
     ∷ Simple of Floats
     ∷ []
 
--- ---- blendMode 0 to 16, 21 to 26; trackMatteType 0 to 4; maskMode 0 to 7.
+-- ---- blendMode 0 to 16, 21 to 26; trackMatteType 0 to 4; maskMode 0 to 7; anchorPointGrouping 0 to 6.
 abbrev pub blendMode : Format
 blendMode = only (λ ns. leb (the ns) 16 or (leb 21 (the ns) and leb (the ns) 26)) 16 byte
 
@@ -101,10 +125,13 @@ value BlendModes = blendMode
 value TrackMatteTypes = enum 4
 value MaskModes = enum 7
 value Paths = path
+value Points = point
+value AnchorPointGroupings = enum 6
 
 -- ---- Keyframed content, with n frames: n as U32; UB[2] per frame (1 linear, 2 Bezier, 3 hold; not for Discrete); n + 1 times; n + 1 values;
 -- a width and four SB[width] per Bezier frame (out x, out y, in x, in y). The width stands always, Discrete included.
--- Each of these five parts starts on a whole byte. Frames are 1 to 4,096; verbs and fonts 0 to 4,096.
+-- "The five parts of keyframed content become six: spatial flags, width and list form one part, the last, present only when hasSpatial is set."
+-- Each of these parts starts on a whole byte. Frames are 1 to 4,096; verbs and fonts 0 to 4,096.
 
 -- an interpolation of 0 is 16
 abbrev pub interpolation : Format
@@ -116,45 +143,97 @@ interpolations Fixed n = nothing
 interpolations BitFlag n = nothing
 interpolations Simple n = times n interpolation
 interpolations Discrete n = nothing
+interpolations MultiDimension n = times n interpolation
+interpolations Spatial n = times n interpolation
 
--- how many of the frames are Bezier
-abbrev pub beziers : List ℕ → ℕ
-beziers [] = 0
-beziers (k ∷ ks) = pick (eqb k 2) (suc (beziers ks)) (beziers ks)
+-- how many of the numbers are v
+abbrev pub howMany : ℕ → List ℕ → ℕ
+howMany v [] = 0
+howMany v (k ∷ ks) = pick (eqb k v) (suc (howMany v ks)) (howMany v ks)
 
--- Values: Floats in turn; Bools one bit each; bytes as a width, then UB[width] each, at most 255 (16); Paths in turn. (Others in turn; no list has them.)
-abbrev pub values : DataType → ℕ → Format
-values U32s n = times n u32
-values Times n = times n time
-values Floats n = times n float
-values Ratios n = times n ratio
-values Bools n = times n (item (Item.UB 1))
-values Bytes n = item Item.width ▹ λ w. times n (only (λ ns. leb (the ns) 255) 16 (item (Item.UB (the w))))
-values BlendModes n = times n blendMode
-values TrackMatteTypes n = times n (enum 4)
-values MaskModes n = times n (enum 7)
-values Paths n = times n path
+-- Points in turn; of a Spatial attribute as a width, then UB[width] for each x and y
+abbrev pub points : Kind → ℕ → Format
+points Value n = times n point
+points Fixed n = times n point
+points BitFlag n = times n point
+points Simple n = times n point
+points Discrete n = times n point
+points MultiDimension n = times n point
+points Spatial n = item Item.width ▹ λ w. times (n * 2) (item (Item.UB (the w)))
+
+-- Values: Floats in turn; Bools one bit each; bytes as a width, then UB[width] each, at most 255 (16); Paths in turn; Points by the kind. (Others in turn;
+-- no list has them.)
+abbrev pub values : Kind → DataType → ℕ → Format
+values k U32s n = times n u32
+values k Times n = times n time
+values k Floats n = times n float
+values k Ratios n = times n ratio
+values k Bools n = times n (item (Item.UB 1))
+values k Bytes n = item Item.width ▹ λ w. times n (only (λ ns. leb (the ns) 255) 16 (item (Item.UB (the w))))
+values k BlendModes n = times n blendMode
+values k TrackMatteTypes n = times n (enum 4)
+values k MaskModes n = times n (enum 7)
+values k Paths n = times n path
+values k Points n = points k n
+values k AnchorPointGroupings n = times n (enum 6)
+
+-- Easing: a Bezier frame of a MultiDimension attribute has a curve for each dimension of its values; all others have one.
+abbrev pub dimensions : DataType → ℕ
+dimensions U32s = 1
+dimensions Times = 1
+dimensions Floats = 1
+dimensions Ratios = 1
+dimensions Bools = 1
+dimensions Bytes = 1
+dimensions BlendModes = 1
+dimensions TrackMatteTypes = 1
+dimensions MaskModes = 1
+dimensions Paths = 1
+dimensions Points = 2
+dimensions AnchorPointGroupings = 1
+
+abbrev pub curves : Kind → DataType → ℕ
+curves Value d = 1
+curves Fixed d = 1
+curves BitFlag d = 1
+curves Simple d = 1
+curves Discrete d = 1
+curves MultiDimension d = dimensions d
+curves Spatial d = 1
 
 -- a part starts on a whole byte
 abbrev pub aligned : Format
 aligned = item Item.align
 
-abbrev pub keyframed : Kind → DataType → Format
-keyframed k d =
+-- the sixth part: a flag for the in and the out of each frame, and right after them a width and, for each flag that is set, two SB[width] (x, y)
+abbrev pub spatial : ℕ → Format
+spatial n = aligned ▸ times (n * 2) (item (Item.UB 1)) ▹ λ flags. scaled (howMany 1 flags * 2)
+
+-- hasSpatial is set: the flag number is 7
+abbrev pub hasSpatial : ℕ → Bool
+hasSpatial φ = eqb φ 7
+
+abbrev pub keyframed : Kind → DataType → ℕ → Format
+keyframed k d φ =
     count 1 4096 ▹ λ n.
     (aligned ▸ interpolations k (the n)) ▹ λ kinds.
     times (suc (the n)) time ▸
-    aligned ▸ values d (suc (the n)) ▸
-    aligned ▸ item Item.width ▹ λ w.
-    times (beziers kinds * 4) (item (Item.SB (the w)))
+    aligned ▸ values k d (suc (the n)) ▸
+    aligned ▸ scaled (howMany 2 kinds * 4 * curves k d) ▸
+    pick (hasSpatial φ) (spatial (the n)) nothing
 
--- ---- An attribute's content, by its flag number: 0 none, 1 a value, 3 keyframed. A Value has one if its bit is set; a Fixed always; a BitFlag never.
+-- ---- An attribute's content, by its flag number: 0 none, 1 a value, 3 and 7 keyframed. A Value has one if its bit is set; a Fixed always; a BitFlag never.
+abbrev pub animated : Kind → DataType → ℕ → Format
+animated k d φ = pick (eqb φ 0) nothing (pick (eqb φ 1) (value d) (keyframed k d φ))
+
 abbrev pub contentOf : Kind → DataType → ℕ → Format
 contentOf Value d φ = pick (eqb φ 0) nothing (value d)
 contentOf Fixed d φ = value d
 contentOf BitFlag d φ = nothing
-contentOf Simple d φ = pick (eqb φ 0) nothing (pick (eqb φ 1) (value d) (keyframed Simple d))
-contentOf Discrete d φ = pick (eqb φ 0) nothing (pick (eqb φ 1) (value d) (keyframed Discrete d))
+contentOf Simple d φ = animated Simple d φ
+contentOf Discrete d φ = animated Discrete d φ
+contentOf MultiDimension d φ = animated MultiDimension d φ
+contentOf Spatial d φ = animated Spatial d φ
 
 abbrev pub content : Attribute → ℕ → Format
 content a φ = contentOf (a .kind) (a .dataType) φ

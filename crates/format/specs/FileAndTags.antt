@@ -10,7 +10,7 @@ use Rattle.format.specs.Bits.{Order}
 use Rattle.format.specs.Reading.{Ending, At, Fault}
 use Rattle.format.specs.Formats.{Format, _▸_}
 use Rattle.format.specs.Items.{u32, byte, run, toByte}
-use Rattle.format.specs.Bodies.{fontTables, compositionAttributes, solidColor, imageReference, compositionReference, layerAttributes, textPathOption, maskBlock, aligned, Body, fixed, attributes, readBody}
+use Rattle.format.specs.Bodies.{fontTables, compositionAttributes, solidColor, imageReference, compositionReference, layerAttributes, textPathOption, textMoreOption, transform2D, maskBlock, aligned, Body, fixed, attributes, readBody}
 
 -- ---- Header, 9 bytes: "PAG", version byte (1), length of the whole file as a little-endian 32-bit number, compression byte (reserved: any
 -- value is taken and kept). A file has at most 16,777,216 bytes. Tags at depth 0 follow (`walkFile` of Reasons).
@@ -80,10 +80,10 @@ codes =
     ∷ known (fixed solidColor)
     ∷ opaque
     ∷ known (attributes textPathOption)
-    ∷ opaque
+    ∷ known (attributes textMoreOption)
     ∷ known (fixed imageReference)
     ∷ known (fixed compositionReference)
-    ∷ opaque
+    ∷ known (attributes transform2D)
     ∷ known (attributes maskBlock)
     ∷ []
 

@@ -144,12 +144,15 @@ toByte p = p / 8
 abbrev pub readAlign : Order → List ℕ → ℕ → Reading
 readAlign o b p = pick (eqb (ub o b p (skipped p)) 0) (shows [] (p + skipped p)) (stop 15)
 
--- ---- Ratio: I32, U32. Color: three bytes.
+-- ---- Ratio: I32, U32. Color: three bytes. Point (source 000): two Floats, x and y.
 abbrev pub ratio : Format
 ratio = i32 ▸ u32
 
 abbrev pub color : Format
 color = times 3 byte
+
+abbrev pub point : Format
+point = float ▸ float
 
 -- ---- Path: verb count (U32), UB[3] per verb, width, SB[width] per coordinate, with nothing skipped between. The width stands even
 -- without coordinates. Coordinates by verb 0 to 7: 0, 2, 2, 1, 1, 4, 4, 6.
@@ -168,16 +171,19 @@ abbrev pub coordinates : List ℕ → ℕ
 coordinates [] = 0
 coordinates (verb ∷ verbs) = coordinatesOf verb + coordinates verbs
 
+-- a width, which stands always, and n signed fields of it
+abbrev pub scaled : ℕ → Format
+scaled n = item Item.width ▹ λ w. times n (item (Item.SB (the w)))
+
 abbrev pub path : Format
 path =
     count 0 4096 ▹ λ n.
     times (the n) (item (Item.UB 3)) ▹ λ verbs.
-    item Item.width ▹ λ w.
-    times (coordinates verbs) (item (Item.SB (the w)))
+    scaled (coordinates verbs)
 
 -- ---- Reading. For an item: skipped bits (15) by the `align` before it, its bytes (13), its spelling (14), its range (16, 17) by `only`.
 
--- an attribute's flag bits (Bodies): a zero bit ends them. Shown as exist + 2 × animatable: 0, 1 or 3
+-- an attribute's flag bits (Bodies): a zero bit ends them. Shown as exist + 2 × animatable + 4 × hasSpatial: 0, 1, 3 or 7
 abbrev pub exist : Num → Num
 exist (num v p) = num (1 + 2 * v) p
 exist (bad e) = bad e

@@ -12,9 +12,9 @@ use borrow.Author.Tests.{leb-true, ne-eqb}
 use Rattle.format.specs.Tests.{pick, _and_}
 use Rattle.format.specs.Bits.{Order, ub}
 use Rattle.format.specs.Reading.{Ending, At, Fault, Reading, shows}
-use Rattle.format.specs.Formats.{Item, Format, item, only, _▹_, _▸_, times, the}
-use Rattle.format.specs.Items.{run, count, time}
-use Rattle.format.specs.Bodies.{content, interpolation, beziers, aligned}
+use Rattle.format.specs.Formats.{Item, Format, nothing, item, only, _▹_, _▸_, times, the}
+use Rattle.format.specs.Items.{run, count, time, scaled}
+use Rattle.format.specs.Bodies.{content, howMany, aligned, spatial, hasSpatial}
 use Rattle.format.proofs.Absurd.{clash}
 use Rattle.format.proofs.WalkLaws.{run-le}
 use Rattle.opacity.specs.Opacity.{Keyframes, fromOpacity, keyframesOf}
@@ -40,17 +40,17 @@ afterTimes E n = aligned ▸ bytesOf n ▸ E
 abbrev afterKinds : Format → ℕ → Format
 afterKinds E n = times (suc n) time ▸ afterTimes E (suc n)
 
-abbrev afterCount : (List ℕ → Format) → ℕ → Format
-afterCount E n = (aligned ▸ times n (only isKind 16 (item (Item.UB 2)))) ▹ λ kinds. afterKinds (E kinds) n
+abbrev afterCount : (ℕ → List ℕ → Format) → ℕ → Format
+afterCount E n = (aligned ▸ times n (only isKind 16 (item (Item.UB 2)))) ▹ λ kinds. afterKinds (E n kinds) n
 
-abbrev framesBy : (List ℕ → Format) → Format
+abbrev framesBy : (ℕ → List ℕ → Format) → Format
 framesBy E = count 1 4096 ▹ λ n. afterCount E (the n)
 
--- the width and the easing numbers
-abbrev easing : List ℕ → Format
-easing kinds = aligned ▸ item Item.width ▹ λ w. times (beziers kinds * 4) (item (Item.SB (the w)))
+-- the easing of n frames, and what a flag number of 7 would add
+abbrev eased : ℕ → ℕ → List ℕ → Format
+eased φ n kinds = aligned ▸ scaled (howMany 2 kinds * 4 * 1) ▸ pick (hasSpatial φ) (spatial n) nothing
 
-frames-content : (φ : ℕ) → 1 < φ → content opacityRow φ ≡ framesBy easing
+frames-content : (φ : ℕ) → 1 < φ → content opacityRow φ ≡ framesBy (eased φ)
 frames-content φ h = rw (ne-eqb φ 0 (λ e. omega arith), ne-eqb φ 1 (λ e. omega arith))
 
 -- ---- numbers behind others in a list
@@ -87,7 +87,7 @@ skip-in o b g m {q} h e =
     run-le o b aligned m (whole m) h (ap (λ (r : Reading). r .ended) (align-at o b m (ap (λ (r : Reading). r .ended) (a .first)))) .1
 
 -- ---- the parts of a content that was read
-module _ (o : Order) (b : List ℕ) (E : List ℕ → Format) where
+module _ (o : Order) (b : List ℕ) (E : ℕ → List ℕ → Format) where
   -- what the numbers of a content are, and where they stand
   pub record Content (p : ℕ) : Type 0 where
     pub n : ℕ
@@ -122,19 +122,19 @@ module _ (o : Order) (b : List ℕ) (E : List ℕ → Format) where
         let in₁ : (p ≤ A .mid) × (A .mid ≤ 8 * length b) = run-le o b (count 1 4096) p (A .mid) inside (ap (λ (r : Reading). r .ended) (A .first)) in
         -- the interpolations
         let K : Format = aligned ▸ times n (only isKind 16 (item (Item.UB 2))) in
-        let B : Parts o b K (λ kinds. afterKinds (E kinds) n) (A .mid) q = parts o b K (λ kinds. afterKinds (E kinds) n) (A .mid) q (ap (λ (r : Reading). r .ended) (sym R₁) ∙ reads) in
+        let B : Parts o b K (λ kinds. afterKinds (E n kinds) n) (A .mid) q = parts o b K (λ kinds. afterKinds (E n kinds) n) (A .mid) q (ap (λ (r : Reading). r .ended) (sym R₁) ∙ reads) in
         let k : run o b (times n (only isKind 16 (item (Item.UB 2)))) (whole (A .mid)) ≡ shows (B .xs) (B .mid) =
         sym (align-then o b (λ xs. times n (only isKind 16 (item (Item.UB 2)))) (A .mid) (ap (λ (r : Reading). r .ended) (B .first))) ∙ B .first in
         let F : Fields o b isKind 2 n (whole (A .mid)) (B .mid) (run o b (times n (only isKind 16 (item (Item.UB 2)))) (whole (A .mid)) .shown) =
         fields o b isKind 16 2 n (whole (A .mid)) (B .mid) (ap (λ (r : Reading). r .ended) k) in
         let in₂ : (A .mid ≤ B .mid) × (B .mid ≤ 8 * length b) = run-le o b K (A .mid) (B .mid) (in₁ .1) (ap (λ (r : Reading). r .ended) (B .first)) in
         -- the times
-        let D : Parts o b (times (suc n) time) (λ xs. afterTimes (E (B .xs)) (suc n)) (B .mid) q = parts o b (times (suc n) time) (λ xs. afterTimes (E (B .xs)) (suc n)) (B .mid) q (B .rest) in
+        let D : Parts o b (times (suc n) time) (λ xs. afterTimes (E n (B .xs)) (suc n)) (B .mid) q = parts o b (times (suc n) time) (λ xs. afterTimes (E n (B .xs)) (suc n)) (B .mid) q (B .rest) in
         let in₃ : (B .mid ≤ D .mid) × (D .mid ≤ 8 * length b) = run-le o b (times (suc n) time) (B .mid) (D .mid) (in₂ .1) (ap (λ (r : Reading). r .ended) (D .first)) in
         -- the skip, the width and the values
-        let G : run o b (afterTimes (E (B .xs)) (suc n)) (D .mid) ≡ run o b (bytesOf (suc n) ▸ E (B .xs)) (whole (D .mid)) = align-then o b (λ xs. bytesOf (suc n) ▸ E (B .xs)) (D .mid) (D .rest) in
-        let in₄ : whole (D .mid) ≤ 8 * length b = skip-in o b (λ xs. bytesOf (suc n) ▸ E (B .xs)) (D .mid) (in₃ .1) (D .rest) in
-        let H : Parts o b (bytesOf (suc n)) (λ xs. E (B .xs)) (whole (D .mid)) q = parts o b (bytesOf (suc n)) (λ xs. E (B .xs)) (whole (D .mid)) q (ap (λ (r : Reading). r .ended) (sym G) ∙ D .rest) in
+        let G : run o b (afterTimes (E n (B .xs)) (suc n)) (D .mid) ≡ run o b (bytesOf (suc n) ▸ E n (B .xs)) (whole (D .mid)) = align-then o b (λ xs. bytesOf (suc n) ▸ E n (B .xs)) (D .mid) (D .rest) in
+        let in₄ : whole (D .mid) ≤ 8 * length b = skip-in o b (λ xs. bytesOf (suc n) ▸ E n (B .xs)) (D .mid) (in₃ .1) (D .rest) in
+        let H : Parts o b (bytesOf (suc n)) (λ xs. E n (B .xs)) (whole (D .mid)) q = parts o b (bytesOf (suc n)) (λ xs. E n (B .xs)) (whole (D .mid)) q (ap (λ (r : Reading). r .ended) (sym G) ∙ D .rest) in
         let Y : Values o b (suc n) (whole (D .mid)) (H .mid) (H .xs) = values-in o b (suc n) (whole (D .mid)) (H .mid) (H .xs) (H .first) in
         let in₅ : (whole (D .mid) ≤ H .mid) × (H .mid ≤ 8 * length b) = run-le o b (bytesOf (suc n)) (whole (D .mid)) (H .mid) in₄ (ap (λ (r : Reading). r .ended) (H .first)) in
         record {
@@ -154,14 +154,14 @@ module _ (o : Order) (b : List ℕ) (E : List ℕ → Format) where
           valuesEnd = H .mid;
           values = Y .each;
           valuesIn = in₅ .1;
-          more = run o b (E (B .xs)) (H .mid) .shown;
+          more = run o b (E n (B .xs)) (H .mid) .shown;
           shown =
               ap (λ (r : Reading). r .shown) R₁ ∙ ap (λ (l : List ℕ). n ∷ l) (B .shown ∙ ap (λ (l : List ℕ). B .xs ++ l) (D .shown ∙ ap (λ (l : List ℕ). D .xs ++ l)
-              (ap (λ (r : Reading). r .shown) G ∙ H .shown ∙ ap (λ (l : List ℕ). l ++ run o b (E (B .xs)) (H .mid) .shown) (Y .all))));
+              (ap (λ (r : Reading). r .shown) G ∙ H .shown ∙ ap (λ (l : List ℕ). l ++ run o b (E n (B .xs)) (H .mid) .shown) (Y .all))));
         }
 
 -- ---- the keyframes of numbers ns that begin with a flag number and such a content
-module _ (o : Order) (b : List ℕ) (few : length b < 2 ^ 60) (E : List ℕ → Format) (φ p : ℕ) (C : Content o b E p) (after ns : List ℕ)
+module _ (o : Order) (b : List ℕ) (few : length b < 2 ^ 60) (E : ℕ → List ℕ → Format) (φ p : ℕ) (C : Content o b E p) (after ns : List ℕ)
     (all : ns ≡ (φ ∷ run o b (framesBy E) p .shown) ++ after) where
   abbrev w : ℕ
   w = suc (ub o b (whole (C .timesEnd)) 5)
@@ -237,12 +237,12 @@ pub framed-stands : (o : Order) (b : List ℕ) {p v m k : ℕ} → Framed o b p 
 unfolding maskFrames
 framed-stands o b {p} {v} {m} {k} f number next byte =
     let F : Finds o b (f .flag) p = f .finds in
-    let g : content opacityRow (f .flag) ≡ framesBy easing = frames-content (f .flag) (f .more) in
+    let g : content opacityRow (f .flag) ≡ framesBy (eased (f .flag)) = frames-content (f .flag) (f .more) in
     let e : (q : ℕ) × (run o b (content opacityRow (f .flag)) p .ended ≡ At q) = ended-at (run o b (content opacityRow (f .flag)) p .ended) (F .reads) in
-    let C : Content o b easing p = content-parts o b easing p (F .place) (ap (λ (x : Format). run o b x p .ended) (sym g) ∙ e .1) in
+    let C : Content o b (eased (f .flag)) p = content-parts o b (eased (f .flag)) p (F .place) (ap (λ (x : Format). run o b x p .ended) (sym g) ∙ e .1) in
     let x : v ≡ C .n = number ∙ ap (λ (r : Reading). the (r .shown)) (C .countRead) in
     let y : m ≡ C .counted = next ∙ ap (λ (r : Reading). placeIn (r .ended)) (C .countRead) in
-    rw (byte, x, y) (stand o b (F .few) easing (f .flag) p C (F .after) (fromOpacity o b) (F .shown ∙ ap (λ (z : Format). (f .flag ∷ run o b z p .shown) ++ F .after) g))
+    rw (byte, x, y) (stand o b (F .few) (eased (f .flag)) (f .flag) p C (F .after) (fromOpacity o b) (F .shown ∙ ap (λ (z : Format). (f .flag ∷ run o b z p .shown) ++ F .after) g))
 
 -- the count and the place after it are small
 pub count-small : (o : Order) (b : List ℕ) {p v m : ℕ} → Framed o b p → v ≡ the (run o b (count 1 4096) p .shown) → m ≡ placeIn (run o b (count 1 4096) p .ended)

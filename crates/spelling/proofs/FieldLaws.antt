@@ -20,7 +20,7 @@ use Rattle.format.specs.WritingItems.{dig, single, writeItem, spellUB, undo, un
 use Rattle.format.specs.WritingFormats.{unrun}
 use Rattle.table.specs.Fields.{allows, fieldOf, signed, announces, announced}
 use Rattle.table.specs.declared.fields.Field.{Field}
-use Rattle.table.specs.declared.fields.Field.the-variants.{Verb, Interpolation, Bit, ByteValue, Coordinate}
+use Rattle.table.specs.declared.fields.Field.the-variants.{Verb, Interpolation, SpatialFlag, Plain, ByteValue, Coordinate}
 use Rattle.format.proofs.BitLaws.{length-dig}
 use Rattle.format.proofs.Absurd.{clash}
 use Rattle.sink.specs.Laying.{State, at, lay, Holds}
@@ -101,7 +101,8 @@ module _ (o : Order) (w v m h u : ℕ) (low : 1 ≤ w) (few : w ≤ 32) (is : m 
 abbrev fieldSpelling : Order → Field → ℕ → ℕ → Possible (List Bool)
 fieldSpelling o Verb w v = spellUB o w v
 fieldSpelling o Interpolation w v = spellUB o w v
-fieldSpelling o Bit w v = spellUB o w v
+fieldSpelling o SpatialFlag w v = spellUB o w v
+fieldSpelling o Plain w v = spellUB o w v
 fieldSpelling o ByteValue w v = spellUB o w v
 fieldSpelling o Coordinate w v = undo (signExtend w) (unextend w) (spellUB o w) v
 
@@ -112,7 +113,8 @@ pub field-is : (o : Order) (f : Field) (w : ℕ) (ns : List ℕ) (p : ℕ) → u
 unfolding unrun writeItem fieldBits
 field-is o Verb w ns p = refl
 field-is o Interpolation w ns p = passing-single (λ ns. ltb 0 (the ns)) (spellUB o w) ns
-field-is o Bit w ns p = refl
+field-is o SpatialFlag w ns p = refl
+field-is o Plain w ns p = refl
 field-is o ByteValue w ns p = passing-single (λ ns. leb (the ns) 255) (spellUB o w) ns
 field-is o Coordinate w ns p = refl
 
@@ -123,7 +125,8 @@ field-sb o w p v e = e
 unsigned-is : (o : Order) (f : Field) (w v : ℕ) → signed f ≡ false → fieldSpelling o f w v ≡ spellUB o w v
 unsigned-is o Verb w v h = refl
 unsigned-is o Interpolation w v h = refl
-unsigned-is o Bit w v h = refl
+unsigned-is o SpatialFlag w v h = refl
+unsigned-is o Plain w v h = refl
 unsigned-is o ByteValue w v h = refl
 unsigned-is o Coordinate w v h = clash cc
 
@@ -238,7 +241,8 @@ pub signed-run : (o : Order) (f : Field) (w : ℕ) (t : List ℕ) (st : State) (
     → (seen u R ≡ ran o t st k (times n (fieldOf f w))) × Announces f t k n R 0
 signed-run o Verb w t st k n u R h e = clash cc
 signed-run o Interpolation w t st k n u R h e = clash cc
-signed-run o Bit w t st k n u R h e = clash cc
+signed-run o SpatialFlag w t st k n u R h e = clash cc
+signed-run o Plain w t st k n u R h e = clash cc
 signed-run o ByteValue w t st k n u R h e = clash cc
 signed-run o Coordinate w t st k n u R h e = (e, signed-announces t k n R)
 

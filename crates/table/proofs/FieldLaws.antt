@@ -14,7 +14,7 @@ use Rattle.format.specs.Bits.{Order, ub}
 use Rattle.format.specs.Reading.{At, Fault, Reading, shows, stop}
 use Rattle.format.specs.Formats.{Item, item, only, times, the}
 use Rattle.format.specs.Items.{Num, num, bad, mapNum, showNum, readUB, readWidth, readItem, signExtend, judge, run, coordinatesOf, coordinates}
-use Rattle.format.specs.Bodies.{beziers}
+use Rattle.format.specs.Bodies.{howMany}
 use Rattle.format.proofs.SizeLaws.{Fair, FairReading, fair-item, fair-only}
 use Rattle.format.proofs.WalkLaws.{run-le}
 use Rattle.bits.proofs.FieldLaws.{IsField, map-got, ub-in, ub-past}
@@ -25,7 +25,7 @@ use Rattle.bits.specs.declared.Got.the-variants.{Value, Fault as GotFault}
 use Rattle.table.specs.State.{State, shownOver}
 use Rattle.table.specs.Fields.{Fits, allows, judgeNum, fieldOf, signed, announces, announced, weights}
 use Rattle.table.specs.declared.fields.Field.{Field}
-use Rattle.table.specs.declared.fields.Field.the-variants.{Verb, Interpolation, Bit, ByteValue, Coordinate}
+use Rattle.table.specs.declared.fields.Field.the-variants.{Verb, Interpolation, SpatialFlag, Plain, ByteValue, Coordinate}
 use Rattle.table.proofs.StoringLaws.{Storing, storing-start, storing-next, storing-done}
 use Rattle.table.proofs.EngineLaws.{state, state-eq, after-one, after-stop, times-none, times-next, times-stop}
 
@@ -35,7 +35,8 @@ use Rattle.table.proofs.EngineLaws.{state, state-eq, after-one, after-s
 abbrev fieldBy : ℕ → Field → Num → Reading
 fieldBy w Verb n = showNum n
 fieldBy w Interpolation n = judge (λ ns. allows Interpolation (the ns)) 16 (showNum n .shown) (showNum n .ended)
-fieldBy w Bit n = showNum n
+fieldBy w SpatialFlag n = showNum n
+fieldBy w Plain n = showNum n
 fieldBy w ByteValue n = judge (λ ns. allows ByteValue (the ns)) 16 (showNum n .shown) (showNum n .ended)
 fieldBy w Coordinate n = showNum (mapNum (signExtend w) n)
 
@@ -43,7 +44,8 @@ field-by : (o : Order) (kind : Field) (b : List ℕ) (p w : ℕ) → fieldBy w k
 unfolding run readItem
 field-by o Verb b p w = refl
 field-by o Interpolation b p w = refl
-field-by o Bit b p w = refl
+field-by o SpatialFlag b p w = refl
+field-by o Plain b p w = refl
 field-by o ByteValue b p w = refl
 field-by o Coordinate b p w = refl
 
@@ -60,8 +62,10 @@ field-is o kind b p w = go kind (readUB o b p w) ∙ field-by o kind b p w
     go Verb (bad e) = refl
     go Interpolation (num v q) = test (allows Interpolation v) v q
     go Interpolation (bad e) = refl
-    go Bit (num v q) = refl
-    go Bit (bad e) = refl
+    go SpatialFlag (num v q) = refl
+    go SpatialFlag (bad e) = refl
+    go Plain (num v q) = refl
+    go Plain (bad e) = refl
     go ByteValue (num v q) = test (allows ByteValue v) v q
     go ByteValue (bad e) = refl
     go Coordinate (num v q) = refl
@@ -119,7 +123,10 @@ weighed Interpolation zero = refl
 weighed Interpolation (suc zero) = refl
 weighed Interpolation (suc (suc zero)) = refl
 weighed Interpolation (suc (suc (suc v))) = zero-at 5 v ∙ sym (ap (λ (c : Bool). pick c 4 0) (ne-eqb (suc (suc (suc v))) 2 (λ e. omega arith)))
-weighed Bit v = zero-at 8 v
+weighed SpatialFlag zero = refl
+weighed SpatialFlag (suc zero) = refl
+weighed SpatialFlag (suc (suc v)) = zero-at 6 v ∙ sym (ap (λ (c : Bool). pick c 2 0) (ne-eqb (suc (suc v)) 1 (λ e. omega arith)))
+weighed Plain v = zero-at 8 v
 weighed ByteValue v = zero-at 8 v
 weighed Coordinate v = zero-at 8 v
 
@@ -139,7 +146,8 @@ zeros-few (suc n) = (omega arith, zeros-few n)
 weights-few : (kind : Field) → All6 (weights kind)
 weights-few Verb = (omega arith, (omega arith, (omega arith, (omega arith, (omega arith, (omega arith, (omega arith, (omega arith, tt))))))))
 weights-few Interpolation = (omega arith, (omega arith, (omega arith, zeros-few 5)))
-weights-few Bit = zeros-few 8
+weights-few SpatialFlag = (omega arith, (omega arith, zeros-few 6))
+weights-few Plain = zeros-few 8
 weights-few ByteValue = zeros-few 8
 weights-few Coordinate = zeros-few 8
 
@@ -153,13 +161,20 @@ pub announced-verbs : (vs : List ℕ) → announced Verb vs ≡ coordinates vs
 announced-verbs [] = refl
 announced-verbs (v ∷ vs) = ap (λ (n : ℕ). coordinatesOf v + n) (announced-verbs vs)
 
-pub announced-frames : (vs : List ℕ) → announced Interpolation vs ≡ beziers vs * 4
-announced-frames [] = refl
-announced-frames (v ∷ vs) = go (eqb v 2) (announced-frames vs)
+-- fields whose one number v announces c others
+announced-by : (kind : Field) (v c : ℕ) → ((x : ℕ) → announces kind x ≡ pick (eqb x v) c 0) → (xs : List ℕ) → announced kind xs ≡ howMany v xs * c
+announced-by kind v c h [] = omega arith
+announced-by kind v c h (x ∷ xs) = rw (h x, announced-by kind v c h xs) (go (eqb x v))
   where
-    go : (c : Bool) → announced Interpolation vs ≡ beziers vs * 4 → pick c 4 0 + announced Interpolation vs ≡ pick c (suc (beziers vs)) (beziers vs) * 4
-    go true h = omega arith
-    go false h = omega arith
+    go : (t : Bool) → pick t c 0 + howMany v xs * c ≡ pick t (suc (howMany v xs)) (howMany v xs) * c
+    go true = omega (arith, suc-mul (howMany v xs) c)
+    go false = omega arith
+
+pub announced-frames : (vs : List ℕ) → announced Interpolation vs ≡ howMany 2 vs * 4
+announced-frames vs = announced-by Interpolation 2 4 (λ x. refl) vs
+
+pub announced-points : (vs : List ℕ) → announced SpatialFlag vs ≡ howMany 1 vs * 2
+announced-points vs = announced-by SpatialFlag 1 2 (λ x. refl) vs
 
 -- ---- a run of fields, step by step
 
@@ -167,7 +182,8 @@ announced-frames (v ∷ vs) = go (eqb v 2) (announced-frames vs)
 pub fair-field : (o : Order) (kind : Field) (w : ℕ) → 1 ≤ w → Fair o 0 (fieldOf kind w)
 fair-field o Verb w h = fair-item o (Item.UB w) h
 fair-field o Interpolation w h = fair-only o 0 (λ ns. allows Interpolation (the ns)) 16 (item (Item.UB w)) (fair-item o (Item.UB w) h)
-fair-field o Bit w h = fair-item o (Item.UB w) h
+fair-field o SpatialFlag w h = fair-item o (Item.UB w) h
+fair-field o Plain w h = fair-item o (Item.UB w) h
 fair-field o ByteValue w h = fair-only o 0 (λ ns. allows ByteValue (the ns)) 16 (item (Item.UB w)) (fair-item o (Item.UB w) h)
 fair-field o Coordinate w h = fair-item o (Item.SB w) h
 
@@ -294,6 +310,7 @@ module _ (o : Order) (w : ℕ) (s t₀ : List ℕ) (k n p₀ : ℕ) where
 pub signed-run : (o : Order) (kind : Field) (w n : ℕ) (s t : List ℕ) (k p : ℕ) {x : State} → signed kind ≡ true → x ≡ shownOver t k (run o s (times n (fieldOf Coordinate w)) p) → x ≡ shownOver t k (run o s (times n (fieldOf kind w)) p)
 signed-run o Verb w n s t k p h e = cc
 signed-run o Interpolation w n s t k p h e = cc
-signed-run o Bit w n s t k p h e = cc
+signed-run o SpatialFlag w n s t k p h e = cc
+signed-run o Plain w n s t k p h e = cc
 signed-run o ByteValue w n s t k p h e = cc
 signed-run o Coordinate w n s t k p h e = e

@@ -8,13 +8,14 @@ use Rattle.format.specs.Formats.{Item, Format, item, only, the}
 use Rattle.format.specs.Items.{Num, num, bad, byVerb, coordinatesOf}
 use Rattle.bits.specs.Places.{PlaceIn}
 use Rattle.table.specs.declared.fields.Field.{Field}
-use Rattle.table.specs.declared.fields.Field.the-variants.{Verb, Interpolation, Bit, ByteValue, Coordinate}
+use Rattle.table.specs.declared.fields.Field.the-variants.{Verb, Interpolation, SpatialFlag, Plain, ByteValue, Coordinate}
 
 -- what a field's number may be: an interpolation is not 0, and a byte value at most 255
 abbrev pub allows : Field → ℕ → Bool
 allows Verb v = true
 allows Interpolation v = ltb 0 v
-allows Bit v = true
+allows SpatialFlag v = true
+allows Plain v = true
 allows ByteValue v = leb v 255
 allows Coordinate v = true
 
@@ -26,7 +27,8 @@ judgeNum f (bad e) = bad e
 abbrev pub fieldOf : Field → ℕ → Format
 fieldOf Verb w = item (Item.UB w)
 fieldOf Interpolation w = only (λ ns. ltb 0 (the ns)) 16 (item (Item.UB w))
-fieldOf Bit w = item (Item.UB w)
+fieldOf SpatialFlag w = item (Item.UB w)
+fieldOf Plain w = item (Item.UB w)
 fieldOf ByteValue w = only (λ ns. leb (the ns) 255) 16 (item (Item.UB w))
 fieldOf Coordinate w = item (Item.SB w)
 
@@ -34,15 +36,17 @@ fieldOf Coordinate w = item (Item.SB w)
 abbrev pub signed : Field → Bool
 signed Verb = false
 signed Interpolation = false
-signed Bit = false
+signed SpatialFlag = false
+signed Plain = false
 signed ByteValue = false
 signed Coordinate = true
 
--- how many signed fields a field of this kind and value announces: a verb its coordinates, a Bezier frame four
+-- how many signed fields a field of this kind and value announces: a verb its coordinates, a Bezier frame four, a set spatial flag two
 abbrev pub announces : Field → ℕ → ℕ
 announces Verb v = coordinatesOf v
 announces Interpolation v = pick (eqb v 2) 4 0
-announces Bit v = 0
+announces SpatialFlag v = pick (eqb v 1) 2 0
+announces Plain v = 0
 announces ByteValue v = 0
 announces Coordinate v = 0
 
@@ -54,7 +58,8 @@ announced f (v ∷ vs) = announces f v + announced f vs
 abbrev pub weights : Field → List ℕ
 weights Verb = byVerb
 weights Interpolation = 0 ∷ 0 ∷ 4 ∷ 0 ∷ 0 ∷ 0 ∷ 0 ∷ 0 ∷ []
-weights Bit = 0 ∷ 0 ∷ 0 ∷ 0 ∷ 0 ∷ 0 ∷ 0 ∷ 0 ∷ []
+weights SpatialFlag = 0 ∷ 2 ∷ 0 ∷ 0 ∷ 0 ∷ 0 ∷ 0 ∷ 0 ∷ []
+weights Plain = 0 ∷ 0 ∷ 0 ∷ 0 ∷ 0 ∷ 0 ∷ 0 ∷ 0 ∷ []
 weights ByteValue = 0 ∷ 0 ∷ 0 ∷ 0 ∷ 0 ∷ 0 ∷ 0 ∷ 0 ∷ []
 weights Coordinate = 0 ∷ 0 ∷ 0 ∷ 0 ∷ 0 ∷ 0 ∷ 0 ∷ 0 ∷ []
 

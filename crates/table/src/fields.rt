@@ -1,4 +1,4 @@
-// Runs of bit fields: verbs, coordinates, interpolations, keyframed Bools and bytes, easing.
+// Runs of bit fields: verbs, coordinates, interpolations, keyframed Bools, bytes and Points, easing, spatial flags.
 ghost use mathlib.Core.Path.{_≡_};
 ghost use Prim.Native.Nat.{_*_, _≤_, _<_, _^_};
 ghost use lib.ListN.{getD};
@@ -17,10 +17,12 @@ use bits::BitPlace;
 use bits::Got;
 use bits::Order;
 
+// A plain one is a keyframed Bool, or an x or y of a Spatial Point.
 pub enum Field {
     Verb,
     Interpolation,
-    Bit,
+    SpatialFlag,
+    Plain,
     ByteValue,
     Coordinate,
 }
@@ -31,14 +33,15 @@ pub struct Announced {
     pub count: usize,
 }
 
-// What the numbers 0 to 7 announce in a field of this kind: a verb its coordinates, a Bezier frame four easing numbers.
+// What the numbers 0 to 7 announce in a field of this kind: a verb its coordinates, a Bezier frame four easing numbers, a set spatial flag a Point.
 pub fn weights_of(kind: Field) -> [usize; 8]
     ensures { λ r. ⌜ r ≡ weights kind ⌝ }
 {
     match kind {
         Field::Verb => [0, 2, 2, 1, 1, 4, 4, 6],
         Field::Interpolation => [0, 0, 4, 0, 0, 0, 0, 0],
-        Field::Bit => [0; 8],
+        Field::SpatialFlag => [0, 2, 0, 0, 0, 0, 0, 0],
+        Field::Plain => [0; 8],
         Field::ByteValue => [0; 8],
         Field::Coordinate => [0; 8],
     }
@@ -63,7 +66,8 @@ pub fn allowed(kind: Field, value: u64) -> bool
         Field::Interpolation => 0 < value,
         Field::ByteValue => value <= 255,
         Field::Verb => true,
-        Field::Bit => true,
+        Field::SpatialFlag => true,
+        Field::Plain => true,
         Field::Coordinate => true,
     }
 }
@@ -75,7 +79,8 @@ pub fn is_signed(kind: Field) -> bool
     match kind {
         Field::Verb => false,
         Field::Interpolation => false,
-        Field::Bit => false,
+        Field::SpatialFlag => false,
+        Field::Plain => false,
         Field::ByteValue => false,
         Field::Coordinate => true,
     }

@@ -1,96 +1,117 @@
--- Paths, values and keyframed content: the formats of their parts, and what a `match` tells.
+-- Values and keyframed content: the formats of their parts, and what a `match` tells.
 use Prim.Native.Nat.{ℕ, suc, _+_, _*_, _≤_}
+use mathlib.Core.Bool.{true, false}
 use mathlib.Core.List.{List, []}
-use mathlib.Core.Path.{_≡_, ap, sym, subst, _∙_}
+use mathlib.Core.Path.{_≡_, ap, ap₂, sym, _∙_}
+use native.Mathlib.Nat.{mul-le-mul}
 use native.Mathlib.Numerals.{add-one}
 use native.Mathlib.Omega.{arith}
+use borrow.Author.Tests.{eq-eqb, ne-eqb}
+use Rattle.format.specs.Tests.{pick}
 use Rattle.format.specs.Bits.{Order}
 use Rattle.format.specs.Reading.{At, Fault, shows, stop}
-use Rattle.format.specs.Formats.{Item, Format, nothing, item, _▸_, times, the}
-use Rattle.format.specs.Items.{run, time, coordinates}
+use Rattle.format.specs.Formats.{Item, Format, nothing, item, _▹_, _▸_, times}
+use Rattle.format.specs.Items.{run, time, scaled, coordinates}
 use Rattle.format.specs.Bodies as bodies
-use Rattle.format.specs.Bodies.{value, values, interpolations, beziers, aligned}
-use Rattle.format.proofs.SizeLaws.{Fair, fair-item, fair-seq, fair-times, fair-value, fair-values, fair-interpolations}
+use Rattle.format.specs.Bodies.{value, values, interpolations, howMany, curves, aligned, spatial, hasSpatial}
+use Rattle.format.proofs.SizeLaws.{Fair, fair-times, fair-aligned, fair-value, fair-values, fair-interpolations}
 use Rattle.table.specs.State.{State, shownOver}
 use Rattle.table.specs.Fields.{fieldOf, announced}
-use Rattle.table.specs.declared.fields.Field.the-variants.{Verb, Interpolation}
-use Rattle.table.proofs.EngineLaws.{state, after-none, none-then, never-then, then-never, alike-assoc, alike-after}
-use Rattle.table.proofs.FieldLaws.{announced-verbs, announced-frames}
-use Rattle.attributes.specs.Rows.{kindOf, typeOf}
+use Rattle.table.specs.declared.fields.Field.the-variants.{Verb, Interpolation, SpatialFlag}
+use Rattle.table.proofs.EngineLaws.{Alike, state, after-none, none-then, never-then, then-never, alike-assoc, alike-after}
+use Rattle.table.proofs.FieldLaws.{announced-verbs, announced-frames, announced-points}
+use Rattle.attributes.specs.Contents.{interpolated, layoutBy, valuesBy}
+use Rattle.attributes.specs.Rows.{typeOf}
 use Rattle.attributes.specs.declared.DataType.{DataType}
-use Rattle.attributes.specs.declared.Kind.{Kind}
-use Rattle.values.specs.Parts.{scaled, framesOf}
+use Rattle.attributes.specs.declared.Layout.{Layout}
+use Rattle.attributes.proofs.ContentLaws.{interpolations-some, interpolations-none, values-told}
+use Rattle.values.specs.Parts.{announcing, framesOf}
 
 -- ---- what a `match` tells
 pub value-of : (o : Order) (b t : List ℕ) (k p : ℕ) {what : DataType} {x : State} (told : DataType) → what ≡ told → x ≡ shownOver t k (run o b (value (typeOf told)) p)
     → x ≡ shownOver t k (run o b (value (typeOf what)) p)
 value-of o b t k p told e f = f ∙ ap (λ (z : DataType). shownOver t k (run o b (value (typeOf z)) p)) (sym e)
 
-pub values-of : (o : Order) (b t : List ℕ) (k n p : ℕ) {what : DataType} {x : State} (told : DataType) → what ≡ told → x ≡ shownOver t k (run o b (values (typeOf told) n) p)
-    → x ≡ shownOver t k (run o b (values (typeOf what) n) p)
-values-of o b t k n p told e f = f ∙ ap (λ (z : DataType). shownOver t k (run o b (values (typeOf z) n) p)) (sym e)
+pub values-of : (o : Order) (b t : List ℕ) (k n p : ℕ) (kind : bodies.Kind) (d : bodies.DataType) {y : Layout} {x : State} (told : Layout) → y ≡ layoutBy kind d → y ≡ told
+    → x ≡ shownOver t k (run o b (valuesBy d n told) p) → x ≡ shownOver t k (run o b (values kind d n) p)
+values-of o b t k n p kind d told e h f = f ∙ ap (λ (g : Format). shownOver t k (run o b g p)) (sym (values-told kind d n told e h))
 
--- ---- a path: its coordinates are those that its verbs announce
-pub coordinates-of : (o : Order) (b t : List ℕ) (k n p q : ℕ) {m : ℕ} {x : State} → m ≡ announced Verb (run o b (times n (item (Item.UB 3))) p .shown)
-    → x ≡ shownOver t k (run o b (scaled m) q) → x ≡ shownOver t k (run o b (scaled (coordinates (run o b (times n (item (Item.UB 3))) p .shown))) q)
-coordinates-of o b t k n p q e f = f ∙ ap (λ (m : ℕ). shownOver t k (run o b (scaled m) q)) (e ∙ announced-verbs (run o b (times n (item (Item.UB 3))) p .shown))
+-- ---- fields that announce others
+pub announced-of : (o : Order) (b t : List ℕ) (k q : ℕ) {m n : ℕ} {x : State} → m ≡ n → x ≡ shownOver t k (run o b (scaled m) q) → x ≡ shownOver t k (run o b (scaled n) q)
+announced-of o b t k q e f = f ∙ ap (λ (m : ℕ). shownOver t k (run o b (scaled m) q)) e
 
--- ---- values in turn
-pub in-turn-of : (o : Order) (b t : List ℕ) (k n p : ℕ) {what : DataType} {x : State} (told : DataType) → values (typeOf told) n ≡ times n (value (typeOf told)) → what ≡ told
-    → x ≡ shownOver t k (run o b (times n (value (typeOf what))) p) → x ≡ shownOver t k (run o b (values (typeOf what) n) p)
-in-turn-of o b t k n p told same e f =
-    values-of o b t k n p told e (f ∙ ap (λ (z : DataType). shownOver t k (run o b (times n (value (typeOf z))) p)) e ∙ ap (λ (g : Format). shownOver t k (run o b g p)) (sym same))
+-- a path after its count of n verbs; the sixth part after its skip
+pub path-is : (n : ℕ) → announcing Verb 3 n ≡ times n (item (Item.UB 3)) ▹ (λ verbs. scaled (coordinates verbs))
+path-is n = λ i. times n (item (Item.UB 3)) ▹ λ verbs. scaled (announced-verbs verbs i)
 
--- ---- the interpolations of n frames: what they leave, and the easing that they announce
-module _ (o : Order) (b t : List ℕ) (k n p : ℕ) where
-  abbrev pub Announces : bodies.Kind → State → ℕ → Type 0
-  Announces kind x m = (x ≡ shownOver t k (run o b (aligned ▸ interpolations kind n) p)) × ((m ≡ beziers (run o b (aligned ▸ interpolations kind n) p .shown) * 4) × (m ≤ 6 * n))
+pub path-of : (o : Order) (b t : List ℕ) (k n p : ℕ) {x : State} → x ≡ shownOver t k (run o b (announcing Verb 3 n) p)
+    → x ≡ shownOver t k (run o b (times n (item (Item.UB 3)) ▹ λ verbs. scaled (coordinates verbs)) p)
+path-of o b t k n p e = e ∙ ap (λ (g : Format). shownOver t k (run o b g p)) (path-is n)
 
-  pub frames-of : {kind : Kind} {x : State} {m : ℕ} (told : Kind) → kind ≡ told → Announces (kindOf told) x m → Announces (kindOf kind) x m
-  frames-of {kind} {x} {m} told e h = subst (λ (z : Kind). Announces (kindOf z) x m) (sym e) h
+pub spatial-is : (n : ℕ) → aligned ▸ announcing SpatialFlag 1 (n * 2) ≡ spatial n
+spatial-is n = λ i. aligned ▸ times (n * 2) (item (Item.UB 1)) ▹ λ flags. scaled (announced-points flags i)
+
+-- hasSpatial is not set, or it is
+pub spatial-none : (o : Order) (b t : List ℕ) (k φ n p : ℕ) → (φ ≡ 7 → ⊥) → state t k (At p) ≡ shownOver t k (run o b (pick (hasSpatial φ) (spatial n) nothing) p)
+unfolding run
+spatial-none o b t k φ n p h = rw (ne-eqb φ 7 h) (sym (after-none t k p))
+
+pub spatial-some : (o : Order) (b t : List ℕ) (k φ n p : ℕ) {x : State} → φ ≡ 7 → x ≡ shownOver t k (run o b (aligned ▸ announcing SpatialFlag 1 (n * 2)) p)
+    → x ≡ shownOver t k (run o b (pick (hasSpatial φ) (spatial n) nothing) p)
+spatial-some o b t k φ n p h e = rw (eq-eqb φ 7 h) (e ∙ ap (λ (g : Format). shownOver t k (run o b g p)) (spatial-is n))
+
+-- ---- the interpolations of n frames: what they leave, and how many easing numbers they announce for a curve
+module _ (o : Order) (b t : List ℕ) (k n p : ℕ) (kind : bodies.Kind) where
+  abbrev pub Announces : State → ℕ → Type 0
+  Announces x m = (x ≡ shownOver t k (run o b (aligned ▸ interpolations kind n) p)) × ((m ≡ howMany 2 (run o b (aligned ▸ interpolations kind n) p .shown) * 4) × (m ≤ 6 * n))
 
   -- a skipped bit is not zero
-  pub frames-never : (kind : bodies.Kind) → run o b aligned p ≡ stop 15 → Announces kind (state t k (Fault 15)) 0
-  frames-never kind e = (then-never o b t k aligned (λ xs. interpolations kind n) p e, (rw (never-then o b aligned (λ xs. interpolations kind n) p 15 e), omega arith))
+  pub frames-never : run o b aligned p ≡ stop 15 → Announces (state t k (Fault 15)) 0
+  frames-never e = (then-never o b t k aligned (λ xs. interpolations kind n) p e, (rw (never-then o b aligned (λ xs. interpolations kind n) p 15 e), omega arith))
 
   -- a kind that has none
-  pub frames-none : {kind told : Kind} {q : ℕ} → kind ≡ told → interpolations (kindOf told) n ≡ nothing → run o b aligned p ≡ shows [] q → Announces (kindOf kind) (state t k (At q)) 0
+  pub frames-none : {q : ℕ} → false ≡ interpolated kind → run o b aligned p ≡ shows [] q → Announces (state t k (At q)) 0
   unfolding run
-  frames-none {told = told} {q} is none e =
-      let f : run o b (aligned ▸ interpolations (kindOf told) n) p ≡ shows [] q =
-      none-then o b aligned (λ xs. interpolations (kindOf told) n) p q e ∙ ap (λ (g : Format). run o b g q) none in
-      frames-of told is (rw f (sym (after-none t k q)), (rw f, omega arith))
+  frames-none {q} none e =
+      let f : run o b (aligned ▸ interpolations kind n) p ≡ shows [] q =
+      none-then o b aligned (λ xs. interpolations kind n) p q e ∙ ap (λ (g : Format). run o b g q) (interpolations-none kind n none) in
+      (rw f (sym (after-none t k q)), (rw f, omega arith))
 
   -- they are fields of two bits
-  pub frames-some : {q m : ℕ} {x : State} → run o b aligned p ≡ shows [] q → x ≡ shownOver t k (run o b (times n (fieldOf Interpolation 2)) q)
-      → (m ≡ announced Interpolation (run o b (times n (fieldOf Interpolation 2)) q .shown)) × (m ≤ 6 * n) → Announces bodies.Simple x m
-  frames-some {q} e f g =
-      let h : run o b (aligned ▸ interpolations bodies.Simple n) p ≡ run o b (times n (fieldOf Interpolation 2)) q = none-then o b aligned (λ xs. interpolations bodies.Simple n) p q e in
+  pub frames-some : {q m : ℕ} {x : State} → true ≡ interpolated kind → run o b aligned p ≡ shows [] q → x ≡ shownOver t k (run o b (times n (fieldOf Interpolation 2)) q)
+      → (m ≡ announced Interpolation (run o b (times n (fieldOf Interpolation 2)) q .shown)) × (m ≤ 6 * n) → Announces x m
+  frames-some {q} some e f g =
+      let h : run o b (aligned ▸ interpolations kind n) p ≡ run o b (times n (fieldOf Interpolation 2)) q =
+      none-then o b aligned (λ xs. interpolations kind n) p q e ∙ ap (λ (g : Format). run o b g q) (interpolations-some kind n some) in
       (rw h f, (rw h (g .0 ∙ announced-frames (run o b (times n (fieldOf Interpolation 2)) q .shown)), g .1))
 
 -- ---- the parts of keyframed content
-
-fair-aligned : (o : Order) → Fair o 0 aligned
-fair-aligned o = fair-item o Item.align tt
-
-pub fair-part : (o : Order) (d : bodies.DataType) (n : ℕ) → Fair o 0 (aligned ▸ values d n)
-fair-part o d n = fair-seq o aligned (values d n) (fair-aligned o) (fair-values o d n)
+pub fair-part : (o : Order) (kind : bodies.Kind) (d : bodies.DataType) (n : ℕ) → Fair o 0 (aligned ▸ values kind d n)
+fair-part o kind d n = fair-aligned o (values kind d n) (fair-values o kind d n)
 
 pub fair-times-of : (o : Order) (n : ℕ) → Fair o 0 (times n time)
 fair-times-of o n = fair-times o n time (fair-value o bodies.Times)
 
 pub fair-frames : (o : Order) (kind : bodies.Kind) (n : ℕ) → Fair o 0 (aligned ▸ interpolations kind n)
-fair-frames o kind n = fair-seq o aligned (interpolations kind n) (fair-aligned o) (fair-interpolations o kind n)
+fair-frames o kind n = fair-aligned o (interpolations kind n) (fair-interpolations o kind n)
 
--- the code counts n + 1, and reads the values with the skip before them
-pub frames-is : (o : Order) (d : bodies.DataType) (b t : List ℕ) (k n m p : ℕ) {x : State}
-    → x ≡ shownOver t k (run o b (times (n + 1) time ▸ (aligned ▸ values d (n + 1)) ▸ (aligned ▸ scaled m)) p) → x ≡ shownOver t k (run o b (framesOf d n m) p)
-frames-is o d b t k n m p e =
-    let f : times (n + 1) time ▸ (aligned ▸ values d (n + 1)) ▸ (aligned ▸ scaled m) ≡ times (suc n) time ▸ (aligned ▸ values d (suc n)) ▸ (aligned ▸ scaled m) =
-    ap (λ (i : ℕ). times i time ▸ (aligned ▸ values d i) ▸ (aligned ▸ scaled m)) (add-one n) in
-    e ∙ ap (λ (g : Format). shownOver t k (run o b g p)) f
-    ∙ ap (shownOver t k) (alike-after (times (suc n) time) _ _ (alike-assoc aligned (values d (suc n)) (aligned ▸ scaled m)) o b p)
+-- the parts as the code reads them, each with the skip before it
+pub alike-parts : (f g h e : Format) → Alike (f ▸ (aligned ▸ g) ▸ ((aligned ▸ h) ▸ e)) (f ▸ aligned ▸ g ▸ aligned ▸ h ▸ e)
+alike-parts f g h e =
+    alike-after f _ _ (λ o b p. alike-assoc aligned g ((aligned ▸ h) ▸ e) o b p ∙ alike-after aligned _ _ (alike-after g _ _ (alike-assoc aligned h e)) o b p)
 
-pub easing-of : (o : Order) (d : bodies.DataType) (kind : bodies.Kind) (b t : List ℕ) (k n p q : ℕ) {m : ℕ} {x : State} → m ≡ beziers (run o b (aligned ▸ interpolations kind n) p .shown) * 4
-    → x ≡ shownOver t k (run o b (framesOf d n m) q) → x ≡ shownOver t k (run o b (framesOf d n (beziers (run o b (aligned ▸ interpolations kind n) p .shown) * 4)) q)
-easing-of o d kind b t k n p q e f = f ∙ ap (λ (m : ℕ). shownOver t k (run o b (framesOf d n m) q)) e
+-- the code counts n + 1
+pub frames-is : (o : Order) (kind : bodies.Kind) (d : bodies.DataType) (φ : ℕ) (b t : List ℕ) (k n m p : ℕ) {x : State}
+    → x ≡ shownOver t k (run o b (times (n + 1) time ▸ (aligned ▸ values kind d (n + 1)) ▸ ((aligned ▸ scaled m) ▸ pick (hasSpatial φ) (spatial n) nothing)) p)
+    → x ≡ shownOver t k (run o b (framesOf kind d φ n m) p)
+frames-is o kind d φ b t k n m p e =
+    e ∙ ap (λ (i : ℕ). shownOver t k (run o b (times i time ▸ (aligned ▸ values kind d i) ▸ ((aligned ▸ scaled m) ▸ pick (hasSpatial φ) (spatial n) nothing)) p)) (add-one n)
+    ∙ ap (shownOver t k) (alike-parts (times (suc n) time) (values kind d (suc n)) (scaled m) (pick (hasSpatial φ) (spatial n) nothing) o b p)
+
+pub easing-of : (o : Order) (kind : bodies.Kind) (d : bodies.DataType) (φ : ℕ) (b t : List ℕ) (k n q : ℕ) {m c z w : ℕ} {x : State} → m ≡ w → c ≡ curves kind d → z ≡ m * c
+    → x ≡ shownOver t k (run o b (framesOf kind d φ n z) q) → x ≡ shownOver t k (run o b (framesOf kind d φ n (w * curves kind d)) q)
+easing-of o kind d φ b t k n q e f g h = h ∙ ap (λ (z : ℕ). shownOver t k (run o b (framesOf kind d φ n z) q)) (g ∙ ap₂ (λ (x y : ℕ). x * y) e f)
+
+-- the easing numbers of n frames are few
+pub easing-small : {m c : ℕ} (n : ℕ) → m ≤ 6 * n → c ≤ 2 → n ≤ 4096 → m * c ≤ 49152
+easing-small {m} {c} n h l e = let f : m * c ≤ 24576 * 2 = mul-le-mul {n₂ = 24576} (omega arith) l in omega (arith, f)

@@ -1,22 +1,21 @@
--- Parts of document 01's formats that functions of their own read: what stands after a path's count, and the parts of keyframed content.
+-- Parts of the formats that functions of their own read: fields that announce others, and the parts of keyframed content.
 use Prim.Native.Nat.{ℕ, suc, _*_}
-use Rattle.format.specs.Formats.{Item, Format, item, _▹_, _▸_, times, the}
-use Rattle.format.specs.Items.{coordinates, time}
+use Rattle.format.specs.Tests.{pick}
+use Rattle.format.specs.Formats.{Format, nothing, _▹_, _▸_, times}
+use Rattle.format.specs.Items.{scaled, time}
 use Rattle.format.specs.Bodies as bodies
-use Rattle.format.specs.Bodies.{values, interpolations, beziers, aligned}
+use Rattle.format.specs.Bodies.{values, interpolations, howMany, curves, aligned, spatial, hasSpatial}
+use Rattle.table.specs.Fields.{fieldOf, announced}
+use Rattle.table.specs.declared.fields.Field.{Field}
 
--- a width, and n signed fields of it
-abbrev pub scaled : ℕ → Format
-scaled n = item Item.width ▹ λ w. times n (item (Item.SB (the w)))
+-- n fields of w bits; then a width, and as many signed fields of it as they announce
+abbrev pub announcing : Field → ℕ → ℕ → Format
+announcing f w n = times n (fieldOf f w) ▹ λ xs. scaled (announced f xs)
 
--- a path after its count of n verbs
-abbrev pub pathOf : ℕ → Format
-pathOf n = times n (item (Item.UB 3)) ▹ λ verbs. scaled (coordinates verbs)
-
--- n + 1 times, n + 1 values, and the easing, m signed fields
-abbrev pub framesOf : bodies.DataType → ℕ → ℕ → Format
-framesOf d n m = times (suc n) time ▸ aligned ▸ values d (suc n) ▸ aligned ▸ scaled m
+-- n + 1 times, n + 1 values, the easing, m signed fields, and the spatial part
+abbrev pub framesOf : bodies.Kind → bodies.DataType → ℕ → ℕ → ℕ → Format
+framesOf k d φ n m = times (suc n) time ▸ aligned ▸ values k d (suc n) ▸ aligned ▸ scaled m ▸ pick (hasSpatial φ) (spatial n) nothing
 
 -- keyframed content after its count of n frames
-abbrev pub keyframesOf : bodies.Kind → bodies.DataType → ℕ → Format
-keyframesOf k d n = (aligned ▸ interpolations k n) ▹ λ kinds. framesOf d n (beziers kinds * 4)
+abbrev pub keyframesOf : bodies.Kind → bodies.DataType → ℕ → ℕ → Format
+keyframesOf k d φ n = (aligned ▸ interpolations k n) ▹ λ kinds. framesOf k d φ n (howMany 2 kinds * 4 * curves k d)

@@ -1,17 +1,19 @@
-// Keyframed content: five parts, each starting on a whole byte.
+// Keyframed content: five parts, or six where hasSpatial is set, each starting on a whole byte.
 ghost use mathlib.Core.Path.{_≡_};
 ghost use Prim.Native.Nat.{_*_, _<_, _≤_, _^_};
-ghost use Rattle.format.specs.Formats.{_▸_};
-ghost use Rattle.format.specs.Items.{run};
-ghost use Rattle.format.specs.Bodies.{values as valuesOf, interpolations as interpolationsOf, beziers, aligned, keyframed};
+ghost use Rattle.format.specs.Formats.{nothing, _▸_};
+ghost use Rattle.format.specs.Tests.{pick};
+ghost use Rattle.format.specs.Items.{run, scaled};
+ghost use Rattle.format.specs.Bodies.{values as valuesOf, interpolations as interpolationsOf, howMany, aligned, spatial, hasSpatial, keyframed};
 ghost use Rattle.table.specs.State.{shownOver};
 ghost use Rattle.table.specs.Run.{runLeaves};
 ghost use Rattle.table.specs.Fields.{Fits};
 ghost use Rattle.attributes.specs.Rows.{kindOf, typeOf};
-ghost use Rattle.values.specs.Parts.{scaled, framesOf, keyframesOf};
+ghost use Rattle.values.specs.Parts.{framesOf, keyframesOf};
 ghost use Rattle.bits.specs.Places.{orderOf};
+use crate::read_announcing;
 use crate::read_frame_values;
-use crate::read_in_turn;
+use crate::read_times;
 use attributes::DataType;
 use attributes::Kind;
 use bits::Aligned;
@@ -23,7 +25,7 @@ use table::Run;
 use table::fields::Announced;
 use table::fields::Field;
 
-// The interpolations of n frames, UB[2] each; only Simple attributes have them. A Bezier frame announces four easing numbers.
+// The interpolations of n frames, UB[2] each, if the kind has them. A Bezier frame announces four easing numbers for each of its curves.
 fn read_interpolations(
     order: Order,
     kind: Kind,
@@ -35,7 +37,7 @@ fn read_interpolations(
 ) -> Announced
     requires { ⌜ Fits (now body) (at .0) from × (frames ≤ 4096) ⌝ }
     ensures states { λ r. ⌜ runLeaves (now (table .exit)) (r .run) ≡ shownOver (now (table .entry)) from (run (orderOf order) (now (body .entry)) (aligned ▸ interpolationsOf (kindOf kind) frames) (at .0)) ⌝ }
-    ensures counts { λ r. ⌜ r .count ≡ beziers (run (orderOf order) (now (body .entry)) (aligned ▸ interpolationsOf (kindOf kind) frames) (at .0) .shown) * 4 ⌝ }
+    ensures counts { λ r. ⌜ r .count ≡ howMany 2 (run (orderOf order) (now (body .entry)) (aligned ▸ interpolationsOf (kindOf kind) frames) (at .0) .shown) * 4 ⌝ }
     ensures few { λ r. ⌜ r .count ≤ 6 * frames ⌝ }
 {
     let aligned = bits::align(order, body, at);
@@ -45,8 +47,8 @@ fn read_interpolations(
             count: 0,
         };
     };
-    match kind {
-        Kind::Simple => table::fields::read_fields(
+    if attributes::has_interpolations(kind) {
+        return table::fields::read_fields(
             order,
             Field::Interpolation,
             2,
@@ -55,29 +57,18 @@ fn read_interpolations(
             start,
             table,
             from,
-        ),
-        Kind::Value => Announced {
-            run: Run::Done(start, from),
-            count: 0,
-        },
-        Kind::Fixed => Announced {
-            run: Run::Done(start, from),
-            count: 0,
-        },
-        Kind::BitFlag => Announced {
-            run: Run::Done(start, from),
-            count: 0,
-        },
-        Kind::Discrete => Announced {
-            run: Run::Done(start, from),
-            count: 0,
-        },
+        );
+    }
+    Announced {
+        run: Run::Done(start, from),
+        count: 0,
     }
 }
 
 // The values part.
 fn read_values_part(
     order: Order,
+    kind: Kind,
     what: DataType,
     count: usize,
     body: &[u8],
@@ -85,14 +76,14 @@ fn read_values_part(
     table: &mut [u64],
     from: usize,
 ) -> Run
-    requires { ⌜ Fits (now body) (at .0) from × (count < 2 ^ 32) ⌝ }
-    ensures { λ r. ⌜ runLeaves (now (table .exit)) r ≡ shownOver (now (table .entry)) from (run (orderOf order) (now (body .entry)) (aligned ▸ valuesOf (typeOf what) count) (at .0)) ⌝ }
+    requires { ⌜ Fits (now body) (at .0) from × (count ≤ 4097) ⌝ }
+    ensures { λ r. ⌜ runLeaves (now (table .exit)) r ≡ shownOver (now (table .entry)) from (run (orderOf order) (now (body .entry)) (aligned ▸ valuesOf (kindOf kind) (typeOf what) count) (at .0)) ⌝ }
 {
     let aligned = bits::align(order, body, at);
     let Aligned::Clean(_, start) = aligned else {
         return Run::Stop(15, from);
     };
-    read_frame_values(order, what, count, body, start, table, from)
+    read_frame_values(order, kind, what, count, body, start, table, from)
 }
 
 // The easing part: a width, which stands always, and n signed fields of it.
@@ -114,10 +105,42 @@ fn read_easing(
     table::fields::read_scaled(order, Field::Coordinate, count, body, start, table, from)
 }
 
-// n + 1 times, n + 1 values, and the easing of the Bezier frames.
-fn read_frames(
+// The spatial part, only where hasSpatial is set: two flags for each frame, a width, which stands always, and a Point for each flag that is set.
+fn read_spatial(
     order: Order,
-    what: DataType,
+    flag: u64,
+    frames: usize,
+    body: &[u8],
+    at: BitPlace,
+    table: &mut [u64],
+    from: usize,
+) -> Run
+    requires { ⌜ Fits (now body) (at .0) from × (frames ≤ 4096) ⌝ }
+    ensures { λ r. ⌜ runLeaves (now (table .exit)) r ≡ shownOver (now (table .entry)) from (run (orderOf order) (now (body .entry)) (pick (hasSpatial flag) (spatial frames) nothing) (at .0)) ⌝ }
+{
+    if flag != 7 {
+        return Run::Done(at, from);
+    }
+    let aligned = bits::align(order, body, at);
+    let Aligned::Clean(_, start) = aligned else {
+        return Run::Stop(15, from);
+    };
+    read_announcing(
+        order,
+        Field::SpatialFlag,
+        1,
+        frames * 2,
+        body,
+        start,
+        table,
+        from,
+    )
+}
+
+// The easing of the Bezier frames, and the spatial part.
+fn read_eased(
+    order: Order,
+    flag: u64,
     frames: usize,
     easing: usize,
     body: &[u8],
@@ -126,17 +149,58 @@ fn read_frames(
     from: usize,
 ) -> Run
     requires { ⌜ Fits (now body) (at .0) from × (frames ≤ 4096) × (easing < 2 ^ 32) ⌝ }
-    ensures { λ r. ⌜ runLeaves (now (table .exit)) r ≡ shownOver (now (table .entry)) from (run (orderOf order) (now (body .entry)) (framesOf (typeOf what) frames easing) (at .0)) ⌝ }
+    ensures { λ r. ⌜ runLeaves (now (table .exit)) r ≡ shownOver (now (table .entry)) from (run (orderOf order) (now (body .entry)) ((aligned ▸ scaled easing) ▸ pick (hasSpatial flag) (spatial frames) nothing) (at .0)) ⌝ }
 {
-    let r = read_in_turn(order, DataType::Time, frames + 1, body, at, table, from);
+    let r = read_easing(order, easing, body, at, table, from);
+    let Run::Done(eased, after_easing) = r else {
+        return r;
+    };
+    read_spatial(order, flag, frames, body, eased, table, after_easing)
+}
+
+// n + 1 times, n + 1 values, and what eases them.
+fn read_frames(
+    order: Order,
+    kind: Kind,
+    what: DataType,
+    flag: u64,
+    frames: usize,
+    easing: usize,
+    body: &[u8],
+    at: BitPlace,
+    table: &mut [u64],
+    from: usize,
+) -> Run
+    requires { ⌜ Fits (now body) (at .0) from × (frames ≤ 4096) × (easing < 2 ^ 32) ⌝ }
+    ensures { λ r. ⌜ runLeaves (now (table .exit)) r ≡ shownOver (now (table .entry)) from (run (orderOf order) (now (body .entry)) (framesOf (kindOf kind) (typeOf what) flag frames easing) (at .0)) ⌝ }
+{
+    let r = read_times(order, frames + 1, body, at, table, from);
     let Run::Done(timed, after_times) = r else {
         return r;
     };
-    let r = read_values_part(order, what, frames + 1, body, timed, table, after_times);
+    let r = read_values_part(
+        order,
+        kind,
+        what,
+        frames + 1,
+        body,
+        timed,
+        table,
+        after_times,
+    );
     let Run::Done(valued, after_values) = r else {
         return r;
     };
-    read_easing(order, easing, body, valued, table, after_values)
+    read_eased(
+        order,
+        flag,
+        frames,
+        easing,
+        body,
+        valued,
+        table,
+        after_values,
+    )
 }
 
 // What follows the count of n frames.
@@ -144,6 +208,7 @@ fn read_keyframes(
     order: Order,
     kind: Kind,
     what: DataType,
+    flag: u64,
     frames: usize,
     body: &[u8],
     at: BitPlace,
@@ -151,29 +216,42 @@ fn read_keyframes(
     from: usize,
 ) -> Run
     requires { ⌜ Fits (now body) (at .0) from × (frames ≤ 4096) ⌝ }
-    ensures { λ r. ⌜ runLeaves (now (table .exit)) r ≡ shownOver (now (table .entry)) from (run (orderOf order) (now (body .entry)) (keyframesOf (kindOf kind) (typeOf what) frames) (at .0)) ⌝ }
+    ensures { λ r. ⌜ runLeaves (now (table .exit)) r ≡ shownOver (now (table .entry)) from (run (orderOf order) (now (body .entry)) (keyframesOf (kindOf kind) (typeOf what) flag frames) (at .0)) ⌝ }
 {
     let kinds = read_interpolations(order, kind, frames, body, at, table, from);
-    let easing = kinds.count;
+    let beziers = kinds.count;
     let r = kinds.run;
     let Run::Done(next, behind) = r else {
         return r;
     };
-    read_frames(order, what, frames, easing, body, next, table, behind)
+    let easing = beziers * attributes::curves(kind, what);
+    read_frames(
+        order,
+        kind,
+        what,
+        flag,
+        frames,
+        easing,
+        body,
+        next,
+        table,
+        behind,
+    )
 }
 
-// Keyframed content, with 1 to 4,096 frames.
+// Keyframed content, with 1 to 4,096 frames, of an attribute with this flag number.
 pub fn read_keyframed(
     order: Order,
     kind: Kind,
     what: DataType,
+    flag: u64,
     body: &[u8],
     at: BitPlace,
     table: &mut [u64],
     from: usize,
 ) -> Run
     requires { ⌜ Fits (now body) (at .0) from ⌝ }
-    ensures { λ r. ⌜ runLeaves (now (table .exit)) r ≡ shownOver (now (table .entry)) from (run (orderOf order) (now (body .entry)) (keyframed (kindOf kind) (typeOf what)) (at .0)) ⌝ }
+    ensures { λ r. ⌜ runLeaves (now (table .exit)) r ≡ shownOver (now (table .entry)) from (run (orderOf order) (now (body .entry)) (keyframed (kindOf kind) (typeOf what) flag) (at .0)) ⌝ }
 {
     let counted = items::read_item(order, Item::Count(1), body, at);
     match counted {
@@ -183,6 +261,7 @@ pub fn read_keyframed(
                 order,
                 kind,
                 what,
+                flag,
                 frames as usize,
                 body,
                 next,

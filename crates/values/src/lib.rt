@@ -1,19 +1,22 @@
 // The values of attributes, by their data type: one, or several in turn.
 ghost use mathlib.Core.Path.{_≡_};
-ghost use Prim.Native.Nat.{_<_, _≤_, _^_};
-ghost use Rattle.format.specs.Formats.{times};
-ghost use Rattle.format.specs.Items.{run, ratio as ratioOf, path};
+ghost use Prim.Native.Nat.{_≤_};
+ghost use Rattle.format.specs.Formats.{times, _▸_};
+ghost use Rattle.format.specs.Items.{run, path, time};
 ghost use Rattle.format.specs.Bodies.{value as valueOf, values as valuesOf};
 ghost use Rattle.table.specs.State.{shownOver};
 ghost use Rattle.table.specs.Run.{runLeaves};
 ghost use Rattle.table.specs.Fields.{Fits};
-ghost use Rattle.attributes.specs.Rows.{typeOf};
-ghost use Rattle.values.specs.Parts.{pathOf};
+ghost use Rattle.items.specs.Kinds.{formatOf};
+ghost use Rattle.attributes.specs.Rows.{kindOf, typeOf};
+ghost use Rattle.values.specs.Parts.{announcing};
 ghost use Rattle.bits.specs.Places.{orderOf};
 
 pub mod keyframes;
 
 use attributes::DataType;
+use attributes::Kind;
+use attributes::Layout;
 use bits::BitPlace;
 use bits::Got;
 use bits::Order;
@@ -21,40 +24,50 @@ use items::Item;
 use table::Run;
 use table::fields::Field;
 
-// A Ratio: I32, U32.
-fn read_ratio(order: Order, body: &[u8], at: BitPlace, table: &mut [u64], from: usize) -> Run
+// Two items: a Ratio is an I32 and a U32, a Point two Floats.
+fn read_pair(
+    order: Order,
+    first: Item,
+    second: Item,
+    body: &[u8],
+    at: BitPlace,
+    table: &mut [u64],
+    from: usize,
+) -> Run
     requires { ⌜ Fits (now body) (at .0) from ⌝ }
-    ensures { λ r. ⌜ runLeaves (now (table .exit)) r ≡ shownOver (now (table .entry)) from (run (orderOf order) (now (body .entry)) ratioOf (at .0)) ⌝ }
+    ensures { λ r. ⌜ runLeaves (now (table .exit)) r ≡ shownOver (now (table .entry)) from (run (orderOf order) (now (body .entry)) (formatOf first ▸ formatOf second) (at .0)) ⌝ }
 {
-    let r = table::read_one(order, Item::I32, body, at, table, from);
+    let r = table::read_one(order, first, body, at, table, from);
     let Run::Done(next, behind) = r else {
         return r;
     };
-    table::read_one(order, Item::U32, body, next, table, behind)
+    table::read_one(order, second, body, next, table, behind)
 }
 
-// The verbs of a path, UB[3] each; then a width and an SB field of it for each coordinate.
-fn read_verbs(
+// n fields of w bits, then a width and as many SB fields of it as they announce: a path's verbs and coordinates, spatial flags and their Points.
+fn read_announcing(
     order: Order,
+    kind: Field,
+    width: u64,
     count: usize,
     body: &[u8],
     at: BitPlace,
     table: &mut [u64],
     from: usize,
 ) -> Run
-    requires { ⌜ Fits (now body) (at .0) from × (count ≤ 4096) ⌝ }
-    ensures { λ r. ⌜ runLeaves (now (table .exit)) r ≡ shownOver (now (table .entry)) from (run (orderOf order) (now (body .entry)) (pathOf count) (at .0)) ⌝ }
+    requires { ⌜ Fits (now body) (at .0) from × (1 ≤ width) × (width ≤ 32) × (count ≤ 8192) ⌝ }
+    ensures { λ r. ⌜ runLeaves (now (table .exit)) r ≡ shownOver (now (table .entry)) from (run (orderOf order) (now (body .entry)) (announcing kind width count) (at .0)) ⌝ }
 {
-    let verbs = table::fields::read_fields(order, Field::Verb, 3, count, body, at, table, from);
-    let coordinates = verbs.count;
-    let r = verbs.run;
+    let fields = table::fields::read_fields(order, kind, width, count, body, at, table, from);
+    let announced = fields.count;
+    let r = fields.run;
     let Run::Done(next, behind) = r else {
         return r;
     };
     table::fields::read_scaled(
         order,
         Field::Coordinate,
-        coordinates,
+        announced,
         body,
         next,
         table,
@@ -71,7 +84,16 @@ fn read_path(order: Order, body: &[u8], at: BitPlace, table: &mut [u64], from: u
     match counted {
         Got::Value(count, next) => {
             table::put(table, from, count);
-            read_verbs(order, count as usize, body, next, table, from + 1)
+            read_announcing(
+                order,
+                Field::Verb,
+                3,
+                count as usize,
+                body,
+                next,
+                table,
+                from + 1,
+            )
         }
         Got::Fault(why) => Run::Stop(why, from),
     }
@@ -93,13 +115,22 @@ pub fn read_value(
         DataType::U32 => table::read_one(order, Item::U32, body, at, table, from),
         DataType::Time => table::read_one(order, Item::Time, body, at, table, from),
         DataType::Float => table::read_one(order, Item::Float, body, at, table, from),
-        DataType::Ratio => read_ratio(order, body, at, table, from),
+        DataType::Ratio => read_pair(order, Item::I32, Item::U32, body, at, table, from),
         DataType::Bool => table::read_one(order, Item::Enum(1), body, at, table, from),
         DataType::Byte => table::read_one(order, Item::Byte, body, at, table, from),
         DataType::BlendMode => table::read_one(order, Item::BlendMode, body, at, table, from),
         DataType::TrackMatteType => table::read_one(order, Item::Enum(4), body, at, table, from),
         DataType::MaskMode => table::read_one(order, Item::Enum(7), body, at, table, from),
         DataType::Path => read_path(order, body, at, table, from),
+        DataType::Point => read_pair(order, Item::Float, Item::Float, body, at, table, from),
+        DataType::AnchorPointGrouping => table::read_one(
+            order,
+            Item::Enum(6),
+            body,
+            at,
+            table,
+            from,
+        ),
     }
 }
 
@@ -131,9 +162,37 @@ fn read_in_turn(
     Run::Done(place, index)
 }
 
-// n keyframed values: Bools one bit each; bytes as a width and fields of it; the others in turn.
+// n times. Apart from other values in turn, so that what an item is is not asked for each.
+fn read_times(
+    order: Order,
+    count: usize,
+    body: &[u8],
+    at: BitPlace,
+    table: &mut [u64],
+    from: usize,
+) -> Run
+    requires { ⌜ Fits (now body) (at .0) from ⌝ }
+    ensures { λ r. ⌜ runLeaves (now (table .exit)) r ≡ shownOver (now (table .entry)) from (run (orderOf order) (now (body .entry)) (times count time) (at .0)) ⌝ }
+{
+    let mut place = at;
+    let mut index = from;
+    let mut left = count;
+    while 0 < left {
+        let r = table::read_one(order, Item::Time, body, place, table, index);
+        let Run::Done(next, behind) = r else {
+            return r;
+        };
+        place = next;
+        index = behind;
+        left -= 1;
+    }
+    Run::Done(place, index)
+}
+
+// n keyframed values: in turn; as one bit each; or as a width and fields of it, one for each byte and two for each Point.
 fn read_frame_values(
     order: Order,
+    kind: Kind,
     what: DataType,
     count: usize,
     body: &[u8],
@@ -141,14 +200,15 @@ fn read_frame_values(
     table: &mut [u64],
     from: usize,
 ) -> Run
-    requires { ⌜ Fits (now body) (at .0) from × (count < 2 ^ 32) ⌝ }
-    ensures { λ r. ⌜ runLeaves (now (table .exit)) r ≡ shownOver (now (table .entry)) from (run (orderOf order) (now (body .entry)) (valuesOf (typeOf what) count) (at .0)) ⌝ }
+    requires { ⌜ Fits (now body) (at .0) from × (count ≤ 4097) ⌝ }
+    ensures { λ r. ⌜ runLeaves (now (table .exit)) r ≡ shownOver (now (table .entry)) from (run (orderOf order) (now (body .entry)) (valuesOf (kindOf kind) (typeOf what) count) (at .0)) ⌝ }
 {
-    match what {
-        DataType::Bool => {
-            let fields = table::fields::read_fields(
+    match attributes::layout_of(kind, what) {
+        Layout::InTurn => read_in_turn(order, what, count, body, at, table, from),
+        Layout::Bits => {
+            let bits = table::fields::read_fields(
                 order,
-                Field::Bit,
+                Field::Plain,
                 1,
                 count,
                 body,
@@ -156,9 +216,9 @@ fn read_frame_values(
                 table,
                 from,
             );
-            fields.run
+            bits.run
         }
-        DataType::Byte => table::fields::read_scaled(
+        Layout::ByteFields => table::fields::read_scaled(
             order,
             Field::ByteValue,
             count,
@@ -167,13 +227,14 @@ fn read_frame_values(
             table,
             from,
         ),
-        DataType::U32 => read_in_turn(order, what, count, body, at, table, from),
-        DataType::Time => read_in_turn(order, what, count, body, at, table, from),
-        DataType::Float => read_in_turn(order, what, count, body, at, table, from),
-        DataType::Ratio => read_in_turn(order, what, count, body, at, table, from),
-        DataType::BlendMode => read_in_turn(order, what, count, body, at, table, from),
-        DataType::TrackMatteType => read_in_turn(order, what, count, body, at, table, from),
-        DataType::MaskMode => read_in_turn(order, what, count, body, at, table, from),
-        DataType::Path => read_in_turn(order, what, count, body, at, table, from),
+        Layout::PointFields => table::fields::read_scaled(
+            order,
+            Field::Plain,
+            count * 2,
+            body,
+            at,
+            table,
+            from,
+        ),
     }
 }

@@ -14,7 +14,7 @@ use Rattle.format.specs.Tests.{pick}
 use Rattle.format.specs.Bits.{Order}
 use Rattle.format.specs.Formats.{Item, item}
 use Rattle.format.specs.Items.{skipped}
-use Rattle.format.specs.Bodies.{Kind, Value, Fixed, BitFlag, Simple, Discrete, Attribute, flagsOf, allFlags, rows, attributes}
+use Rattle.format.specs.Bodies.{Kind, Value, Fixed, BitFlag, Simple, Discrete, MultiDimension, Spatial, Attribute, flagsOf, allFlags, rows, attributes}
 use Rattle.format.specs.FileAndTags.{front}
 use Rattle.format.specs.Possible.{Possible, this, cannot}
 use Rattle.format.specs.WritingItems.{dig, before, Written, wrote, put, single, writeItem, spellFlag}
@@ -55,6 +55,8 @@ flag-is o Fixed ns p = refl
 flag-is o BitFlag ns p = refl
 flag-is o Simple ns p = refl
 flag-is o Discrete ns p = refl
+flag-is o MultiDimension ns p = refl
+flag-is o Spatial ns p = refl
 
 used-adjoin : (x : ℕ) (bs : List Bool) (w : Possible Written) (k : List ℕ → List Bool → Possible Written) → usedUp (adjoin (x ∷ []) bs w) k ≡ usedUp w (λ xs cs. k (x ∷ xs) (bs ++ cs))
 used-adjoin x bs cannot k = refl
@@ -104,6 +106,8 @@ some-kind o Fixed v e = clash cc
 some-kind o BitFlag v e = some-flag o v 0
 some-kind o Simple v e = some-flag o v 1
 some-kind o Discrete v e = some-flag o v 1
+some-kind o MultiDimension v e = some-flag o v 1
+some-kind o Spatial v e = some-flag o v 2
 
 some-first : (b c : Possible (List Bool)) → Some b → Some (joined b c)
 some-first (this bs) (this cs) h = omega (arith, length-append bs cs)
@@ -283,7 +287,7 @@ module _ (o : Order) (l : List ℕ) (a : ℕ) (f : Flags) (some : 0 < f .width) 
   put-over n more end em ee h = rw (lt-leb (a + length (flagBytes o (bitsOf o f)) + n) longest (omega (arith, size-is)))
 
   -- what waits after the bits
-  pub put-fine : (u w : List ℕ) (s : Sink) {q : ℕ} → q ≡ 8 * a → a ≤ longest → f .width ≤ 18 → at w s ≡ lay o (mk u q 0) (bitsOf o f) → Holds (s .place .0) (s .part) × (s .place .0 ≤ 2 ^ 60)
+  pub put-fine : (u w : List ℕ) (s : Sink) {q : ℕ} → q ≡ 8 * a → a ≤ longest → f .width ≤ 27 → at w s ≡ lay o (mk u q 0) (bitsOf o f) → Holds (s .place .0) (s .part) × (s .place .0 ≤ 2 ^ 60)
   put-fine u w s {q = q} first low few e =
       let p : s .place .0 ≡ q + length (bitsOf o f) = ap (λ (x : State). x .place) e ∙ lay-place o (mk u q 0) (bitsOf o f) in
       (subst (λ (x : State). Holds (x .place) (x .part)) (sym e) (lay-ok o (mk u q 0) (bitsOf o f) (pow-pos (q % 8))), omega (arith, p, length-dig o (f .width) (f .bits)))
@@ -343,7 +347,7 @@ module _ (o : Order) (ks : List Attribute) (t : List ℕ) (any : anyFlag ks ≡ 
   block-gone d = sym (block-law o ks t any out a ∙ ap (finished o (length t) a) (sym (e .0) ∙ ap (filled o u) d))
 
   module _ (f : Flags) (s : Sink) (k : ℕ) (d : R ≡ With f s k) where
-    ready : Held f × (f .width ≤ 18) × Fine s
+    ready : Held f × (f .width ≤ 27) × Fine s
     ready = subst Ready d (e .1)
 
     pub block-fine : Fine s
@@ -367,7 +371,7 @@ module _ (o : Order) (ks : List Attribute) (t : List ℕ) (any : anyFlag ks ≡ 
         abbrev stop : ℕ
         stop = end .0
 
-        pub block-room : Held f × (0 < f .width) × (f .width ≤ 18) × (a + 1 ≤ stop) × (stop ≤ longest)
+        pub block-room : Held f × (0 < f .width) × (f .width ≤ 27) × (a + 1 ≤ stop) × (stop ≤ longest)
         block-room =
             let some : 0 < length (bitsOf o f) = rw (parts .0) at (some-flags o ks (flagsIn o ks t) any) in
             let at-end : this (lain v stop) ≡ lies out (a + 1) (wholeBytes o (unrun o (front (rows ks (flagsIn o ks t))) t 0)) =

@@ -86,7 +86,7 @@ module _ (o : Order) (t : List ℕ) where
           ∙ ran-then o t st (k + 1) (content a (getD t k 0)) (λ xs. rows rs later)
 
       -- G is what its flags gave, x what its content did
-      module _ (G : Flagged) (flags : Adds o f (flagSpelling o (a .kind) (getD t k 0)) G) (l : st .place ≤ limit) where
+      module _ (G : Flagged) (flags : Adds 3 o f (flagSpelling o (a .kind) (getD t k 0)) G) (l : st .place ≤ limit) where
         turn : {x : Possible Seen} → ran o t st (k + 1) (content a (getD t k 0)) ≡ x → toCome f st k (a ∷ rs) ≡ bothOf (joined (noted o G) (flagBits o rs later)) (resume o t (k + 1) (λ xs. rows rs later) x)
         unfolding flagBits
         turn e =
@@ -113,7 +113,7 @@ pub record Filling (o : Order) (ks : List Attribute) (t out : List ℕ) (s : Sin
   pub size : length u ≡ length out
   pub fine : Fine cur
   pub held : Held f
-  pub few : f .width ≤ 2 * i
+  pub few : f .width ≤ 3 * i
   pub rest : fills o ks t (at out s) ≡ toCome o t f (at u cur) k rs
 
 pub fill-start : (o : Order) (ks : List Attribute) (t out : List ℕ) (s : Sink) (i : ℕ) → Fine s → Filling o ks t out s out (record { bits = 0; width = 0 }) s i 0 ks
@@ -140,7 +140,7 @@ module _ {o : Order} {ks : List Attribute} {t out : List ℕ} {s : Sink} {u : Li
     pub fill-short : length t ≤ k → cannot ≡ fills o ks t (at out s)
     fill-short h = sym (from-now ∙ none-left o t a rs f (at u cur) k h)
 
-    module _ (lk : k < length t) (G : Flagged) (flags : Adds o f (flagSpelling o (a .kind) (getD t k 0)) G) where
+    module _ (lk : k < length t) (G : Flagged) (flags : Adds 3 o f (flagSpelling o (a .kind) (getD t k 0)) G) where
       pub fill-flag : G ≡ No → cannot ≡ fills o ks t (at out s)
       fill-flag e = sym (from-now ∙ turn-flag o t a rs f (at u cur) k lk G flags (g .fine .1) e)
 
@@ -150,7 +150,7 @@ module _ {o : Order} {ks : List Attribute} {t out : List ℕ} {s : Sink} {u : Li
 
         pub fill-next : (f′ : Flags) (r : Sink) (j i′ : ℕ) → G ≡ With f′ → R ≡ Done r j → length u′ ≡ length u → i′ ≡ i + 1 → Filling o ks t out s u′ f′ r i′ j rs
         fill-next f′ r j i′ z d size ei =
-            let grown : Grown (f .width) (With f′) = subst (Grown (f .width)) z (flags .1) in
+            let grown : Grown 3 (f .width) (With f′) = subst (Grown 3 (f .width)) z (flags .1) in
             record {
               size = size ∙ g .size;
               fine = ran-fine o t u cur (k + 1) (content a (getD t k 0)) u′ R (g .fine) e r j d;

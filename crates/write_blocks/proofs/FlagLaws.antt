@@ -1,7 +1,7 @@
 -- Flag numbers as bits, gathered in one number; and what a `match` tells of a content.
 use Prim.Native.Nat.{ℕ, zero, suc, _+_, _/_, _%_, _^_, _≤_, _<_}
-use mathlib.Core.List.{List, [], _++_, append-nil}
-use mathlib.Core.Path.{_≡_, refl, sym, ap, _∙_}
+use mathlib.Core.List.{List, [], _++_, append-nil, append-assoc}
+use mathlib.Core.Path.{_≡_, refl, sym, ap, ap₂, _∙_}
 use mathlib.Core.Bool.{Bool, true, false}
 use native.Mathlib.Omega.{arith}
 use lib.Dec.{eqb}
@@ -48,9 +48,9 @@ flag-no o v h = go (eqb (v % 2) 1)
         done false = refl
 
 -- ---- an exist bit; if set, an animatable bit
-pub two-zero : (o : Order) (v : ℕ) → v ≡ 0 → spellFlag o v 2 ≡ this (dig o 1 0)
+pub flag-zero : (o : Order) (n v : ℕ) → v ≡ 0 → spellFlag o v (suc n) ≡ this (dig o 1 0)
 unfolding spellFlag
-two-zero o v e = rw e
+flag-zero o n v e = rw e
 
 pub two-one : (o : Order) (v : ℕ) {x : ℕ} → v ≡ 1 → x ≡ glue o 1 1 1 0 → spellFlag o v 2 ≡ this (dig o 2 x)
 unfolding spellFlag dig
@@ -71,22 +71,55 @@ two-no o v a b c = go (eqb (v % 2) 1) refl
     go false e = rw (ne-eqb v 0 a, e)
     go true e = rw (ne-eqb v 0 a, e, m (omega (arith, eqb-true (v % 2) 1 e)))
 
--- ---- bits after those that were gathered
-abbrev pub Adds : Order → Flags → Possible (List Bool) → Flagged → Type 0
-Adds o f b r = (noted o r ≡ before (bitsOf o f) b) × Grown (f .width) r
+-- ---- a number that is not 0: no flags, or an exist bit and the flags after it
+pub flag-even : (o : Order) (n v : ℕ) → (v ≡ 0 → ⊥) → v % 2 ≡ 0 → spellFlag o v (suc n) ≡ cannot
+unfolding spellFlag
+flag-even o n v a e = rw (ne-eqb v 0 a, e)
 
-module _ (o : Order) (f : Flags) {b : Possible (List Bool)} where
+flag-odd : (o : Order) (n v : ℕ) → (v ≡ 0 → ⊥) → (v % 2 ≡ 0 → ⊥) → spellFlag o v (suc n) ≡ before (dig o 1 1) (spellFlag o (v / 2) n)
+unfolding spellFlag
+flag-odd o n v a e = rw (ne-eqb v 0 a, eq-eqb (v % 2) 1 (odd e))
+  where
+    odd : (v % 2 ≡ 0 → ⊥) → v % 2 ≡ 1
+    odd h = omega arith
+
+before-append : (xs ys : List Bool) (b : Possible (List Bool)) → before (xs ++ ys) b ≡ before xs (before ys b)
+before-append xs ys (this bs) = ap this (append-assoc xs ys bs)
+before-append xs ys cannot = refl
+
+-- ---- bits after those that were gathered, m more at most
+abbrev pub Adds : ℕ → Order → Flags → Possible (List Bool) → Flagged → Type 0
+Adds m o f b r = (noted o r ≡ before (bitsOf o f) b) × Grown m (f .width) r
+
+longer-bits : (o : Order) (f g : Flags) (n x : ℕ) → Held f → x < 2 ^ n → Longer o f n x g → bitsOf o g ≡ bitsOf o f ++ dig o n x
+longer-bits o f g n x h s m = rw (m .longer, m .glued) (dig-append o (f .width) n (f .bits) x h s)
+
+module _ (m : ℕ) (o : Order) (f : Flags) {b : Possible (List Bool)} where
   -- n bits more, as the field x
-  pub add-in : (n x : ℕ) {g : Flags} → Held f → n ≤ 2 → x < 2 ^ n → Longer o f n x g → b ≡ this (dig o n x) → Adds o f b (With g)
-  add-in n x {g} h l s m e =
-      let d : bitsOf o g ≡ bitsOf o f ++ dig o n x = rw (m .longer, m .glued) (dig-append o (f .width) n (f .bits) x h s) in
-      (rw e (ap this d), (m .held, omega (arith, m .longer)))
+  pub add-in : (n x : ℕ) {g : Flags} → Held f → n ≤ m → x < 2 ^ n → Longer o f n x g → b ≡ this (dig o n x) → Adds m o f b (With g)
+  add-in n x {g} h l s z e = (rw e (ap this (longer-bits o f g n x h s z)), (z .held, omega (arith, z .longer)))
 
-  pub add-none : {g : Flags} → Held f → g ≡ f → b ≡ this [] → Adds o f b (With g)
+  pub add-none : {g : Flags} → Held f → g ≡ f → b ≡ this [] → Adds m o f b (With g)
   add-none h d e = rw (d, e) (ap this (sym (append-nil (bitsOf o f))), (h, omega arith))
 
-  pub add-no : b ≡ cannot → Adds o f b No
+  pub add-no : b ≡ cannot → Adds m o f b No
   add-no e = rw e (refl, tt)
+
+-- m bits more at most are n more at most
+wide : (m n w v : ℕ) (r : Flagged) → w + m ≤ v + n → Grown m w r → Grown n v r
+wide m n w v (With g) l h = (h .0, omega (arith, h .1))
+wide m n w v No l h = tt
+
+pub wider : (w : ℕ) (r : Flagged) → Grown 2 w r → Grown 3 w r
+wider w r h = wide 2 3 w w r (omega arith) h
+
+-- an exist bit was added, and then the flags after it
+pub add-after : (o : Order) (f g : Flags) (v w : ℕ) (r : Flagged) → Held f → (v ≡ 0 → ⊥) → (v % 2 ≡ 0 → ⊥) → w ≡ v / 2 → Longer o f 1 1 g → Adds 2 o g (spellFlag o w 2) r → Adds 3 o f (spellFlag o v 3) r
+add-after o f g v w r h a e d l k =
+    let p : before (bitsOf o g) (spellFlag o w 2) ≡ before (bitsOf o f) (spellFlag o v 3) =
+    ap₂ (λ (xs : List Bool) (u : ℕ). before xs (spellFlag o u 2)) (longer-bits o f g 1 1 h (omega arith) l) d
+    ∙ before-append (bitsOf o f) (dig o 1 1) (spellFlag o (v / 2) 2) ∙ ap (before (bitsOf o f)) (sym (flag-odd o 2 v a e)) in
+    (k .0 ∙ p, wide 2 3 (g .width) (f .width) r (omega (arith, l .longer)) (k .1))
 
 -- no bit
 pub fixed-in : (o : Order) (v : ℕ) → v ≡ 1 → flagSpelling o bodies.Fixed v ≡ this []
@@ -95,7 +128,7 @@ fixed-in o v e = rw (eq-eqb v 1 e)
 pub fixed-no : (o : Order) (v : ℕ) → (v ≡ 1 → ⊥) → flagSpelling o bodies.Fixed v ≡ cannot
 fixed-no o v e = rw (ne-eqb v 1 e)
 
-pub told : (o : Order) (f : Flags) (v : ℕ) {kind : Kind} (r : Flagged) (arm : Kind) → kind ≡ arm → Adds o f (flagSpelling o (kindOf arm) v) r → Adds o f (flagSpelling o (kindOf kind) v) r
+pub told : (o : Order) (f : Flags) (v : ℕ) {kind : Kind} (r : Flagged) (arm : Kind) → kind ≡ arm → Adds 3 o f (flagSpelling o (kindOf arm) v) r → Adds 3 o f (flagSpelling o (kindOf kind) v) r
 told o f v r arm e d = rw e d
 
 -- ---- contents

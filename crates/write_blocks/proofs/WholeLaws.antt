@@ -11,7 +11,7 @@ use Rattle.format.specs.Tests.{pick}
 use Rattle.format.specs.Bits.{Order}
 use Rattle.format.specs.Formats.{Item, Format, nothing, item, only, _▹_, _▸_}
 use Rattle.format.specs.Items.{skipped, byteItem}
-use Rattle.format.specs.Bodies.{Kind, Value, Fixed, BitFlag, Simple, Discrete, DataType, U32s, Times, Floats, Ratios, Bools, Bytes, BlendModes, TrackMatteTypes, MaskModes, Paths, Attribute, value, keyframed, contentOf, content, rows}
+use Rattle.format.specs.Bodies.{Kind, Value, Fixed, BitFlag, Simple, Discrete, MultiDimension, Spatial, DataType, U32s, Times, Floats, Ratios, Bools, Bytes, BlendModes, TrackMatteTypes, MaskModes, Paths, Points, AnchorPointGroupings, Attribute, value, keyframed, animated, contentOf, content, rows}
 use Rattle.format.specs.FileAndTags.{front}
 use Rattle.format.specs.Possible.{Possible, this, cannot}
 use Rattle.format.specs.WritingItems.{dig, Written, wrote, put, writeItem}
@@ -79,9 +79,11 @@ whole-value o BlendModes = whole-only o _ _ _ (whole-item o (Item.UB 8))
 whole-value o TrackMatteTypes = whole-only o _ _ _ (whole-item o (Item.UB 8))
 whole-value o MaskModes = whole-only o _ _ _ (whole-item o (Item.UB 8))
 whole-value o Paths = whole-then o _ _ (whole-only o _ _ _ (whole-item o Item.U32))
+whole-value o Points = whole-then o _ _ (whole-item o (Item.LE 4))
+whole-value o AnchorPointGroupings = whole-only o _ _ _ (whole-item o (Item.UB 8))
 
-whole-frames : (o : Order) (k : Kind) (d : DataType) → Whole o (unrun o (keyframed k d))
-whole-frames o k d = whole-then o _ _ (whole-only o _ _ _ (whole-item o Item.U32))
+whole-frames : (o : Order) (k : Kind) (d : DataType) (φ : ℕ) → Whole o (unrun o (keyframed k d φ))
+whole-frames o k d φ = whole-then o _ _ (whole-only o _ _ _ (whole-item o Item.U32))
 
 -- ---- what follows such contents starts there too
 abbrev Passes : Order → Format → Type 0
@@ -106,10 +108,10 @@ passes-content o a φ = go (a .kind)
     one : Passes o (value (a .dataType))
     one = passes-whole o (value (a .dataType)) (whole-value o (a .dataType))
 
-    some : (k : Kind) → Passes o (pick (eqb φ 0) nothing (pick (eqb φ 1) (value (a .dataType)) (keyframed k (a .dataType))))
+    some : (k : Kind) → Passes o (animated k (a .dataType) φ)
     some k =
-        passes-pick o (eqb φ 0) nothing (pick (eqb φ 1) (value (a .dataType)) (keyframed k (a .dataType))) (passes-nothing o)
-        (passes-pick o (eqb φ 1) (value (a .dataType)) (keyframed k (a .dataType)) one (passes-whole o (keyframed k (a .dataType)) (whole-frames o k (a .dataType))))
+        passes-pick o (eqb φ 0) nothing (pick (eqb φ 1) (value (a .dataType)) (keyframed k (a .dataType) φ)) (passes-nothing o)
+        (passes-pick o (eqb φ 1) (value (a .dataType)) (keyframed k (a .dataType) φ) one (passes-whole o (keyframed k (a .dataType) φ) (whole-frames o k (a .dataType) φ)))
 
     go : (k : Kind) → Passes o (contentOf k (a .dataType) φ)
     go Value = passes-pick o (eqb φ 0) nothing (value (a .dataType)) (passes-nothing o) one
@@ -117,6 +119,8 @@ passes-content o a φ = go (a .kind)
     go BitFlag = passes-nothing o
     go Simple = some Simple
     go Discrete = some Discrete
+    go MultiDimension = some MultiDimension
+    go Spatial = some Spatial
 
 -- one after the other
 onward-twice : (w : Possible Written) (p : ℕ) (k k′ : List ℕ → ℕ → Possible Written)

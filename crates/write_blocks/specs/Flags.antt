@@ -8,7 +8,7 @@ use lib.ListN.{length}
 use Rattle.format.specs.Tests.{pick}
 use Rattle.format.specs.Bits.{Order}
 use Rattle.format.specs.Items.{skipped}
-use Rattle.format.specs.Bodies.{Kind, Value, Fixed, BitFlag, Simple, Discrete, Attribute}
+use Rattle.format.specs.Bodies.{Kind, Value, Fixed, BitFlag, Simple, Discrete, MultiDimension, Spatial, Attribute}
 use Rattle.format.specs.Possible.{Possible, this, cannot}
 use Rattle.format.specs.WritingItems.{dig, glue, before, spellFlag}
 use Rattle.format.specs.WritingBodies.{bytesOf}
@@ -23,6 +23,8 @@ flagSpelling o Fixed v = pick (eqb v 1) (this []) cannot
 flagSpelling o BitFlag v = spellFlag o v 1
 flagSpelling o Simple v = spellFlag o v 2
 flagSpelling o Discrete v = spellFlag o v 2
+flagSpelling o MultiDimension v = spellFlag o v 2
+flagSpelling o Spatial v = spellFlag o v 3
 
 abbrev pub joined : Possible (List Bool) → Possible (List Bool) → Possible (List Bool)
 joined (this bs) b = before bs b
@@ -46,6 +48,8 @@ hasFlag Fixed = false
 hasFlag BitFlag = true
 hasFlag Simple = true
 hasFlag Discrete = true
+hasFlag MultiDimension = true
+hasFlag Spatial = true
 
 unfoldable pub anyFlag : List Attribute → Bool
 anyFlag [] = false
@@ -68,7 +72,7 @@ abbrev pub noted : Order → Flagged → Possible (List Bool)
 noted o (With f) = this (bitsOf o f)
 noted o No = cannot
 
--- one number has at most two bits
-abbrev pub Grown : ℕ → Flagged → Type 0
-Grown w (With f) = Held f × (f .width ≤ w + 2)
-Grown w No = Unit {0}
+-- flags of w bits, with n more at most
+abbrev pub Grown : ℕ → ℕ → Flagged → Type 0
+Grown n w (With f) = Held f × (f .width ≤ w + n)
+Grown n w No = Unit {0}

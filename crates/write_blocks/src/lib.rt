@@ -44,7 +44,7 @@ pub enum Filled {
 
 // So many bits more, as a field, behind those that were gathered.
 fn with_bits(order: Order, flags: Flags, more: u64, count: usize) -> Flags
-    requires { ⌜ Held flags × (flags .width ≤ 16) × (count ≤ 2) × (more < 2 ^ count) ⌝ }
+    requires { ⌜ Held flags × (flags .width ≤ 25) × (count ≤ 2) × (more < 2 ^ count) ⌝ }
     ensures { λ r. ⌜ Longer (orderOf order) flags count more r ⌝ }
 {
     let bits = flags.bits;
@@ -57,8 +57,8 @@ fn with_bits(order: Order, flags: Flags, more: u64, count: usize) -> Flags
 
 // One flag bit.
 fn add_flag(order: Order, flags: Flags, number: u64) -> Flagged
-    requires { ⌜ Held flags × (flags .width ≤ 16) ⌝ }
-    ensures { λ r. ⌜ (noted (orderOf order) r ≡ before (bitsOf (orderOf order) flags) (spellFlag (orderOf order) number 1)) × Grown (flags .width) r ⌝ }
+    requires { ⌜ Held flags × (flags .width ≤ 24) ⌝ }
+    ensures { λ r. ⌜ (noted (orderOf order) r ≡ before (bitsOf (orderOf order) flags) (spellFlag (orderOf order) number 1)) × Grown 2 (flags .width) r ⌝ }
 {
     if 1 < number {
         return Flagged::No;
@@ -68,8 +68,8 @@ fn add_flag(order: Order, flags: Flags, number: u64) -> Flagged
 
 // An exist bit; if set, an animatable bit.
 fn add_two_flags(order: Order, flags: Flags, number: u64) -> Flagged
-    requires { ⌜ Held flags × (flags .width ≤ 16) ⌝ }
-    ensures { λ r. ⌜ (noted (orderOf order) r ≡ before (bitsOf (orderOf order) flags) (spellFlag (orderOf order) number 2)) × Grown (flags .width) r ⌝ }
+    requires { ⌜ Held flags × (flags .width ≤ 25) ⌝ }
+    ensures { λ r. ⌜ (noted (orderOf order) r ≡ before (bitsOf (orderOf order) flags) (spellFlag (orderOf order) number 2)) × Grown 2 (flags .width) r ⌝ }
 {
     match number {
         0 => Flagged::With(with_bits(order, flags, 0, 1)),
@@ -85,10 +85,25 @@ fn add_two_flags(order: Order, flags: Flags, number: u64) -> Flagged
     }
 }
 
+// An exist bit; if set, an animatable bit; if that is set too, a hasSpatial bit.
+fn add_three_flags(order: Order, flags: Flags, number: u64) -> Flagged
+    requires { ⌜ Held flags × (flags .width ≤ 24) ⌝ }
+    ensures { λ r. ⌜ (noted (orderOf order) r ≡ before (bitsOf (orderOf order) flags) (spellFlag (orderOf order) number 3)) × Grown 3 (flags .width) r ⌝ }
+{
+    if number == 0 {
+        return Flagged::With(with_bits(order, flags, 0, 1));
+    }
+    if number % 2 == 0 {
+        return Flagged::No;
+    }
+    let there = with_bits(order, flags, 1, 1);
+    add_two_flags(order, there, number / 2)
+}
+
 // The flags of one attribute; a Fixed one has no bit, and its flag number is 1.
 fn add_flags(order: Order, kind: Kind, flags: Flags, number: u64) -> Flagged
-    requires { ⌜ Held flags × (flags .width ≤ 16) ⌝ }
-    ensures { λ r. ⌜ (noted (orderOf order) r ≡ before (bitsOf (orderOf order) flags) (flagSpelling (orderOf order) (kindOf kind) number)) × Grown (flags .width) r ⌝ }
+    requires { ⌜ Held flags × (flags .width ≤ 24) ⌝ }
+    ensures { λ r. ⌜ (noted (orderOf order) r ≡ before (bitsOf (orderOf order) flags) (flagSpelling (orderOf order) (kindOf kind) number)) × Grown 3 (flags .width) r ⌝ }
 {
     match kind {
         Kind::Value => add_flag(order, flags, number),
@@ -100,6 +115,8 @@ fn add_flags(order: Order, kind: Kind, flags: Flags, number: u64) -> Flagged
         Kind::BitFlag => add_flag(order, flags, number),
         Kind::Simple => add_two_flags(order, flags, number),
         Kind::Discrete => add_two_flags(order, flags, number),
+        Kind::MultiDimension => add_two_flags(order, flags, number),
+        Kind::Spatial => add_three_flags(order, flags, number),
     }
 }
 
@@ -125,6 +142,7 @@ fn write_content(
             order,
             kind,
             what,
+            flag,
             out,
             sink,
             values,
@@ -173,7 +191,7 @@ fn write_contents(order: Order, rows: Rows, values: &[u64], out: &mut [u8], sink
 
 // Puts flags before contents that stand one byte after a place, up to stop; where the flags take more than that byte, the contents move up.
 fn put_flags(order: Order, flags: Flags, out: &mut [u8], at: BytePlace, stop: BytePlace) -> Body
-    requires { ⌜ Held flags × (0 < flags .width) × (flags .width ≤ 18) × (at .0 + 1 ≤ stop .0) × (stop .0 ≤ longest) ⌝ }
+    requires { ⌜ Held flags × (0 < flags .width) × (flags .width ≤ 27) × (at .0 + 1 ≤ stop .0) × (stop .0 ≤ longest) ⌝ }
     ensures { λ r. ⌜ lainAs (now (out .exit)) r ≡ underFlags (now (out .entry)) (at .0) (flagBytes (orderOf order) (bitsOf (orderOf order) flags)) (stop .0 - (at .0 + 1)) ⌝ }
 {
     let width = flags.width;

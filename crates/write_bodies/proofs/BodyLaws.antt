@@ -6,7 +6,7 @@ use mathlib.Core.Bool.{Bool, true, false}
 use lib.Dec.{eqb}
 use Rattle.format.specs.Tests.{pick, _or_}
 use Rattle.format.specs.Bits.{Order}
-use Rattle.format.specs.Bodies.{Attribute, layerAttributes, textPathOption, maskBlock, attributes}
+use Rattle.format.specs.Bodies.{Attribute, layerAttributes, textPathOption, textMoreOption, transform2D, maskBlock, attributes}
 use Rattle.format.specs.FileAndTags.{front}
 use Rattle.format.specs.WritingFormats.{unrun}
 use Rattle.format.specs.Possible.{Possible}
@@ -17,16 +17,19 @@ use Rattle.bodies.specs.Leaf.{isBlock, leafBody}
 use Rattle.sink.specs.Lain.{Lain, lies}
 use Rattle.write_blocks.specs.Flags.{anyFlag}
 
--- each of the three blocks has flags
+-- each of the five blocks has flags
 pub block-flags : (code : ℕ) {attrs : List Attribute} → isBlock code ≡ true → attrs ≡ attributesOf code → anyFlag attrs ≡ true
 unfolding attributesOf anyFlag
-block-flags code c e = rw e (go (eqb code 6) (eqb code 9) (eqb code 14) c)
+block-flags code c e = rw e (go (eqb code 6) (eqb code 9) (eqb code 10) (eqb code 13) (eqb code 14) c)
   where
-    go : (x y z : Bool) → (x or y or z) ≡ true → anyFlag (pick x layerAttributes (pick y textPathOption (pick z maskBlock []))) ≡ true
-    go true y z h = refl
-    go false true z h = refl
-    go false false true h = refl
-    go false false false h = h
+    go : (v w x y z : Bool) → (v or w or x or y or z) ≡ true
+        → anyFlag (pick v layerAttributes (pick w textPathOption (pick x textMoreOption (pick y transform2D (pick z maskBlock []))))) ≡ true
+    go true w x y z h = refl
+    go false true x y z h = refl
+    go false false true y z h = refl
+    go false false false true z h = refl
+    go false false false false true h = refl
+    go false false false false false h = h
 
 module _ (o : Order) (vs out : List ℕ) (a code : ℕ) {x : Possible Lain} where
   pub body-block : {attrs : List Attribute} → isBlock code ≡ true → attrs ≡ attributesOf code → x ≡ lies out a (writeBody o (attributes attrs) vs) → x ≡ lies out a (writeBody o (leafBody code) vs)

@@ -1,26 +1,33 @@
--- Paths, values and keyframed content, written: the formats of their parts, and what a `match` tells.
+-- Values and keyframed content, written: the formats of their parts, and what a `match` tells.
 use Prim.Native.Nat.{ℕ, suc, _+_, _-_, _*_, _≤_}
+use mathlib.Core.Bool.{true, false}
 use mathlib.Core.List.{List}
-use mathlib.Core.Path.{_≡_, sym, ap, subst, _∙_}
+use mathlib.Core.Path.{_≡_, sym, ap, ap₂, subst, _∙_}
 use native.Mathlib.Numerals.{add-one}
 use native.Mathlib.Omega.{arith}
+use borrow.Author.Tests.{eq-eqb, ne-eqb}
 use lib.ListN.{take, drop}
+use Rattle.format.specs.Tests.{pick}
 use Rattle.format.specs.Bits.{Order}
-use Rattle.format.specs.Formats.{nothing, _▸_, times}
-use Rattle.format.specs.Items.{skipped, coordinates, time}
+use Rattle.format.specs.Formats.{Format, nothing, _▹_, _▸_, times, the}
+use Rattle.format.specs.Items.{skipped, path, scaled, time}
 use Rattle.format.specs.Bodies as bodies
-use Rattle.format.specs.Bodies.{value, values, interpolations, beziers, aligned}
+use Rattle.format.specs.Bodies.{value, values, interpolations, howMany, curves, aligned, spatial, hasSpatial}
 use Rattle.format.specs.Possible.{Possible, this}
 use Rattle.format.specs.WritingItems.{dig}
-use Rattle.table.specs.Fields.{fieldOf}
-use Rattle.table.specs.declared.fields.Field.the-variants.{Verb, Interpolation}
-use Rattle.table.proofs.EngineLaws.{alike-assoc, alike-after}
-use Rattle.table.proofs.FieldLaws.{announced-verbs, announced-frames}
-use Rattle.attributes.specs.Rows.{kindOf, typeOf}
+use Rattle.items.specs.Kinds.{formatOf}
+use Rattle.items.specs.declared.Item.the-variants.{Count}
+use Rattle.table.specs.Fields.{fieldOf, announced}
+use Rattle.table.specs.declared.fields.Field.{Field}
+use Rattle.table.specs.declared.fields.Field.the-variants.{Verb, Interpolation, SpatialFlag}
+use Rattle.table.proofs.FieldLaws.{announced-frames}
+use Rattle.attributes.specs.Contents.{interpolated, layoutBy, valuesBy}
+use Rattle.attributes.specs.Rows.{typeOf}
 use Rattle.attributes.specs.declared.DataType.{DataType}
-use Rattle.attributes.specs.declared.Kind.{Kind}
-use Rattle.attributes.specs.declared.Kind.the-variants.{Simple}
-use Rattle.values.specs.Parts.{scaled, pathOf, framesOf, keyframesOf}
+use Rattle.attributes.specs.declared.Layout.{Layout}
+use Rattle.attributes.proofs.ContentLaws.{interpolations-some, interpolations-none, values-told}
+use Rattle.values.specs.Parts.{announcing, framesOf, keyframesOf}
+use Rattle.values.proofs.ValueLaws.{path-is, spatial-is, alike-parts}
 use Rattle.sink.specs.Laying.{State, at, lay}
 use Rattle.sink.specs.declared.Sink.{Sink}
 use Rattle.spelling.specs.Spellings.{Announces}
@@ -36,40 +43,43 @@ use Rattle.write_values.specs.Easing.{Eases}
 pub value-of : (o : Order) (t : List ℕ) (st : State) (k : ℕ) {what : DataType} {x : Possible Seen} (told : DataType) → what ≡ told → x ≡ ran o t st k (value (typeOf told)) → x ≡ ran o t st k (value (typeOf what))
 value-of o t st k told e d = d ∙ ap (λ (z : DataType). ran o t st k (value (typeOf z))) (sym e)
 
-pub values-of : (o : Order) (t : List ℕ) (st : State) (k n : ℕ) {what : DataType} {x : Possible Seen} (told : DataType) → what ≡ told → x ≡ ran o t st k (values (typeOf told) n)
-    → x ≡ ran o t st k (values (typeOf what) n)
-values-of o t st k n told e d = d ∙ ap (λ (z : DataType). ran o t st k (values (typeOf z) n)) (sym e)
+pub values-of : (o : Order) (t : List ℕ) (st : State) (k n : ℕ) (kind : bodies.Kind) (d : bodies.DataType) {y : Layout} {x : Possible Seen} (told : Layout) → y ≡ layoutBy kind d → y ≡ told
+    → x ≡ ran o t st k (valuesBy d n told) → x ≡ ran o t st k (values kind d n)
+values-of o t st k n kind d told e h f = f ∙ ap (ran o t st k) (sym (values-told kind d n told e h))
 
-pub in-turn-of : (o : Order) (t : List ℕ) (st : State) (k n : ℕ) {what : DataType} {x : Possible Seen} (told : DataType) → values (typeOf told) n ≡ times n (value (typeOf told)) → what ≡ told
-    → x ≡ ran o t st k (times n (value (typeOf what))) → x ≡ ran o t st k (values (typeOf what) n)
-in-turn-of o t st k n told same e d =
-    values-of o t st k n told e (d ∙ ap (λ (z : DataType). ran o t st k (times n (value (typeOf z)))) e ∙ ap (ran o t st k) (sym same))
+-- ---- fields that announce others
+pub announcing-done : (o : Order) (t : List ℕ) (st : State) (k : ℕ) (f : Field) (w n m : ℕ) (u : List ℕ) (R : Put) → seen u R ≡ ran o t st k (times n (fieldOf f w)) → Announces f t k n R m
+    → (s : Sink) (j : ℕ) {x : Possible Seen} → R ≡ Done s j → x ≡ ran o t (at u s) j (scaled m) → x ≡ ran o t st k (announcing f w n)
+announcing-done o t st k f w n m u R first a s j e d =
+    then-on o t st k (times n (fieldOf f w)) (λ xs. scaled (announced f xs)) u R first s j e (d ∙ ap (λ (c : ℕ). ran o t (at u s) j (scaled c)) (announces-done f t k n m a e .0))
 
--- ---- a path: its coordinates are those that its verbs announce
-pub verbs-done : (o : Order) (t : List ℕ) (st : State) (k n m : ℕ) (u : List ℕ) (R : Put) → seen u R ≡ ran o t st k (times n (fieldOf Verb 3)) → Announces Verb t k n R m
-    → (s : Sink) (j : ℕ) {x : Possible Seen} → R ≡ Done s j → x ≡ ran o t (at u s) j (scaled m) → x ≡ ran o t st k (pathOf n)
-verbs-done o t st k n m u R first a s j e d =
-    then-on o t st k (times n (fieldOf Verb 3)) (λ verbs. scaled (coordinates verbs)) u R first s j e
-    (d ∙ ap (λ (c : ℕ). ran o t (at u s) j (scaled c)) (announces-done Verb t k n m a e .0 ∙ announced-verbs (take (j - k) (drop k t))))
+-- a path
+pub path-of : (o : Order) (t : List ℕ) (st : State) (k : ℕ) {x : Possible Seen} → x ≡ ran o t st k (formatOf (Count 0) ▹ λ n. announcing Verb 3 (the n)) → x ≡ ran o t st k path
+path-of o t st k e = e ∙ λ i. ran o t st k (formatOf (Count 0) ▹ λ n. path-is (the n) i)
+
+-- hasSpatial is not set, or it is
+pub spatial-none : (o : Order) (t : List ℕ) (st : State) (k φ n : ℕ) → st .place ≤ limit → (φ ≡ 7 → ⊥) → this (here st k) ≡ ran o t st k (pick (hasSpatial φ) (spatial n) nothing)
+spatial-none o t st k φ n low h = rw (ne-eqb φ 7 h) (sym (ran-nothing o t st k low))
+
+pub spatial-some : (o : Order) (t : List ℕ) (st : State) (k φ n : ℕ) {x : Possible Seen} → φ ≡ 7 → x ≡ ran o t st k (aligned ▸ announcing SpatialFlag 1 (n * 2))
+    → x ≡ ran o t st k (pick (hasSpatial φ) (spatial n) nothing)
+spatial-some o t st k φ n h e = rw (eq-eqb φ 7 h) (e ∙ ap (ran o t st k) (spatial-is n))
 
 -- ---- the interpolations of n frames, after the skip to a whole byte
-module _ (o : Order) (t : List ℕ) (st : State) (k n : ℕ) (u : List ℕ) {st′ : State} (low : st .place ≤ limit) (skip : st′ ≡ lay o st (dig o (skipped (st .place)) 0)) where
+module _ (o : Order) (t : List ℕ) (st : State) (k n : ℕ) (u : List ℕ) {st′ : State} (low : st .place ≤ limit) (skip : st′ ≡ lay o st (dig o (skipped (st .place)) 0)) (kind : bodies.Kind) where
   -- what they leave, and the easing that they announce
-  abbrev pub Leave : bodies.Kind → Put → ℕ → Type 0
-  Leave kind R m = (seen u R ≡ ran o t st k (aligned ▸ interpolations kind n)) × Eases t k n R m
-
-  pub told : (R : Put) (m : ℕ) {kind : Kind} (arm : Kind) → kind ≡ arm → Leave (kindOf arm) R m → Leave (kindOf kind) R m
-  told R m arm e h = subst (λ (z : Kind). Leave (kindOf z) R m) (sym e) h
+  abbrev pub Leave : Put → ℕ → Type 0
+  Leave R m = (seen u R ≡ ran o t st k (aligned ▸ interpolations kind n)) × Eases t k n R m
 
   -- there are none
-  pub none-left : (kind : bodies.Kind) (s : Sink) → interpolations kind n ≡ nothing → at u s ≡ st′ → s .place .0 ≤ limit → Leave kind (Done s k) 0
-  none-left kind s none e l =
+  pub none-left : (s : Sink) → false ≡ interpolated kind → at u s ≡ st′ → s .place .0 ≤ limit → Leave (Done s k) 0
+  none-left s none e l =
       let z : k - k ≡ 0 = omega arith in
-      (align-on o t st k low skip (λ xs. interpolations kind n) (rw none (ap (λ (x : State). this (here x k)) e ∙ sym (ran-nothing o t st′ k (subst (λ (x : State). x .place ≤ limit) e l)))), (rw z, omega arith))
+      (align-on o t st k low skip (λ xs. interpolations kind n) (rw (interpolations-none kind n none) (ap (λ (x : State). this (here x k)) e ∙ sym (ran-nothing o t st′ k (subst (λ (x : State). x .place ≤ limit) e l)))), (rw z, omega arith))
 
   -- they are fields of two bits
-  pub some-left : (R : Put) (m : ℕ) → seen u R ≡ ran o t st′ k (times n (fieldOf Interpolation 2)) → Announces Interpolation t k n R m → Leave bodies.Simple R m
-  some-left R m e a = (align-on o t st k low skip (λ xs. interpolations bodies.Simple n) e, go R a)
+  pub some-left : (R : Put) (m : ℕ) → true ≡ interpolated kind → seen u R ≡ ran o t st′ k (times n (fieldOf Interpolation 2)) → Announces Interpolation t k n R m → Leave R m
+  some-left R m some e a = (align-on o t st k low skip (λ xs. interpolations kind n) (e ∙ ap (ran o t st′ k) (sym (interpolations-some kind n some))), go R a)
     where
       go : (R : Put) → Announces Interpolation t k n R m → Eases t k n R m
       go (Done s j) h = (h .0 ∙ announced-frames (take (j - k) (drop k t)), h .1)
@@ -77,24 +87,22 @@ module _ (o : Order) (t : List ℕ) (st : State) (k n : ℕ) (u : List ℕ) {st�
 
 -- ---- the parts of keyframed content
 
--- the code counts n + 1, and writes the values with the skip before them
-pub frames-is : (o : Order) (t : List ℕ) (st : State) (k : ℕ) (d : bodies.DataType) (n m : ℕ) {x : Possible Seen} → x ≡ ran o t st k (times (n + 1) time ▸ (aligned ▸ values d (n + 1)) ▸ (aligned ▸ scaled m))
-    → x ≡ ran o t st k (framesOf d n m)
-frames-is o t st k d n m e =
-    let f : times (n + 1) time ▸ (aligned ▸ values d (n + 1)) ▸ (aligned ▸ scaled m) ≡ times (suc n) time ▸ (aligned ▸ values d (suc n)) ▸ (aligned ▸ scaled m) =
-    ap (λ (i : ℕ). times i time ▸ (aligned ▸ values d i) ▸ (aligned ▸ scaled m)) (add-one n) in
-    e ∙ ap (ran o t st k) f
-    ∙ ran-alike o t st k (times (suc n) time ▸ (aligned ▸ values d (suc n)) ▸ (aligned ▸ scaled m)) (framesOf d n m)
-    (λ b p. alike-after (times (suc n) time) _ _ (alike-assoc aligned (values d (suc n)) (aligned ▸ scaled m)) o b p)
+-- the code counts n + 1, and writes each part with the skip before it
+pub frames-is : (o : Order) (t : List ℕ) (st : State) (k : ℕ) (kind : bodies.Kind) (d : bodies.DataType) (φ n m : ℕ) {x : Possible Seen}
+    → x ≡ ran o t st k (times (n + 1) time ▸ (aligned ▸ values kind d (n + 1)) ▸ ((aligned ▸ scaled m) ▸ pick (hasSpatial φ) (spatial n) nothing)) → x ≡ ran o t st k (framesOf kind d φ n m)
+frames-is o t st k kind d φ n m e =
+    e ∙ ap (λ (i : ℕ). ran o t st k (times i time ▸ (aligned ▸ values kind d i) ▸ ((aligned ▸ scaled m) ▸ pick (hasSpatial φ) (spatial n) nothing))) (add-one n)
+    ∙ ran-alike o t st k (times (suc n) time ▸ (aligned ▸ values kind d (suc n)) ▸ ((aligned ▸ scaled m) ▸ pick (hasSpatial φ) (spatial n) nothing)) (framesOf kind d φ n m)
+    (λ b p. alike-parts (times (suc n) time) (values kind d (suc n)) (scaled m) (pick (hasSpatial φ) (spatial n) nothing) o b p)
 
-eases-done : (t : List ℕ) (k n m : ℕ) {R : Put} {s : Sink} {j : ℕ} → Eases t k n R m → R ≡ Done s j → (m ≡ beziers (take (j - k) (drop k t)) * 4) × (m ≤ 6 * n)
+eases-done : (t : List ℕ) (k n m : ℕ) {R : Put} {s : Sink} {j : ℕ} → Eases t k n R m → R ≡ Done s j → (m ≡ howMany 2 (take (j - k) (drop k t)) * 4) × (m ≤ 6 * n)
 eases-done t k n m a e = subst (λ (x : Put). Eases t k n x m) e a
 
 pub eases-few : (t : List ℕ) (k n m : ℕ) {R : Put} {s : Sink} {j : ℕ} → Eases t k n R m → R ≡ Done s j → m ≤ 6 * n
 eases-few t k n m a e = eases-done t k n m a e .1
 
-pub keyframes-done : (o : Order) (t : List ℕ) (st : State) (k : ℕ) (kind : bodies.Kind) (d : bodies.DataType) (n m : ℕ) (u : List ℕ) (R : Put) → seen u R ≡ ran o t st k (aligned ▸ interpolations kind n)
-    → Eases t k n R m → (s : Sink) (j : ℕ) {x : Possible Seen} → R ≡ Done s j → x ≡ ran o t (at u s) j (framesOf d n m) → x ≡ ran o t st k (keyframesOf kind d n)
-keyframes-done o t st k kind d n m u R first a s j e f =
-    then-on o t st k (aligned ▸ interpolations kind n) (λ kinds. framesOf d n (beziers kinds * 4)) u R first s j e
-    (f ∙ ap (λ (c : ℕ). ran o t (at u s) j (framesOf d n c)) (eases-done t k n m a e .0))
+pub keyframes-done : (o : Order) (t : List ℕ) (st : State) (k : ℕ) (kind : bodies.Kind) (d : bodies.DataType) (φ n m : ℕ) (u : List ℕ) (R : Put) → seen u R ≡ ran o t st k (aligned ▸ interpolations kind n)
+    → Eases t k n R m → (s : Sink) (j : ℕ) {c z : ℕ} {x : Possible Seen} → R ≡ Done s j → c ≡ curves kind d → z ≡ m * c → x ≡ ran o t (at u s) j (framesOf kind d φ n z) → x ≡ ran o t st k (keyframesOf kind d φ n)
+keyframes-done o t st k kind d φ n m u R first a s j e f g h =
+    then-on o t st k (aligned ▸ interpolations kind n) (λ kinds. framesOf kind d φ n (howMany 2 kinds * 4 * curves kind d)) u R first s j e
+    (h ∙ ap (λ (z : ℕ). ran o t (at u s) j (framesOf kind d φ n z)) (g ∙ ap₂ (λ (x y : ℕ). x * y) (eases-done t k n m a e .0) f))

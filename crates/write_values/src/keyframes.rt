@@ -1,16 +1,19 @@
-// Keyframed content, written: five parts, each starting on a whole byte.
+// Keyframed content, written: five parts, or six where hasSpatial is set, each starting on a whole byte.
 ghost use mathlib.Core.Path.{_≡_};
 ghost use Prim.Native.Nat.{_<_, _≤_, _^_};
-ghost use Rattle.format.specs.Formats.{_▸_};
-ghost use Rattle.format.specs.Bodies.{values as valuesOf, interpolations as interpolationsOf, aligned, keyframed};
+ghost use Rattle.format.specs.Tests.{pick};
+ghost use Rattle.format.specs.Formats.{nothing, _▸_};
+ghost use Rattle.format.specs.Items.{scaled};
+ghost use Rattle.format.specs.Bodies.{values as valuesOf, interpolations as interpolationsOf, aligned, spatial, hasSpatial, keyframed};
 ghost use Rattle.attributes.specs.Rows.{kindOf, typeOf};
-ghost use Rattle.values.specs.Parts.{scaled, framesOf, keyframesOf};
+ghost use Rattle.values.specs.Parts.{framesOf, keyframesOf};
 ghost use Rattle.bits.specs.Places.{orderOf};
 ghost use Rattle.sink.specs.Laying.{at as under};
 ghost use Rattle.spelling.specs.Writing.{seen, ran, Fine};
 ghost use Rattle.write_values.specs.Easing.{Eases};
+use crate::write_announcing;
 use crate::write_frame_values;
-use crate::write_in_turn;
+use crate::write_times;
 use attributes::DataType;
 use attributes::Kind;
 use bits::Order;
@@ -20,7 +23,7 @@ use spelling::Put;
 use spelling::fields::Announced;
 use table::fields::Field;
 
-// The interpolations of n frames, UB[2] each; only Simple attributes have them. A Bezier frame announces four easing numbers.
+// The interpolations of n frames, UB[2] each, if the kind has them. A Bezier frame announces four easing numbers for each of its curves.
 fn write_interpolations(
     order: Order,
     kind: Kind,
@@ -35,8 +38,8 @@ fn write_interpolations(
     ensures counts { λ r. ⌜ Eases (now (values .entry)) from frames (r .put) (r .count) ⌝ }
 {
     let start = spelling::skip(order, out, sink);
-    match kind {
-        Kind::Simple => spelling::fields::write_fields(
+    if attributes::has_interpolations(kind) {
+        return spelling::fields::write_fields(
             order,
             Field::Interpolation,
             2,
@@ -45,29 +48,18 @@ fn write_interpolations(
             start,
             values,
             from,
-        ),
-        Kind::Value => Announced {
-            put: Put::Done(start, from),
-            count: 0,
-        },
-        Kind::Fixed => Announced {
-            put: Put::Done(start, from),
-            count: 0,
-        },
-        Kind::BitFlag => Announced {
-            put: Put::Done(start, from),
-            count: 0,
-        },
-        Kind::Discrete => Announced {
-            put: Put::Done(start, from),
-            count: 0,
-        },
+        );
+    }
+    Announced {
+        put: Put::Done(start, from),
+        count: 0,
     }
 }
 
 // The values part.
 fn write_values_part(
     order: Order,
+    kind: Kind,
     what: DataType,
     count: usize,
     out: &mut [u8],
@@ -75,11 +67,11 @@ fn write_values_part(
     values: &[u64],
     from: usize,
 ) -> Put
-    requires { ⌜ Fine sink × (count < 2 ^ 32) ⌝ }
-    ensures { λ r. ⌜ seen (now (out .exit)) r ≡ ran (orderOf order) (now (values .entry)) (under (now (out .entry)) sink) from (aligned ▸ valuesOf (typeOf what) count) ⌝ }
+    requires { ⌜ Fine sink × (count ≤ 4097) ⌝ }
+    ensures { λ r. ⌜ seen (now (out .exit)) r ≡ ran (orderOf order) (now (values .entry)) (under (now (out .entry)) sink) from (aligned ▸ valuesOf (kindOf kind) (typeOf what) count) ⌝ }
 {
     let start = spelling::skip(order, out, sink);
-    write_frame_values(order, what, count, out, start, values, from)
+    write_frame_values(order, kind, what, count, out, start, values, from)
 }
 
 // The easing part: a width, which stands always, and n signed fields of it.
@@ -98,10 +90,39 @@ fn write_easing(
     spelling::fields::write_scaled(order, Field::Coordinate, count, out, start, values, from)
 }
 
-// n + 1 times, n + 1 values, and the easing of the Bezier frames.
-fn write_frames(
+// The spatial part, only where hasSpatial is set: two flags for each frame, a width, which stands always, and a Point for each flag that is set.
+fn write_spatial(
     order: Order,
-    what: DataType,
+    flag: u64,
+    frames: usize,
+    out: &mut [u8],
+    sink: Sink,
+    values: &[u64],
+    from: usize,
+) -> Put
+    requires { ⌜ Fine sink × (frames ≤ 4096) ⌝ }
+    ensures { λ r. ⌜ seen (now (out .exit)) r ≡ ran (orderOf order) (now (values .entry)) (under (now (out .entry)) sink) from (pick (hasSpatial flag) (spatial frames) nothing) ⌝ }
+{
+    if flag != 7 {
+        return Put::Done(sink, from);
+    }
+    let start = spelling::skip(order, out, sink);
+    write_announcing(
+        order,
+        Field::SpatialFlag,
+        1,
+        frames * 2,
+        out,
+        start,
+        values,
+        from,
+    )
+}
+
+// The easing of the Bezier frames, and the spatial part.
+fn write_eased(
+    order: Order,
+    flag: u64,
     frames: usize,
     easing: usize,
     out: &mut [u8],
@@ -110,17 +131,58 @@ fn write_frames(
     from: usize,
 ) -> Put
     requires { ⌜ Fine sink × (frames ≤ 4096) × (easing < 2 ^ 32) ⌝ }
-    ensures { λ r. ⌜ seen (now (out .exit)) r ≡ ran (orderOf order) (now (values .entry)) (under (now (out .entry)) sink) from (framesOf (typeOf what) frames easing) ⌝ }
+    ensures { λ r. ⌜ seen (now (out .exit)) r ≡ ran (orderOf order) (now (values .entry)) (under (now (out .entry)) sink) from ((aligned ▸ scaled easing) ▸ pick (hasSpatial flag) (spatial frames) nothing) ⌝ }
 {
-    let r = write_in_turn(order, DataType::Time, frames + 1, out, sink, values, from);
+    let r = write_easing(order, easing, out, sink, values, from);
+    let Put::Done(eased, after_easing) = r else {
+        return r;
+    };
+    write_spatial(order, flag, frames, out, eased, values, after_easing)
+}
+
+// n + 1 times, n + 1 values, and what eases them.
+fn write_frames(
+    order: Order,
+    kind: Kind,
+    what: DataType,
+    flag: u64,
+    frames: usize,
+    easing: usize,
+    out: &mut [u8],
+    sink: Sink,
+    values: &[u64],
+    from: usize,
+) -> Put
+    requires { ⌜ Fine sink × (frames ≤ 4096) × (easing < 2 ^ 32) ⌝ }
+    ensures { λ r. ⌜ seen (now (out .exit)) r ≡ ran (orderOf order) (now (values .entry)) (under (now (out .entry)) sink) from (framesOf (kindOf kind) (typeOf what) flag frames easing) ⌝ }
+{
+    let r = write_times(order, frames + 1, out, sink, values, from);
     let Put::Done(timed, after_times) = r else {
         return r;
     };
-    let r = write_values_part(order, what, frames + 1, out, timed, values, after_times);
+    let r = write_values_part(
+        order,
+        kind,
+        what,
+        frames + 1,
+        out,
+        timed,
+        values,
+        after_times,
+    );
     let Put::Done(valued, after_values) = r else {
         return r;
     };
-    write_easing(order, easing, out, valued, values, after_values)
+    write_eased(
+        order,
+        flag,
+        frames,
+        easing,
+        out,
+        valued,
+        values,
+        after_values,
+    )
 }
 
 // What follows the count of n frames.
@@ -128,6 +190,7 @@ fn write_keyframes(
     order: Order,
     kind: Kind,
     what: DataType,
+    flag: u64,
     frames: usize,
     out: &mut [u8],
     sink: Sink,
@@ -135,29 +198,42 @@ fn write_keyframes(
     from: usize,
 ) -> Put
     requires { ⌜ Fine sink × (frames ≤ 4096) ⌝ }
-    ensures { λ r. ⌜ seen (now (out .exit)) r ≡ ran (orderOf order) (now (values .entry)) (under (now (out .entry)) sink) from (keyframesOf (kindOf kind) (typeOf what) frames) ⌝ }
+    ensures { λ r. ⌜ seen (now (out .exit)) r ≡ ran (orderOf order) (now (values .entry)) (under (now (out .entry)) sink) from (keyframesOf (kindOf kind) (typeOf what) flag frames) ⌝ }
 {
     let kinds = write_interpolations(order, kind, frames, out, sink, values, from);
-    let easing = kinds.count;
+    let beziers = kinds.count;
     let r = kinds.put;
     let Put::Done(next, behind) = r else {
         return r;
     };
-    write_frames(order, what, frames, easing, out, next, values, behind)
+    let easing = beziers * attributes::curves(kind, what);
+    write_frames(
+        order,
+        kind,
+        what,
+        flag,
+        frames,
+        easing,
+        out,
+        next,
+        values,
+        behind,
+    )
 }
 
-// Keyframed content, with 1 to 4,096 frames.
+// Keyframed content, with 1 to 4,096 frames, of an attribute with this flag number.
 pub fn write_keyframed(
     order: Order,
     kind: Kind,
     what: DataType,
+    flag: u64,
     out: &mut [u8],
     sink: Sink,
     values: &[u64],
     from: usize,
 ) -> Put
     requires { ⌜ Fine sink ⌝ }
-    ensures { λ r. ⌜ seen (now (out .exit)) r ≡ ran (orderOf order) (now (values .entry)) (under (now (out .entry)) sink) from (keyframed (kindOf kind) (typeOf what)) ⌝ }
+    ensures { λ r. ⌜ seen (now (out .exit)) r ≡ ran (orderOf order) (now (values .entry)) (under (now (out .entry)) sink) from (keyframed (kindOf kind) (typeOf what) flag) ⌝ }
 {
     let r = spelling::write_one(order, Item::Count(1), out, sink, values, from);
     let Put::Done(next, behind) = r else {
@@ -167,6 +243,7 @@ pub fn write_keyframed(
         order,
         kind,
         what,
+        flag,
         values[from] as usize,
         out,
         next,

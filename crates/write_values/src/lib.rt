@@ -1,11 +1,12 @@
 // The values of attributes, written by their data type: one, or several in turn.
 ghost use mathlib.Core.Path.{_≡_};
-ghost use Prim.Native.Nat.{_<_, _≤_, _^_};
-ghost use Rattle.format.specs.Formats.{times};
-ghost use Rattle.format.specs.Items.{ratio as ratioOf, path};
+ghost use Prim.Native.Nat.{_≤_};
+ghost use Rattle.format.specs.Formats.{times, _▸_};
+ghost use Rattle.format.specs.Items.{path, time};
 ghost use Rattle.format.specs.Bodies.{value as valueOf, values as valuesOf};
-ghost use Rattle.attributes.specs.Rows.{typeOf};
-ghost use Rattle.values.specs.Parts.{pathOf};
+ghost use Rattle.items.specs.Kinds.{formatOf};
+ghost use Rattle.attributes.specs.Rows.{kindOf, typeOf};
+ghost use Rattle.values.specs.Parts.{announcing};
 ghost use Rattle.bits.specs.Places.{orderOf};
 ghost use Rattle.sink.specs.Laying.{at as under};
 ghost use Rattle.spelling.specs.Writing.{seen, ran, Fine};
@@ -13,55 +14,58 @@ ghost use Rattle.spelling.specs.Writing.{seen, ran, Fine};
 pub mod keyframes;
 
 use attributes::DataType;
+use attributes::Kind;
+use attributes::Layout;
 use bits::Order;
 use items::Item;
 use sink::Sink;
 use spelling::Put;
 use table::fields::Field;
 
-// A Ratio: I32, U32.
-fn write_ratio(order: Order, out: &mut [u8], sink: Sink, values: &[u64], from: usize) -> Put
+// Two items: a Ratio is an I32 and a U32, a Point two Floats.
+fn write_pair(
+    order: Order,
+    first: Item,
+    second: Item,
+    out: &mut [u8],
+    sink: Sink,
+    values: &[u64],
+    from: usize,
+) -> Put
     requires { ⌜ Fine sink ⌝ }
-    ensures { λ r. ⌜ seen (now (out .exit)) r ≡ ran (orderOf order) (now (values .entry)) (under (now (out .entry)) sink) from ratioOf ⌝ }
+    ensures { λ r. ⌜ seen (now (out .exit)) r ≡ ran (orderOf order) (now (values .entry)) (under (now (out .entry)) sink) from (formatOf first ▸ formatOf second) ⌝ }
 {
-    let r = spelling::write_one(order, Item::I32, out, sink, values, from);
+    let r = spelling::write_one(order, first, out, sink, values, from);
     let Put::Done(next, behind) = r else {
         return r;
     };
-    spelling::write_one(order, Item::U32, out, next, values, behind)
+    spelling::write_one(order, second, out, next, values, behind)
 }
 
-// The verbs of a path, UB[3] each; then a width and an SB field of it for each coordinate.
-fn write_verbs(
+// n fields of w bits, then a width and as many SB fields of it as they announce: a path's verbs and coordinates, spatial flags and their Points.
+fn write_announcing(
     order: Order,
+    kind: Field,
+    width: usize,
     count: usize,
     out: &mut [u8],
     sink: Sink,
     values: &[u64],
     from: usize,
 ) -> Put
-    requires { ⌜ Fine sink × (count ≤ 4096) ⌝ }
-    ensures { λ r. ⌜ seen (now (out .exit)) r ≡ ran (orderOf order) (now (values .entry)) (under (now (out .entry)) sink) from (pathOf count) ⌝ }
+    requires { ⌜ Fine sink × (1 ≤ width) × (width ≤ 32) × (count ≤ 8192) ⌝ }
+    ensures { λ r. ⌜ seen (now (out .exit)) r ≡ ran (orderOf order) (now (values .entry)) (under (now (out .entry)) sink) from (announcing kind width count) ⌝ }
 {
-    let verbs = spelling::fields::write_fields(
-        order,
-        Field::Verb,
-        3,
-        count,
-        out,
-        sink,
-        values,
-        from,
-    );
-    let coordinates = verbs.count;
-    let r = verbs.put;
+    let fields = spelling::fields::write_fields(order, kind, width, count, out, sink, values, from);
+    let announced = fields.count;
+    let r = fields.put;
     let Put::Done(next, behind) = r else {
         return r;
     };
     spelling::fields::write_scaled(
         order,
         Field::Coordinate,
-        coordinates,
+        announced,
         out,
         next,
         values,
@@ -78,7 +82,16 @@ fn write_path(order: Order, out: &mut [u8], sink: Sink, values: &[u64], from: us
     let Put::Done(next, behind) = r else {
         return r;
     };
-    write_verbs(order, values[from] as usize, out, next, values, behind)
+    write_announcing(
+        order,
+        Field::Verb,
+        3,
+        values[from] as usize,
+        out,
+        next,
+        values,
+        behind,
+    )
 }
 
 // One value that is not keyframed.
@@ -97,7 +110,7 @@ pub fn write_value(
         DataType::U32 => spelling::write_one(order, Item::U32, out, sink, values, from),
         DataType::Time => spelling::write_one(order, Item::Time, out, sink, values, from),
         DataType::Float => spelling::write_one(order, Item::Float, out, sink, values, from),
-        DataType::Ratio => write_ratio(order, out, sink, values, from),
+        DataType::Ratio => write_pair(order, Item::I32, Item::U32, out, sink, values, from),
         DataType::Bool => spelling::write_one(order, Item::Enum(1), out, sink, values, from),
         DataType::Byte => spelling::write_one(order, Item::Byte, out, sink, values, from),
         DataType::BlendMode => spelling::write_one(order, Item::BlendMode, out, sink, values, from),
@@ -111,6 +124,15 @@ pub fn write_value(
         ),
         DataType::MaskMode => spelling::write_one(order, Item::Enum(7), out, sink, values, from),
         DataType::Path => write_path(order, out, sink, values, from),
+        DataType::Point => write_pair(order, Item::Float, Item::Float, out, sink, values, from),
+        DataType::AnchorPointGrouping => spelling::write_one(
+            order,
+            Item::Enum(6),
+            out,
+            sink,
+            values,
+            from,
+        ),
     }
 }
 
@@ -142,9 +164,37 @@ fn write_in_turn(
     Put::Done(cur, index)
 }
 
-// n keyframed values: Bools one bit each; bytes as a width and fields of it; the others in turn.
+// n times. Apart from other values in turn, so that what an item is is not asked for each.
+fn write_times(
+    order: Order,
+    count: usize,
+    out: &mut [u8],
+    sink: Sink,
+    values: &[u64],
+    from: usize,
+) -> Put
+    requires { ⌜ Fine sink ⌝ }
+    ensures { λ r. ⌜ seen (now (out .exit)) r ≡ ran (orderOf order) (now (values .entry)) (under (now (out .entry)) sink) from (times count time) ⌝ }
+{
+    let mut cur = sink;
+    let mut index = from;
+    let mut left = count;
+    while 0 < left {
+        let r = spelling::write_one(order, Item::Time, out, cur, values, index);
+        let Put::Done(next, behind) = r else {
+            return r;
+        };
+        cur = next;
+        index = behind;
+        left -= 1;
+    }
+    Put::Done(cur, index)
+}
+
+// n keyframed values: in turn; as one bit each; or as a width and fields of it, one for each byte and two for each Point.
 fn write_frame_values(
     order: Order,
+    kind: Kind,
     what: DataType,
     count: usize,
     out: &mut [u8],
@@ -152,14 +202,15 @@ fn write_frame_values(
     values: &[u64],
     from: usize,
 ) -> Put
-    requires { ⌜ Fine sink × (count < 2 ^ 32) ⌝ }
-    ensures { λ r. ⌜ seen (now (out .exit)) r ≡ ran (orderOf order) (now (values .entry)) (under (now (out .entry)) sink) from (valuesOf (typeOf what) count) ⌝ }
+    requires { ⌜ Fine sink × (count ≤ 4097) ⌝ }
+    ensures { λ r. ⌜ seen (now (out .exit)) r ≡ ran (orderOf order) (now (values .entry)) (under (now (out .entry)) sink) from (valuesOf (kindOf kind) (typeOf what) count) ⌝ }
 {
-    match what {
-        DataType::Bool => {
-            let fields = spelling::fields::write_fields(
+    match attributes::layout_of(kind, what) {
+        Layout::InTurn => write_in_turn(order, what, count, out, sink, values, from),
+        Layout::Bits => {
+            let bits = spelling::fields::write_fields(
                 order,
-                Field::Bit,
+                Field::Plain,
                 1,
                 count,
                 out,
@@ -167,9 +218,9 @@ fn write_frame_values(
                 values,
                 from,
             );
-            fields.put
+            bits.put
         }
-        DataType::Byte => spelling::fields::write_scaled(
+        Layout::ByteFields => spelling::fields::write_scaled(
             order,
             Field::ByteValue,
             count,
@@ -178,13 +229,14 @@ fn write_frame_values(
             values,
             from,
         ),
-        DataType::U32 => write_in_turn(order, what, count, out, sink, values, from),
-        DataType::Time => write_in_turn(order, what, count, out, sink, values, from),
-        DataType::Float => write_in_turn(order, what, count, out, sink, values, from),
-        DataType::Ratio => write_in_turn(order, what, count, out, sink, values, from),
-        DataType::BlendMode => write_in_turn(order, what, count, out, sink, values, from),
-        DataType::TrackMatteType => write_in_turn(order, what, count, out, sink, values, from),
-        DataType::MaskMode => write_in_turn(order, what, count, out, sink, values, from),
-        DataType::Path => write_in_turn(order, what, count, out, sink, values, from),
+        Layout::PointFields => spelling::fields::write_scaled(
+            order,
+            Field::Plain,
+            count * 2,
+            out,
+            sink,
+            values,
+            from,
+        ),
     }
 }

@@ -5,15 +5,12 @@ use Rattle.attributes.proofs.animatable.Tie as tie
 use Rattle.attributes.proofs.animatable.Reads as reads
 use Rattle.attributes.proofs.animatable.Lts as lts
 
--- src/lib.rt:224:9
 returns : tie.Need-returns
 returns c = animatable-none (c .before .args .flag) (c .if1 .taken)
 
--- src/lib.rt:227:9
 returns-2 : tie.Need-returns-2
 returns-2 c = animatable-one (c .before .before .args .flag) (c .before .if1 .left) (c .if2 .taken)
 
--- src/lib.rt:220:1
 returns-3 : tie.Need-returns-3
 returns-3 c = animatable-frames (c .before .before .args .flag) (c .before .if1 .left) (c .if2 .left)
 

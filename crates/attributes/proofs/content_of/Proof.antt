@@ -1,6 +1,6 @@
 -- `attributes::content_of` meets its contract.
 use Rattle.attributes.proofs.ContentLaws.{value-none, value-one, kind-told}
-use Rattle.attributes.specs.declared.Kind.the-variants.{Value, Simple, Discrete}
+use Rattle.attributes.specs.declared.Kind.the-variants.{Value, Simple, Discrete, MultiDimension, Spatial}
 use borrow.Author.Needs.{needs}
 use Rattle.attributes.proofs.content_of.Statement.{statement}
 use Rattle.attributes.proofs.content_of.Tie as tie
@@ -8,57 +8,62 @@ use Rattle.attributes.proofs.content_of.Reads as reads
 use Rattle.attributes.proofs.content_of.Lts as lts
 use Rattle.attributes.proofs.animatable.Reads as animatable-reads
 
--- src/lib.rt:237:27
 enum-told : tie.Need-enum-told
 enum-told c = search needs
 
--- src/lib.rt:242:24
 enum-told-2 : tie.Need-enum-told-2
 enum-told-2 c = search needs
 
--- src/lib.rt:243:26
 enum-told-3 : tie.Need-enum-told-3
 enum-told-3 c = search needs
 
--- src/lib.rt:244:25
 enum-told-4 : tie.Need-enum-told-4
 enum-told-4 c = search needs
 
--- src/lib.rt:244:25
 animatable-requires : tie.Need-animatable-requires
 animatable-requires c κs = search needs
 
--- src/lib.rt:245:27
 enum-told-5 : tie.Need-enum-told-5
 enum-told-5 c = search needs
 
--- src/lib.rt:245:27
 animatable-requires-2 : tie.Need-animatable-requires-2
 animatable-requires-2 c κs = search needs
 
--- src/lib.rt:233:1
+enum-told-6 : tie.Need-enum-told-6
+enum-told-6 c = search needs
+
+animatable-requires-3 : tie.Need-animatable-requires-3
+animatable-requires-3 c κs = search needs
+
+enum-told-7 : tie.Need-enum-told-7
+enum-told-7 c = search needs
+
+animatable-requires-4 : tie.Need-animatable-requires-4
+animatable-requires-4 c κs = search needs
+
 returns : tie.Need-returns
 returns c = let a = c .before .before .before .args in kind-told (a .flag) Value (c .before .enum-told .given .1) (value-none (a .flag) (c .if1 .taken))
 
--- src/lib.rt:233:1
 returns-2 : tie.Need-returns-2
 returns-2 c = let a = c .before .before .before .args in kind-told (a .flag) Value (c .before .enum-told .given .1) (value-one (a .flag) (c .if1 .left))
 
--- src/lib.rt:233:1
 returns-3 : tie.Need-returns-3
 returns-3 c = search needs
 
--- src/lib.rt:233:1
 returns-4 : tie.Need-returns-4
 returns-4 c = search needs
 
--- src/lib.rt:233:1
 returns-5 : tie.Need-returns-5
 returns-5 c = kind-told (c .before .before .before .args .flag) Simple (c .before .enum-told4 .given .1) (c .animatable .ensures)
 
--- src/lib.rt:233:1
 returns-6 : tie.Need-returns-6
 returns-6 c = kind-told (c .before .before .before .args .flag) Discrete (c .before .enum-told5 .given .1) (c .animatable2 .ensures)
+
+returns-7 : tie.Need-returns-7
+returns-7 c = kind-told (c .before .before .before .args .flag) MultiDimension (c .before .enum-told6 .given .1) (c .animatable3 .ensures)
+
+returns-8 : tie.Need-returns-8
+returns-8 c = kind-told (c .before .before .before .args .flag) Spatial (c .before .enum-told7 .given .1) (c .animatable4 .ensures)
 
 pub content-of-spec : {M : Type 1} → statement M
 content-of-spec =
@@ -71,9 +76,15 @@ content-of-spec =
     animatable-requires
     enum-told-5
     animatable-requires-2
+    enum-told-6
+    animatable-requires-3
+    enum-told-7
+    animatable-requires-4
     returns
     returns-2
     returns-3
     returns-4
     returns-5
-    returns-6)
+    returns-6
+    returns-7
+    returns-8)

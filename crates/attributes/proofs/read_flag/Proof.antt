@@ -1,7 +1,7 @@
 -- `attributes::read_flag` meets its contract: the flag of the kind that the `match` tells.
 use denote.Ref.{now}
 use Rattle.bits.specs.Places.{orderOf}
-use Rattle.attributes.specs.declared.Kind.the-variants.{Value, Fixed, BitFlag, Simple, Discrete}
+use Rattle.attributes.specs.declared.Kind.the-variants.{Value, Fixed, BitFlag, Simple, Discrete, MultiDimension, Spatial}
 use Rattle.attributes.proofs.FlagLaws.{flag-of, one-bit, fixed-is}
 use borrow.Author.Needs.{needs}
 use Rattle.attributes.proofs.read_flag.Statement.{statement}
@@ -34,6 +34,18 @@ enum-told-5 c = search needs
 read-two-flags-requires-2 : tie.Need-read-two-flags-requires-2
 read-two-flags-requires-2 c κs = search needs
 
+enum-told-6 : tie.Need-enum-told-6
+enum-told-6 c = search needs
+
+read-two-flags-requires-3 : tie.Need-read-two-flags-requires-3
+read-two-flags-requires-3 c κs = search needs
+
+enum-told-7 : tie.Need-enum-told-7
+enum-told-7 c = search needs
+
+read-three-flags-requires : tie.Need-read-three-flags-requires
+read-three-flags-requires c κs = search needs
+
 returns : tie.Need-returns
 returns c = let a = c .before .before .before .before .args in flag-of (orderOf (a .order)) (now (a .body)) (a .at .0) Value (c .before .enum-told .given .1) (one-bit (orderOf (a .order)) (now (a .body)) (a .at .0) (c .read-ub .ensures))
 
@@ -49,6 +61,12 @@ returns-4 c = let a = c .before .before .before .before .args in flag-of (orderO
 returns-5 : tie.Need-returns-5
 returns-5 c = let a = c .before .before .before .before .args in flag-of (orderOf (a .order)) (now (a .body)) (a .at .0) Discrete (c .before .enum-told5 .given .1) (c .read-two-flags2 .ensures)
 
+returns-6 : tie.Need-returns-6
+returns-6 c = let a = c .before .before .before .before .args in flag-of (orderOf (a .order)) (now (a .body)) (a .at .0) MultiDimension (c .before .enum-told6 .given .1) (c .read-two-flags3 .ensures)
+
+returns-7 : tie.Need-returns-7
+returns-7 c = let a = c .before .before .before .before .args in flag-of (orderOf (a .order)) (now (a .body)) (a .at .0) Spatial (c .before .enum-told7 .given .1) (c .read-three-flags .ensures)
+
 pub read-flag-spec : {M : Type 1} → statement M
 read-flag-spec =
     tie.close
@@ -62,8 +80,14 @@ read-flag-spec =
     read-two-flags-requires
     enum-told-5
     read-two-flags-requires-2
+    enum-told-6
+    read-two-flags-requires-3
+    enum-told-7
+    read-three-flags-requires
     returns
     returns-2
     returns-3
     returns-4
-    returns-5)
+    returns-5
+    returns-6
+    returns-7)

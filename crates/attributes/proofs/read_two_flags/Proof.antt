@@ -4,7 +4,7 @@ use mathlib.Core.Path.{sym, ap, _∙_}
 use native.Mathlib.Omega.{arith}
 use Rattle.bits.specs.Places.{numOf, orderOf}
 use Rattle.bits.proofs.FieldLaws.{ub-got}
-use Rattle.attributes.proofs.FlagLaws.{two-past, two-none, two-cut, two-both}
+use Rattle.attributes.proofs.FlagLaws.{one-bit, flag-past, flag-none, flag-cut, flag-both}
 use borrow.Author.Needs.{needs}
 use Rattle.attributes.proofs.read_two_flags.Statement.{statement}
 use Rattle.attributes.proofs.read_two_flags.Tie as tie
@@ -19,10 +19,10 @@ enum-told : tie.Need-enum-told
 enum-told c = search needs
 
 returns : tie.Need-returns
-returns c = let a = c .before .before .before .before .args in two-past (orderOf (a .order)) (now (a .body)) (a .at .0) (c .before .before .read-ub .result) (c .before .before .read-ub .ensures) (c .enum-told .given .1)
+returns c = let a = c .before .before .before .before .args in flag-past (orderOf (a .order)) (now (a .body)) (a .at .0) 1 (c .before .before .read-ub .result) (c .before .before .read-ub .ensures) (c .enum-told .given .1)
 
 returns-2 : tie.Need-returns-2
-returns-2 c = let a = c .before .before .before .before .before .before .args in two-none (orderOf (a .order)) (now (a .body)) (a .at .0) (c .before .before .before .before .read-ub .result) (c .before .before .before .before .read-ub .ensures) (c .before .before .e .given .1) (c .if1 .taken)
+returns-2 c = let a = c .before .before .before .before .before .before .args in flag-none (orderOf (a .order)) (now (a .body)) (a .at .0) 1 (c .before .before .before .before .read-ub .result) (c .before .before .before .before .read-ub .ensures) (c .before .before .e .given .1) (c .if1 .taken)
 
 read-ub-requires-2 : tie.Need-read-ub-requires-2
 read-ub-requires-2 c κs = let a = c .before .before .before .before .before .before .args in
@@ -36,7 +36,7 @@ enum-told-2 : tie.Need-enum-told-2
 enum-told-2 c = search needs
 
 returns-3 : tie.Need-returns-3
-returns-3 c = let a = c .before .before .before .before .before .before .before .before .before .args in two-cut (orderOf (a .order)) (now (a .body)) (a .at .0) (c .before .before .before .before .before .before .before .read-ub .result) (c .before .before .before .before .before .before .before .read-ub .ensures) (c .before .before .read-ub2 .result) (c .before .before .before .before .before .e .given .1) (c .before .before .before .if1 .left) (c .before .before .read-ub2 .ensures) (c .enum-told2 .given .1)
+returns-3 c = let a = c .before .before .before .before .before .before .before .before .before .args in flag-cut (orderOf (a .order)) (now (a .body)) (a .at .0) 1 (c .before .before .before .before .before .before .before .read-ub .result) (c .before .before .before .before .before .before .before .read-ub .ensures) (c .before .before .read-ub2 .result) (c .before .before .before .before .before .e .given .1) (c .before .before .before .if1 .left) (one-bit (orderOf (a .order)) (now (a .body)) _ (c .before .before .read-ub2 .ensures)) (c .enum-told2 .given .1)
 
 mul-t11 : tie.Need-mul-t11
 mul-t11 c = let a = c .before .before .before .before .before .before .before .before .before .before .args in
@@ -49,7 +49,7 @@ add-t12 c = let a = c .before .before .before .before .before .before .before .b
     omega (arith, g .value, g .below)
 
 returns-4 : tie.Need-returns-4
-returns-4 c = let a = c .before .before .before .before .before .before .before .before .before .before .args in two-both (orderOf (a .order)) (now (a .body)) (a .at .0) (c .before .before .before .before .before .before .before .before .read-ub .result) (c .before .before .before .before .before .before .before .before .read-ub .ensures) (c .before .before .before .read-ub2 .result) (c .before .before .before .before .before .before .e .given .1) (c .before .before .before .before .if1 .left) (c .before .before .before .read-ub2 .ensures) (c .before .a .given .1)
+returns-4 c = let a = c .before .before .before .before .before .before .before .before .before .before .args in flag-both (orderOf (a .order)) (now (a .body)) (a .at .0) 1 (c .before .before .before .before .before .before .before .before .read-ub .result) (c .before .before .before .before .before .before .before .before .read-ub .ensures) (c .before .before .before .read-ub2 .result) (c .before .before .before .before .before .before .e .given .1) (c .before .before .before .before .if1 .left) (one-bit (orderOf (a .order)) (now (a .body)) _ (c .before .before .before .read-ub2 .ensures)) (c .before .a .given .1)
 
 pub read-two-flags-spec : {M : Type 1} → statement M
 read-two-flags-spec =

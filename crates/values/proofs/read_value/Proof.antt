@@ -1,6 +1,6 @@
 use denote.Ref.{now}
 use Rattle.bits.specs.Places.{orderOf}
-use Rattle.attributes.specs.declared.DataType.the-variants.{U32, Time, Float, Ratio, Bool, Byte, BlendMode, TrackMatteType, MaskMode, Path}
+use Rattle.attributes.specs.declared.DataType.the-variants.{U32, Time, Float, Ratio, Bool, Byte, BlendMode, TrackMatteType, MaskMode, Path, Point, AnchorPointGrouping}
 use Rattle.values.proofs.ValueLaws.{value-of}
 use borrow.Author.Needs.{needs}
 use Rattle.values.proofs.read_value.Statement.{statement}
@@ -9,7 +9,7 @@ use Rattle.values.proofs.read_value.Reads as reads
 use Rattle.values.proofs.read_value.Lts as lts
 use Rattle.table.proofs.read_one.Reads as read-one-reads
 use Rattle.values.proofs.read_path.Reads as read-path-reads
-use Rattle.values.proofs.read_ratio.Reads as read-ratio-reads
+use Rattle.values.proofs.read_pair.Reads as read-pair-reads
 
 enum-told : tie.Need-enum-told
 enum-told c = search needs
@@ -32,8 +32,8 @@ read-one-requires-3 c κs = search needs
 enum-told-4 : tie.Need-enum-told-4
 enum-told-4 c = search needs
 
-read-ratio-requires : tie.Need-read-ratio-requires
-read-ratio-requires c κs = search needs
+read-pair-requires : tie.Need-read-pair-requires
+read-pair-requires c κs = search needs
 
 enum-told-5 : tie.Need-enum-told-5
 enum-told-5 c = search needs
@@ -71,6 +71,18 @@ enum-told-10 c = search needs
 read-path-requires : tie.Need-read-path-requires
 read-path-requires c κs = search needs
 
+enum-told-11 : tie.Need-enum-told-11
+enum-told-11 c = search needs
+
+read-pair-requires-2 : tie.Need-read-pair-requires-2
+read-pair-requires-2 c κs = search needs
+
+enum-told-12 : tie.Need-enum-told-12
+enum-told-12 c = search needs
+
+read-one-requires-9 : tie.Need-read-one-requires-9
+read-one-requires-9 c κs = search needs
+
 same-length : tie.Need-same-length
 same-length c = search needs
 
@@ -93,7 +105,7 @@ same-length-4 : tie.Need-same-length-4
 same-length-4 c = search needs
 
 returns-4 : tie.Need-returns-4
-returns-4 c = let a = c .before .before .before .before .before .before .before .before .args in value-of (orderOf (a .order)) (now (a .body)) (now (a .table)) (a .from) (a .at .0) Ratio (c .before .before .before .before .enum-told4 .given .1) (c .before .before .read-ratio .ensures)
+returns-4 c = let a = c .before .before .before .before .before .before .before .before .args in value-of (orderOf (a .order)) (now (a .body)) (now (a .table)) (a .from) (a .at .0) Ratio (c .before .before .before .before .enum-told4 .given .1) (c .before .before .read-pair .ensures)
 
 same-length-5 : tie.Need-same-length-5
 same-length-5 c = search needs
@@ -131,6 +143,18 @@ same-length-10 c = search needs
 returns-10 : tie.Need-returns-10
 returns-10 c = let a = c .before .before .before .before .before .before .before .before .args in value-of (orderOf (a .order)) (now (a .body)) (now (a .table)) (a .from) (a .at .0) Path (c .before .before .before .before .enum-told10 .given .1) (c .before .before .read-path .ensures)
 
+same-length-11 : tie.Need-same-length-11
+same-length-11 c = search needs
+
+returns-11 : tie.Need-returns-11
+returns-11 c = let a = c .before .before .before .before .before .before .before .before .args in value-of (orderOf (a .order)) (now (a .body)) (now (a .table)) (a .from) (a .at .0) Point (c .before .before .before .before .enum-told11 .given .1) (c .before .before .read-pair2 .ensures)
+
+same-length-12 : tie.Need-same-length-12
+same-length-12 c = search needs
+
+returns-12 : tie.Need-returns-12
+returns-12 c = let a = c .before .before .before .before .before .before .before .before .args in value-of (orderOf (a .order)) (now (a .body)) (now (a .table)) (a .from) (a .at .0) AnchorPointGrouping (c .before .before .before .before .enum-told12 .given .1) (c .before .before .read-one9 .ensures)
+
 pub read-value-spec : {M : Type 1} → statement M
 read-value-spec =
     tie.close
@@ -142,7 +166,7 @@ read-value-spec =
     enum-told-3
     read-one-requires-3
     enum-told-4
-    read-ratio-requires
+    read-pair-requires
     enum-told-5
     read-one-requires-4
     enum-told-6
@@ -155,6 +179,10 @@ read-value-spec =
     read-one-requires-8
     enum-told-10
     read-path-requires
+    enum-told-11
+    read-pair-requires-2
+    enum-told-12
+    read-one-requires-9
     same-length
     returns
     same-length-2
@@ -174,4 +202,8 @@ read-value-spec =
     same-length-9
     returns-9
     same-length-10
-    returns-10)
+    returns-10
+    same-length-11
+    returns-11
+    same-length-12
+    returns-12)

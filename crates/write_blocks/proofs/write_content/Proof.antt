@@ -47,7 +47,7 @@ same-length-2 : tie.Need-same-length-2
 same-length-2 c = search needs
 
 returns-3 : tie.Need-returns-3
-returns-3 c = let a = c .before .before .before .before .before .before .before .before .before .args in content-is (orderOf (a .order)) (now (a .values)) (at (now (a .out)) (a .sink)) (a .from) (keyframed (kindOf (a .attribute .kind)) (typeOf (a .attribute .data_type))) (contentOf (kindOf (a .attribute .kind)) (typeOf (a .attribute .data_type)) (a .flag)) (content-told (kindOf (a .attribute .kind)) (typeOf (a .attribute .data_type)) (a .flag) Frames (c .before .before .before .before .before .before .content-of .ensures) (c .before .before .before .before .enum-told3 .given .1)) (c .before .before .write-keyframed .ensures)
+returns-3 c = let a = c .before .before .before .before .before .before .before .before .before .args in content-is (orderOf (a .order)) (now (a .values)) (at (now (a .out)) (a .sink)) (a .from) (keyframed (kindOf (a .attribute .kind)) (typeOf (a .attribute .data_type)) (a .flag)) (contentOf (kindOf (a .attribute .kind)) (typeOf (a .attribute .data_type)) (a .flag)) (content-told (kindOf (a .attribute .kind)) (typeOf (a .attribute .data_type)) (a .flag) Frames (c .before .before .before .before .before .before .content-of .ensures) (c .before .before .before .before .enum-told3 .given .1)) (c .before .before .write-keyframed .ensures)
 
 pub write-content-spec : {M : Type 1} → statement M
 write-content-spec =

@@ -2,7 +2,10 @@
 use denote.Ref.{now}
 use Rattle.bits.specs.Places.{orderOf}
 use Rattle.sink.specs.Laying.{at}
-use Rattle.values.specs.Parts.{pathOf}
+use lib.Dec.{lit≤}
+use Rattle.values.specs.Parts.{announcing}
+use Rattle.table.specs.declared.fields.Field.the-variants.{Verb}
+use Rattle.write_values.proofs.ValueLaws.{path-of}
 use native.Mathlib.Omega.{arith}
 use Rattle.items.specs.Kinds.{formatOf}
 use Rattle.items.specs.declared.Item.the-variants.{Count}
@@ -25,22 +28,22 @@ same-length : tie.Need-same-length
 same-length c = search needs
 
 returns : tie.Need-returns
-returns c = let a = c .before .before .before .before .before .before .before .before .args in counted-stop (orderOf (a .order)) 0 pathOf (now (a .values)) (at (now (a .out)) (a .sink)) (a .from) (c .before .before .before .before .write-one .last .1 .1 .0) (c .before .before .before .before .write-one .result) (c .before .before .before .before .write-one .ensures) (c .enum-told .given .1)
+returns c = let a = c .before .before .before .before .before .before .before .before .args in path-of (orderOf (a .order)) (now (a .values)) (at (now (a .out)) (a .sink)) (a .from) (counted-stop (orderOf (a .order)) 0 (announcing Verb 3) (now (a .values)) (at (now (a .out)) (a .sink)) (a .from) (c .before .before .before .before .write-one .last .1 .1 .0) (c .before .before .before .before .write-one .result) (c .before .before .before .before .write-one .ensures) (c .enum-told .given .1))
 
-mul-write-verbs : tie.Need-mul-write-verbs
-mul-write-verbs c = let a = c .before .before .before .before .before .before .before .before .before .args in let h = counted-inside (orderOf (a .order)) 0 pathOf (now (a .values)) (at (now (a .out)) (a .sink)) (a .from) (c .before .before .before .before .before .write-one .last .1 .1 .0) (c .before .before .before .before .before .write-one .result) (c .before .before .before .before .before .write-one .ensures) (c .before .r .given .0 .0) (c .before .r .given .0 .1 .0) (c .before .r .given .1) in omega (arith, h)
+mul-write-announcing : tie.Need-mul-write-announcing
+mul-write-announcing c = let a = c .before .before .before .before .before .before .before .before .before .args in let h = counted-inside (orderOf (a .order)) 0 (announcing Verb 3) (now (a .values)) (at (now (a .out)) (a .sink)) (a .from) (c .before .before .before .before .before .write-one .last .1 .1 .0) (c .before .before .before .before .before .write-one .result) (c .before .before .before .before .before .write-one .ensures) (c .before .r .given .0 .0) (c .before .r .given .0 .1 .0) (c .before .r .given .1) in omega (arith, h)
 
-shared-slice-read-write-verbs : tie.Need-shared-slice-read-write-verbs
-shared-slice-read-write-verbs c = let a = c .before .before .before .before .before .before .before .before .before .before .args in counted-inside (orderOf (a .order)) 0 pathOf (now (a .values)) (at (now (a .out)) (a .sink)) (a .from) (c .before .before .before .before .before .before .write-one .last .1 .1 .0) (c .before .before .before .before .before .before .write-one .result) (c .before .before .before .before .before .before .write-one .ensures) (c .before .before .r .given .0 .0) (c .before .before .r .given .0 .1 .0) (c .before .before .r .given .1)
+shared-slice-read-write-announcing : tie.Need-shared-slice-read-write-announcing
+shared-slice-read-write-announcing c = let a = c .before .before .before .before .before .before .before .before .before .before .args in counted-inside (orderOf (a .order)) 0 (announcing Verb 3) (now (a .values)) (at (now (a .out)) (a .sink)) (a .from) (c .before .before .before .before .before .before .write-one .last .1 .1 .0) (c .before .before .before .before .before .before .write-one .result) (c .before .before .before .before .before .before .write-one .ensures) (c .before .before .r .given .0 .0) (c .before .before .r .given .0 .1 .0) (c .before .before .r .given .1)
 
-write-verbs-requires : tie.Need-write-verbs-requires
-write-verbs-requires c κs = let a = c .before .before .before .before .before .before .before .before .before .before .before .args in (ran-fine (orderOf (a .order)) (now (a .values)) (now (a .out)) (a .sink) (a .from) (formatOf (Count 0)) (c .before .before .before .before .before .before .before .write-one .last .1 .1 .0) (c .before .before .before .before .before .before .before .write-one .result) (c .before .before .before .before .before .before .before .before .before .before .before .pre) (c .before .before .before .before .before .before .before .write-one .ensures) (c .before .before .before .r .given .0 .0) (c .before .before .before .r .given .0 .1 .0) (c .before .before .before .r .given .1), counted-most (orderOf (a .order)) 0 pathOf (now (a .values)) (at (now (a .out)) (a .sink)) (a .from) (c .before .before .before .before .before .before .before .write-one .last .1 .1 .0) (c .before .before .before .before .before .before .before .write-one .result) (c .before .before .before .before .before .before .before .write-one .ensures) (c .before .before .before .r .given .0 .0) (c .before .before .before .r .given .0 .1 .0) (c .before .before .before .r .given .1))
+write-announcing-requires : tie.Need-write-announcing-requires
+write-announcing-requires c κs = let a = c .before .before .before .before .before .before .before .before .before .before .before .args in (ran-fine (orderOf (a .order)) (now (a .values)) (now (a .out)) (a .sink) (a .from) (formatOf (Count 0)) (c .before .before .before .before .before .before .before .write-one .last .1 .1 .0) (c .before .before .before .before .before .before .before .write-one .result) (c .before .before .before .before .before .before .before .before .before .before .before .pre) (c .before .before .before .before .before .before .before .write-one .ensures) (c .before .before .before .r .given .0 .0) (c .before .before .before .r .given .0 .1 .0) (c .before .before .before .r .given .1), lit≤ tt, lit≤ tt, omega (arith, counted-most (orderOf (a .order)) 0 (announcing Verb 3) (now (a .values)) (at (now (a .out)) (a .sink)) (a .from) (c .before .before .before .before .before .before .before .write-one .last .1 .1 .0) (c .before .before .before .before .before .before .before .write-one .result) (c .before .before .before .before .before .before .before .write-one .ensures) (c .before .before .before .r .given .0 .0) (c .before .before .before .r .given .0 .1 .0) (c .before .before .before .r .given .1)))
 
 same-length-2 : tie.Need-same-length-2
 same-length-2 c = search needs
 
 returns-2 : tie.Need-returns-2
-returns-2 c = let a = c .before .before .before .before .before .before .before .before .before .before .before .before .before .before .args in counted-on (orderOf (a .order)) 0 pathOf (now (a .values)) (at (now (a .out)) (a .sink)) (a .from) (c .before .before .before .before .before .before .before .before .before .before .write-one .last .1 .1 .0) (c .before .before .before .before .before .before .before .before .before .before .write-one .result) (c .before .before .before .before .before .before .before .before .before .before .write-one .ensures) (c .before .before .before .before .before .before .r .given .0 .0) (c .before .before .before .before .before .before .r .given .0 .1 .0) (c .before .before .before .before .before .before .r .given .1) (c .before .before .write-verbs .ensures)
+returns-2 c = let a = c .before .before .before .before .before .before .before .before .before .before .before .before .before .before .args in path-of (orderOf (a .order)) (now (a .values)) (at (now (a .out)) (a .sink)) (a .from) (counted-on (orderOf (a .order)) 0 (announcing Verb 3) (now (a .values)) (at (now (a .out)) (a .sink)) (a .from) (c .before .before .before .before .before .before .before .before .before .before .write-one .last .1 .1 .0) (c .before .before .before .before .before .before .before .before .before .before .write-one .result) (c .before .before .before .before .before .before .before .before .before .before .write-one .ensures) (c .before .before .before .before .before .before .r .given .0 .0) (c .before .before .before .before .before .before .r .given .0 .1 .0) (c .before .before .before .before .before .before .r .given .1) (c .before .before .write-announcing .ensures))
 
 pub write-path-spec : {M : Type 1} → statement M
 write-path-spec =
@@ -51,8 +54,8 @@ write-path-spec =
     enum-told
     same-length
     returns
-    mul-write-verbs
-    shared-slice-read-write-verbs
-    write-verbs-requires
+    mul-write-announcing
+    shared-slice-read-write-announcing
+    write-announcing-requires
     same-length-2
     returns-2)

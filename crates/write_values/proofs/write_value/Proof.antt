@@ -2,7 +2,7 @@
 use denote.Ref.{now}
 use Rattle.bits.specs.Places.{orderOf}
 use Rattle.sink.specs.Laying.{at}
-use Rattle.attributes.specs.declared.DataType.the-variants.{U32, Time, Float, Ratio, Bool, Byte, BlendMode, TrackMatteType, MaskMode, Path}
+use Rattle.attributes.specs.declared.DataType.the-variants.{U32, Time, Float, Ratio, Bool, Byte, BlendMode, TrackMatteType, MaskMode, Path, Point, AnchorPointGrouping}
 use Rattle.write_values.proofs.ValueLaws.{value-of}
 use borrow.Author.Needs.{needs}
 use Rattle.write_values.proofs.write_value.Statement.{statement}
@@ -29,8 +29,8 @@ write-one-requires-3 c κs = search needs
 enum-told-4 : tie.Need-enum-told-4
 enum-told-4 c = search needs
 
-write-ratio-requires : tie.Need-write-ratio-requires
-write-ratio-requires c κs = search needs
+write-pair-requires : tie.Need-write-pair-requires
+write-pair-requires c κs = search needs
 
 enum-told-5 : tie.Need-enum-told-5
 enum-told-5 c = search needs
@@ -68,6 +68,18 @@ enum-told-10 c = search needs
 write-path-requires : tie.Need-write-path-requires
 write-path-requires c κs = search needs
 
+enum-told-11 : tie.Need-enum-told-11
+enum-told-11 c = search needs
+
+write-pair-requires-2 : tie.Need-write-pair-requires-2
+write-pair-requires-2 c κs = search needs
+
+enum-told-12 : tie.Need-enum-told-12
+enum-told-12 c = search needs
+
+write-one-requires-9 : tie.Need-write-one-requires-9
+write-one-requires-9 c κs = search needs
+
 same-length : tie.Need-same-length
 same-length c = search needs
 
@@ -90,7 +102,7 @@ same-length-4 : tie.Need-same-length-4
 same-length-4 c = search needs
 
 returns-4 : tie.Need-returns-4
-returns-4 c = let a = c .before .before .before .before .before .before .before .before .args in value-of (orderOf (a .order)) (now (a .values)) (at (now (a .out)) (a .sink)) (a .from) Ratio (c .before .before .before .before .enum-told4 .given .1) (c .before .before .write-ratio .ensures)
+returns-4 c = let a = c .before .before .before .before .before .before .before .before .args in value-of (orderOf (a .order)) (now (a .values)) (at (now (a .out)) (a .sink)) (a .from) Ratio (c .before .before .before .before .enum-told4 .given .1) (c .before .before .write-pair .ensures)
 
 same-length-5 : tie.Need-same-length-5
 same-length-5 c = search needs
@@ -128,6 +140,18 @@ same-length-10 c = search needs
 returns-10 : tie.Need-returns-10
 returns-10 c = let a = c .before .before .before .before .before .before .before .before .args in value-of (orderOf (a .order)) (now (a .values)) (at (now (a .out)) (a .sink)) (a .from) Path (c .before .before .before .before .enum-told10 .given .1) (c .before .before .write-path .ensures)
 
+same-length-11 : tie.Need-same-length-11
+same-length-11 c = search needs
+
+returns-11 : tie.Need-returns-11
+returns-11 c = let a = c .before .before .before .before .before .before .before .before .args in value-of (orderOf (a .order)) (now (a .values)) (at (now (a .out)) (a .sink)) (a .from) Point (c .before .before .before .before .enum-told11 .given .1) (c .before .before .write-pair2 .ensures)
+
+same-length-12 : tie.Need-same-length-12
+same-length-12 c = search needs
+
+returns-12 : tie.Need-returns-12
+returns-12 c = let a = c .before .before .before .before .before .before .before .before .args in value-of (orderOf (a .order)) (now (a .values)) (at (now (a .out)) (a .sink)) (a .from) AnchorPointGrouping (c .before .before .before .before .enum-told12 .given .1) (c .before .before .write-one9 .ensures)
+
 pub write-value-spec : {M : Type 1} → statement M
 write-value-spec =
     tie.close
@@ -139,7 +163,7 @@ write-value-spec =
     enum-told-3
     write-one-requires-3
     enum-told-4
-    write-ratio-requires
+    write-pair-requires
     enum-told-5
     write-one-requires-4
     enum-told-6
@@ -152,6 +176,10 @@ write-value-spec =
     write-one-requires-8
     enum-told-10
     write-path-requires
+    enum-told-11
+    write-pair-requires-2
+    enum-told-12
+    write-one-requires-9
     same-length
     returns
     same-length-2
@@ -171,4 +199,8 @@ write-value-spec =
     same-length-9
     returns-9
     same-length-10
-    returns-10)
+    returns-10
+    same-length-11
+    returns-11
+    same-length-12
+    returns-12)

@@ -46,7 +46,7 @@ same-length-2 : tie.Need-same-length-2
 same-length-2 c = search needs
 
 returns-3 : tie.Need-returns-3
-returns-3 c = let a = c .before .before .before .before .before .before .before .before .before .args in content-is (orderOf (a .order)) (now (a .body)) (now (a .table)) (a .from) (a .at .0) (keyframed (kindOf (a .kind)) (typeOf (a .what))) (contentOf (kindOf (a .kind)) (typeOf (a .what)) (a .flag)) (content-told (kindOf (a .kind)) (typeOf (a .what)) (a .flag) Frames (c .before .before .before .before .before .before .content-of .ensures) (c .before .before .before .before .enum-told3 .given .1)) (c .before .before .read-keyframed .ensures)
+returns-3 c = let a = c .before .before .before .before .before .before .before .before .before .args in content-is (orderOf (a .order)) (now (a .body)) (now (a .table)) (a .from) (a .at .0) (keyframed (kindOf (a .kind)) (typeOf (a .what)) (a .flag)) (contentOf (kindOf (a .kind)) (typeOf (a .what)) (a .flag)) (content-told (kindOf (a .kind)) (typeOf (a .what)) (a .flag) Frames (c .before .before .before .before .before .before .content-of .ensures) (c .before .before .before .before .enum-told3 .given .1)) (c .before .before .read-keyframed .ensures)
 
 pub read-content-spec : {M : Type 1} → statement M
 read-content-spec =

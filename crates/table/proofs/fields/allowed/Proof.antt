@@ -22,6 +22,9 @@ enum-told-4 c = search needs
 enum-told-5 : tie.Need-enum-told-5
 enum-told-5 c = search needs
 
+enum-told-6 : tie.Need-enum-told-6
+enum-told-6 c = search needs
+
 returns : tie.Need-returns
 returns c = ap (λ (z : Field). allows z (c .before .before .args .value)) (sym (c .enum-told .given .1))
 
@@ -37,6 +40,9 @@ returns-4 c = search needs
 returns-5 : tie.Need-returns-5
 returns-5 c = search needs
 
+returns-6 : tie.Need-returns-6
+returns-6 c = search needs
+
 pub allowed-spec : {M : Type 1} → statement M
 allowed-spec =
     tie.close
@@ -46,8 +52,10 @@ allowed-spec =
     enum-told-3
     enum-told-4
     enum-told-5
+    enum-told-6
     returns
     returns-2
     returns-3
     returns-4
-    returns-5)
+    returns-5
+    returns-6)

@@ -2,7 +2,7 @@ use denote.Ref.{now}
 use mathlib.Core.Path.{sym, _∙_}
 use Rattle.bits.specs.Places.{orderOf}
 use Rattle.format.specs.Bodies.{aligned}
-use Rattle.values.specs.Parts.{scaled}
+use Rattle.format.specs.Items.{scaled}
 use Rattle.table.proofs.EngineLaws.{then-none, then-never}
 use Rattle.table.proofs.RunLaws.{align-none, align-never, align-fits}
 use borrow.Author.Needs.{needs}

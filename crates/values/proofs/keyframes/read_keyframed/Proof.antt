@@ -39,10 +39,10 @@ same-length : tie.Need-same-length
 same-length c = search needs
 
 returns : tie.Need-returns
-returns c = let a = c .before .before .before .before .before .before .before .before .before .before .before .before .before .before .args in then-one (orderOf (a .order)) (now (a .body)) (now (a .table)) (a .from) (count _ _) (λ n. keyframesOf (kindOf (a .kind)) (typeOf (a .what)) (the n)) (a .at .0) (got-value (c .before .before .before .before .before .before .before .before .before .before .before .read-item .ensures) (c .before .before .before .before .before .before .before .before .before .counted .given .1)) (c .before .before .before .before .before .before .put .ensures) (c .before .before .read-keyframes .ensures)
+returns c = let a = c .before .before .before .before .before .before .before .before .before .before .before .before .before .before .args in then-one (orderOf (a .order)) (now (a .body)) (now (a .table)) (a .from) (count _ _) (λ n. keyframesOf (kindOf (a .kind)) (typeOf (a .what)) (a .flag) (the n)) (a .at .0) (got-value (c .before .before .before .before .before .before .before .before .before .before .before .read-item .ensures) (c .before .before .before .before .before .before .before .before .before .counted .given .1)) (c .before .before .before .before .before .before .put .ensures) (c .before .before .read-keyframes .ensures)
 
 returns-2 : tie.Need-returns-2
-returns-2 c = let a = c .before .before .before .before .before .before .args in then-never (orderOf (a .order)) (now (a .body)) (now (a .table)) (a .from) (count _ _) (λ n. keyframesOf (kindOf (a .kind)) (typeOf (a .what)) (the n)) (a .at .0) (got-fault (c .before .before .before .read-item .ensures) (c .before .counted2 .given .1))
+returns-2 c = let a = c .before .before .before .before .before .before .args in then-never (orderOf (a .order)) (now (a .body)) (now (a .table)) (a .from) (count _ _) (λ n. keyframesOf (kindOf (a .kind)) (typeOf (a .what)) (a .flag) (the n)) (a .at .0) (got-fault (c .before .before .before .read-item .ensures) (c .before .counted2 .given .1))
 
 pub read-keyframed-spec : {M : Type 1} → statement M
 read-keyframed-spec =

@@ -3,7 +3,7 @@ use mathlib.Core.Path.{sym, _∙_}
 use native.Mathlib.Omega.{arith}
 use Rattle.bits.specs.Places.{orderOf}
 use Rattle.format.specs.Bodies.{aligned, values}
-use Rattle.attributes.specs.Rows.{typeOf}
+use Rattle.attributes.specs.Rows.{kindOf, typeOf}
 use Rattle.table.proofs.EngineLaws.{then-none, then-never}
 use Rattle.table.proofs.RunLaws.{align-none, align-never, align-fits}
 use borrow.Author.Needs.{needs}
@@ -24,7 +24,7 @@ enum-told : tie.Need-enum-told
 enum-told c = search needs
 
 returns : tie.Need-returns
-returns c = let a = c .before .before .before .before .before .args in then-never (orderOf (a .order)) (now (a .body)) (now (a .table)) (a .from) aligned (λ xs. values (typeOf (a .what)) (a .count)) (a .at .0) (align-never (orderOf (a .order)) (now (a .body)) (a .at .0) (sym (c .before .before .align .ensures) ∙ c .enum-told .given .1))
+returns c = let a = c .before .before .before .before .before .args in then-never (orderOf (a .order)) (now (a .body)) (now (a .table)) (a .from) aligned (λ xs. values (kindOf (a .kind)) (typeOf (a .what)) (a .count)) (a .at .0) (align-never (orderOf (a .order)) (now (a .body)) (a .at .0) (sym (c .before .before .align .ensures) ∙ c .enum-told .given .1))
 
 read-frame-values-requires : tie.Need-read-frame-values-requires
 read-frame-values-requires c κs = let a = c .before .before .before .before .before .before .before .args in
@@ -36,7 +36,7 @@ same-length : tie.Need-same-length
 same-length c = search needs
 
 returns-2 : tie.Need-returns-2
-returns-2 c = let a = c .before .before .before .before .before .before .before .before .before .before .args in then-none (orderOf (a .order)) (now (a .body)) (now (a .table)) (a .from) aligned (λ xs. values (typeOf (a .what)) (a .count)) (a .at .0) (align-none (orderOf (a .order)) (now (a .body)) (a .at .0) (sym (c .before .before .before .before .before .before .before .align .ensures) ∙ c .before .before .before .before .before .aligned .given .1)) (c .before .before .read-frame-values .ensures)
+returns-2 c = let a = c .before .before .before .before .before .before .before .before .before .before .args in then-none (orderOf (a .order)) (now (a .body)) (now (a .table)) (a .from) aligned (λ xs. values (kindOf (a .kind)) (typeOf (a .what)) (a .count)) (a .at .0) (align-none (orderOf (a .order)) (now (a .body)) (a .at .0) (sym (c .before .before .before .before .before .before .before .align .ensures) ∙ c .before .before .before .before .before .aligned .given .1)) (c .before .before .read-frame-values .ensures)
 
 pub read-values-part-spec : {M : Type 1} → statement M
 read-values-part-spec =

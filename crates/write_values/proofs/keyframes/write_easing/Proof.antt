@@ -2,7 +2,7 @@
 use denote.Ref.{now}
 use Rattle.bits.specs.Places.{orderOf}
 use Rattle.sink.specs.Laying.{at}
-use Rattle.values.specs.Parts.{scaled}
+use Rattle.format.specs.Items.{scaled}
 use Rattle.spelling.proofs.RunLaws.{align-on}
 use borrow.Author.Needs.{needs}
 use Rattle.write_values.proofs.keyframes.write_easing.Statement.{statement}
