@@ -15,8 +15,8 @@ use mir.ValLaws.{toZ-ofZ}
 use borrow.Author.Tests.{le-leb, lt-leb, lt-ltb, le-ltb, leb-true, leb-false, ltb-true, ltb-false}
 use Rattle.format.specs.Tests.{pick}
 use Rattle.format.proofs.Absurd.{clash}
-use Rattle.format.specs.Reasons.{accepted, refused}
-use Rattle.singles.specs.Single.{product, behind, nearest, magnitude, ofStep, single}
+use Rattle.format.specs.Reasons.{Answer, accepted, refused}
+use Rattle.singles.specs.Single.{product, behind, nearest, magnitude, ofStep, single, ofNumber}
 
 -- a product has 48 digits at most, so that 24 at most stand behind its first 24
 pub few : (e : ℕ) {x u : ℕ} → u ≡ 2 ^ e → 8388608 * u ≤ x → x < 281474976710656 → e ≤ 24
@@ -171,3 +171,20 @@ kept z f h = go (held z) (toZ-ofZ w64 z f) (rw (toZ-ofZ w64 z f) f) h
     go : (y : ℤ) → y ≡ z → SFits w64 y → ltZ y (pos 0) ≡ false → Kept z y
     go (pos n) e f h = record { positive = tt; small = record { fits = omega (arith, f .sfits) }; same = ap single e }
     go (negsuc n) e f h = clash (cc)
+
+-- ---- a step as a table keeps it
+pub number-low : {n : ℕ} {a : Answer} → n < 9223372036854775808 → a ≡ ofStep false n → a ≡ ofNumber n
+number-low {n} h e = rw (lt-ltb n 9223372036854775808 h) e
+
+pub number-high : {n : ℕ} {a : Answer} → 9223372036854775808 ≤ n → n ≤ 18446744073709551615 → a ≡ ofStep true (18446744073709551615 - n + 1) → a ≡ ofNumber n
+number-high {n} h l e =
+    let d : 18446744073709551615 - n + 1 ≡ 18446744073709551616 - n = omega arith in
+    rw (le-ltb n 9223372036854775808 h) (e ∙ ap (ofStep true) d)
+
+-- a signed step and its number have the same single
+pub number-single : (z : ℤ) → SFits w64 z → ofNumber (ofZ w64 z) ≡ single z
+number-single (pos n) f = rw (lt-ltb n 9223372036854775808 (f .sfits))
+number-single (negsuc n) f =
+    let l : n < 9223372036854775808 = f .sfits in
+    let d : 18446744073709551616 - (18446744073709551616 - suc n) ≡ suc n = omega arith in
+    rw (le-ltb (18446744073709551616 - suc n) 9223372036854775808 (omega arith)) (ap (ofStep true) d)

@@ -1,5 +1,5 @@
 -- Document 02, C-23: the single-precision value of a path step as its bits, by whole numbers.
-use Prim.Native.Nat.{ℕ, zero, suc, _+_, _*_, _/_, _%_, _^_}
+use Prim.Native.Nat.{ℕ, zero, suc, _+_, _-_, _*_, _/_, _%_, _^_}
 use mathlib.Core.Bool.{Bool, true, false}
 use lib.Dec.{ltb, leb, eqb}
 use lib.IntN.{ℤ, pos, negsuc}
@@ -35,3 +35,7 @@ ofStep negative n = pick (leb n 16777216) (accepted (pick negative (2 ^ 31) 0 + 
 abbrev pub single : ℤ → Answer
 single (pos n) = ofStep false n
 single (negsuc n) = ofStep true (suc n)
+
+-- a step as a table keeps it, modulo 2^64
+abbrev pub ofNumber : ℕ → Answer
+ofNumber n = pick (ltb n (2 ^ 63)) (ofStep false n) (ofStep true (2 ^ 64 - n))

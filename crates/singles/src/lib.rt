@@ -2,7 +2,7 @@
 ghost use mathlib.Core.Path.{_≡_};
 ghost use Prim.Native.Nat.{_*_, _^_, _≤_, _<_};
 ghost use Rattle.answers.specs.Answers.{answerOf};
-ghost use Rattle.singles.specs.Single.{product, behind, nearest, magnitude as magnitudeOf, ofStep, single as singleOf};
+ghost use Rattle.singles.specs.Single.{product, behind, nearest, magnitude as magnitudeOf, ofStep, single as singleOf, ofNumber};
 use answers::Answer;
 
 // The steps that convert without loss are up to this, either way.
@@ -70,4 +70,14 @@ pub fn single(step: i64) -> Answer
         return of_step(true, (0 - step) as u64);
     }
     of_step(false, step as u64)
+}
+
+// The same of a step as a table keeps it, modulo 2^64.
+pub fn of_number(number: u64) -> Answer
+    ensures { λ r. ⌜ answerOf r ≡ ofNumber number ⌝ }
+{
+    if number < 9223372036854775808 {
+        return of_step(false, number);
+    }
+    of_step(true, 18446744073709551615 - number + 1)
 }
