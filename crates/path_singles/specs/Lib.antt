@@ -1,0 +1,2 @@
+pub mod Coordinates
+pub mod Converting
