@@ -16,14 +16,14 @@ use Rattle.path_singles.specs.Converting.{left, from, over, verbsOf, fir
 use Rattle.path_singles.proofs.StepLaws.{beside, or-assoc, or-false}
 
 -- ---- no index is past the end
-take-min : (x : ℕ) (v : List ℕ) → take (min x (length v)) v ≡ take x v
+pub take-min : (x : ℕ) (v : List ℕ) → take (min x (length v)) v ≡ take x v
 take-min x v = go (leb x (length v)) refl
   where
     go : (b : Bool) → leb x (length v) ≡ b → take (min x (length v)) v ≡ take x v
     go true t = let h : x ≤ length v = leb-true x (length v) t in let e : min x (length v) ≡ x = omega arith in rw e
     go false t = let h : length v < x = leb-false x (length v) t in let e : min x (length v) ≡ length v = omega arith in rw e (take-all (length v) v (omega arith) ∙ sym (take-all x v (omega arith)))
 
-drop-min : (x : ℕ) (v : List ℕ) → drop (min x (length v)) v ≡ drop x v
+pub drop-min : (x : ℕ) (v : List ℕ) → drop (min x (length v)) v ≡ drop x v
 drop-min x v = go (leb x (length v)) refl
   where
     go : (b : Bool) → leb x (length v) ≡ b → drop (min x (length v)) v ≡ drop x v
@@ -31,7 +31,7 @@ drop-min x v = go (leb x (length v)) refl
     go false t = let h : length v < x = leb-false x (length v) t in let e : min x (length v) ≡ length v = omega arith in rw e (drop-of-length-le v {i = length v} (omega arith) ∙ sym (drop-of-length-le v {i = x} (omega arith)))
 
 -- n numbers from index k on, or all that there are
-take-up-to : (k n : ℕ) (v : List ℕ) → k ≤ length v → take (min (k + n) (length v) - k) (drop k v) ≡ take n (drop k v)
+pub take-up-to : (k n : ℕ) (v : List ℕ) → k ≤ length v → take (min (k + n) (length v) - k) (drop k v) ≡ take n (drop k v)
 take-up-to k n v h =
     let l : length (drop k v) ≡ length v - k = length-drop k v in
     let e : min (k + n) (length v) - k ≡ min n (length (drop k v)) = omega arith in

@@ -3,8 +3,12 @@ use Prim.Native.Nat.{ℕ, suc, _+_, _-_, min}
 use mathlib.Core.Bool.{Bool}
 use mathlib.Core.List.{List, _++_, map}
 use lib.ListN.{length, getD, take, drop}
+use Rattle.format.specs.Tests.{pick}
+use Rattle.format.specs.Bits.{high}
+use Rattle.format.specs.Bodies.{Attribute}
+use Rattle.format.specs.Reasons.{Answer, accepted, refused}
 use Rattle.format.specs.Items.{coordinates}
-use Rattle.path_singles.specs.Coordinates.{Singled, asSingle, anyBeyond, joined}
+use Rattle.path_singles.specs.Coordinates.{Singled, asSingle, anyBeyond, plain, isPath, earlier, behindFlag}
 
 abbrev pub left : List ℕ → Bool → Singled
 left v b = record { shown = v; beyond = b }
@@ -26,3 +30,20 @@ firstOf v k = min (suc k + suc (getD v k 0)) (length v)
 
 abbrev pub behindOf : List ℕ → ℕ → ℕ
 behindOf v k = min (firstOf v k + coordinates (verbsOf v k)) (length v)
+
+-- the attribute a of the block attrs, of number i: its coordinates, if it is a path
+unfoldable pub rowOf : List ℕ → List Attribute → Attribute → ℕ → List ℕ → Singled
+rowOf b attrs a i v = pick (isPath a) (behindFlag (length (earlier high b attrs i)) v) (plain v)
+
+-- the numbers v, of which those from index i up to j become s
+unfoldable pub between : List ℕ → ℕ → ℕ → Singled → Singled
+between v i j s = left (take i v ++ (s .shown ++ drop j v)) (s .beyond)
+
+-- the bytes of a body, which stand n from place p on
+abbrev pub bodyAt : List ℕ → ℕ → ℕ → List ℕ
+bodyAt f p n = take n (drop p f)
+
+-- the first that was noted stays
+abbrev pub noted : Answer → Bool → ℕ → Answer
+noted (accepted n) b place = pick b (refused 29 place) (accepted n)
+noted (refused e n) b place = refused e n

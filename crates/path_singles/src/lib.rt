@@ -6,11 +6,15 @@ ghost use Rattle.format.specs.Tests.{_or_};
 ghost use Rattle.format.specs.Items.{coordinates as coordinatesIn};
 ghost use Rattle.path_singles.specs.Coordinates.{asSingle, isBeyond, paths, frames, content, behindFlag};
 ghost use Rattle.path_singles.specs.Converting.{left, from as fromIndex, over, firstOf, behindOf};
+
+pub mod blocks;
+pub mod tags;
+
 use answers::Answer;
 use table::fields::Field;
 
 // The index that lies so many numbers behind another; no index is past the end.
-fn up_to(index: usize, count: u64, len: usize) -> usize
+pub(crate) fn up_to(index: usize, count: u64, len: usize) -> usize
     requires { ⌜ index ≤ len ⌝ }
     ensures { λ r. ⌜ r ≡ min (index + count) len ⌝ }
 {
@@ -23,7 +27,7 @@ fn up_to(index: usize, count: u64, len: usize) -> usize
 }
 
 // One of the two, or both.
-fn either(one: bool, other: bool) -> bool
+pub(crate) fn either(one: bool, other: bool) -> bool
     ensures { λ r. ⌜ r ≡ one or other ⌝ }
 {
     if one { true } else { other }
@@ -128,7 +132,7 @@ fn convert_frames(values: &mut [u64], at: usize) -> bool
 }
 
 // A path attribute, whose flag number stands at an index: no content, one path, or keyframes.
-fn convert_attribute(values: &mut [u64], at: usize) -> bool
+pub(crate) fn convert_attribute(values: &mut [u64], at: usize) -> bool
     requires { ⌜ length (now values) < 2 ^ 32 ⌝ }
     ensures { λ r. ⌜ left (now (values .exit)) r ≡ behindFlag at (now (values .entry)) ⌝ }
 {
