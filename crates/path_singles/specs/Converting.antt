@@ -8,6 +8,7 @@ use Rattle.format.specs.Bits.{high}
 use Rattle.format.specs.Bodies.{Attribute}
 use Rattle.format.specs.Reasons.{Answer, accepted, refused}
 use Rattle.format.specs.Items.{coordinates}
+use Rattle.path_singles.specs.declared.tags.First.{First}
 use Rattle.path_singles.specs.Coordinates.{Singled, asSingle, anyBeyond, plain, isPath, earlier, behindFlag}
 
 abbrev pub left : List ℕ → Bool → Singled
@@ -44,6 +45,9 @@ abbrev pub bodyAt : List ℕ → ℕ → ℕ → List ℕ
 bodyAt f p n = take n (drop p f)
 
 -- the first that was noted stays
-abbrev pub noted : Answer → Bool → ℕ → Answer
-noted (accepted n) b place = pick b (refused 29 place) (accepted n)
-noted (refused e n) b place = refused e n
+abbrev pub noted : First → Bool → ℕ → First
+noted a b place = pick (a .beyond) a (record { beyond = b; place = place })
+
+-- and refuses the file, whatever the rest would answer
+abbrev pub carried : First → Answer → Answer
+carried a x = pick (a .beyond) (refused 29 (a .place)) x

@@ -3,10 +3,10 @@ ghost use mathlib.Core.Path.{_≡_};
 ghost use Prim.Native.Nat.{_+_, _≤_, _<_, _^_};
 ghost use lib.ListN.{length, getD};
 ghost use lib.Seq.{slice};
-ghost use Rattle.format.specs.Reasons.{walkFile};
+ghost use Rattle.format.specs.Reasons.{walkFile, accepted};
 ghost use Rattle.format.specs.TableOfNumbers.{table as tableOf};
 ghost use Rattle.answers.specs.Answers.{answerOf};
-ghost use Rattle.path_singles.specs.Converting.{left, between, bodyAt, noted};
+ghost use Rattle.path_singles.specs.Converting.{left, between, bodyAt, noted, carried};
 ghost use Rattle.path_singles.specs.Tables.{valuesBy, inSingles, judged, TablesOf};
 use crate::blocks::convert_block;
 use crate::up_to;
@@ -42,19 +42,30 @@ fn convert_tag(
     convert_block(rows[row + 1], &file[from..to], &mut table[start..end])
 }
 
-// The first tag that has a coordinate beyond.
-fn note(first: Answer, beyond: bool, place: u64) -> Answer
-    ensures { λ r. ⌜ answerOf r ≡ noted (answerOf first) beyond place ⌝ }
+// Whether a tag has a coordinate beyond, and the place of the first such.
+pub struct First {
+    pub beyond: bool,
+    pub place: u64,
+}
+
+// What is known after one tag more.
+fn note(first: First, beyond: bool, place: u64) -> First
+    ensures { λ r. ⌜ r ≡ noted first beyond place ⌝ }
 {
-    match first {
-        Answer::Refused(_, _) => first,
-        Answer::Accepted(_) => {
-            if beyond {
-                return Answer::Refused(29, place);
-            }
-            first
-        }
+    if first.beyond {
+        return first;
     }
+    First { beyond, place }
+}
+
+// 29 with the place of the first tag that has a coordinate beyond.
+fn answer_of(first: First) -> Answer
+    ensures { λ r. ⌜ answerOf r ≡ carried first (accepted 0) ⌝ }
+{
+    if first.beyond {
+        return Answer::Refused(29, first.place);
+    }
+    Answer::Accepted(0)
 }
 
 // The table of a file, with the bits of singles for path coordinates; or 29 with the place of the first tag that has a coordinate beyond.
@@ -62,7 +73,10 @@ pub fn convert(file: &[u8], rows: &[u32], table: &mut [u64]) -> Answer
     requires { ⌜ TablesOf (now file) (now table) (now rows) × (length (now file) < 2 ^ 60) × (length (now table) < 2 ^ 32) ⌝ }
     ensures { λ r. ⌜ (now (table .exit) ≡ tableOf (now (file .entry)) (inSingles (now (file .entry)) (walkFile 0 1023 (now (file .entry))))) × (answerOf r ≡ judged (now (file .entry)) (walkFile 0 1023 (now (file .entry)) .tags)) ⌝ }
 {
-    let mut first = Answer::Accepted(0);
+    let mut first = First {
+        beyond: false,
+        place: 0,
+    };
     let mut index = 1;
     let mut row = 0;
     while index < table.len() {
@@ -73,5 +87,5 @@ pub fn convert(file: &[u8], rows: &[u32], table: &mut [u64]) -> Answer
         index = end;
         row += 5;
     }
-    first
+    answer_of(first)
 }
