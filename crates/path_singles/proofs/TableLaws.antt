@@ -50,22 +50,24 @@ unfolding valuesBy
 tag-block s c b vs h = rw (ne-eqb (s % 2) 0 h)
 
 -- its body, by places that are never past the end
-body-is : (f : List ℕ) (p n i j : ℕ) → i ≡ min (0 + p) (length f) → j ≡ min (i + n) (length f) → slice i j f ≡ bodyAt f p n
+body-is : (f : List ℕ) (p n i j : ℕ) → i ≡ min (0 + p) (length f) → j ≡ min (i + n) (length f) → take (j - i) (drop i f) ≡ bodyAt f p n
 body-is f p n i j e d =
     let h : i ≤ length f = omega arith in
-    let a : i ≤ j = omega arith in
     let z : 0 + p ≡ p = omega arith in
-    sym (slice-is f i j a) ∙ ap (λ (k : ℕ). take (k - i) (drop i f)) d ∙ take-up-to i n f h
+    ap (λ (k : ℕ). take (k - i) (drop i f)) d ∙ take-up-to i n f h
     ∙ ap (take n) (ap (λ (k : ℕ). drop k f) e ∙ drop-min (0 + p) f ∙ ap (λ (k : ℕ). drop k f) z)
 
--- what the two functions leave of a tag that is read
-pub tag-read : (f v : List ℕ) (i j s c p n : ℕ) {u x : List ℕ} {y z : ℕ} {r : Bool} → (s % 2 ≡ 0 → ⊥) → y ≡ min (0 + p) (length f) → z ≡ min (y + n) (length f)
-    → u ≡ take i v ++ (x ++ drop j v) → left x r ≡ block high (slice y z f) (attributesOf c) (attributesOf c) 0 (slice i j v) → left u r ≡ between v i j (valuesBy s c (bodyAt f p n) (slice i j v))
+-- what the two functions leave of a tag that is read, its body and its values lent as parts
+pub tag-read : (f v : List ℕ) (i j s c p n y z : ℕ) {u x : List ℕ} {r : Bool} → i ≤ j → (s % 2 ≡ 0 → ⊥) → y ≡ min (0 + p) (length f) → z ≡ min (y + n) (length f)
+    → u ≡ take i v ++ (x ++ drop (j - i) (drop i v)) → left x r ≡ block high (take (z - y) (drop y f)) (attributesOf c) (attributesOf c) 0 (take (j - i) (drop i v))
+    → left u r ≡ between v i j (valuesBy s c (bodyAt f p n) (slice i j v))
 unfolding between
-tag-read f v i j s c p n {u} {x} {y} {z} {r} h a b e d =
+tag-read f v i j s c p n y z {u} {x} {r} l h a b e d =
+    let k : i + (j - i) ≡ j = omega arith in
+    let o : drop (j - i) (drop i v) ≡ drop j v = drop-drop (j - i) i v ∙ ap (λ (m : ℕ). drop m v) k in
     let w : left x r ≡ valuesBy s c (bodyAt f p n) (slice i j v) =
-    d ∙ ap (λ (b : List ℕ). block high b (attributesOf c) (attributesOf c) 0 (slice i j v)) (body-is f p n y z a b) ∙ tag-block s c (bodyAt f p n) (slice i j v) h in
-    ap (λ (q : List ℕ). left q r) e ∙ ap (λ (q : Singled). left (take i v ++ (q .shown ++ drop j v)) (q .beyond)) w
+    d ∙ ap₂ (λ (b vs : List ℕ). block high b (attributesOf c) (attributesOf c) 0 vs) (body-is f p n y z a b) (slice-is v i j l) ∙ tag-block s c (bodyAt f p n) (slice i j v) h in
+    ap (λ (q : List ℕ). left q r) (e ∙ ap (λ (m : List ℕ). take i v ++ (x ++ m)) o) ∙ ap (λ (q : Singled). left (take i v ++ (q .shown ++ drop j v)) (q .beyond)) w
 
 -- ---- the two tables of a file
 gives-one : (ns : List ℕ) (z : Outcome) {t : List ℕ} → result ns z ≡ gives t → ns ≡ t

@@ -1,7 +1,9 @@
 use Rattle.path_singles.proofs.TableLaws.{tag-opaque, tag-read}
 use denote.Ref.{now}
 use native.Mathlib.Omega.{arith}
-use mathlib.Core.Path.{refl}
+use Prim.Native.Nat.{ℕ, _+_, min}
+use lib.ListN.{length}
+use mathlib.Core.Path.{refl, ap, ap₂, _∙_}
 use borrow.Author.Needs.{needs}
 use Rattle.path_singles.proofs.tags.convert_tag.Statement.{statement}
 use Rattle.path_singles.proofs.tags.convert_tag.Tie as tie
@@ -78,7 +80,10 @@ same-length : tie.Need-same-length
 same-length c = search needs
 
 returns-2 : tie.Need-returns-2
-returns-2 c = ?
+returns-2 c = let a = c .before .before .before .before .before .before .before .before .before .before .before .before .before .before .before .args in
+    let p = ap₂ (λ (x y : ℕ). x + y) (c .before .before .before .before .before .before .before .before .before .before .number-at .ensures .0) (c .before .before .before .before .before .before .before .before .before .number-at2 .ensures .0) in
+    tag-read (now (a .file)) (now (a .table)) (a .start) (a .end) (a .state) _ _ _ _ _ (c .before .before .before .before .before .before .before .before .before .before .before .before .before .before .before .pre .2) (c .before .before .before .before .before .before .before .before .before .before .before .if1 .left) (c .before .before .before .before .before .before .before .before .up-to .ensures ∙ ap (λ (x : ℕ). min (0 + x) (length (now (a .file)))) p)
+    (c .before .before .before .before .before .before .up-to2 .ensures ∙ ap (λ (x : ℕ). min (c .before .before .before .before .before .before .before .before .up-to .result + x) (length (now (a .file)))) (c .before .before .before .before .before .before .before .number-at3 .ensures .0)) refl (c .before .before .convert-block .ensures)
 
 pub convert-tag-spec : {M : Type 1} → statement M
 convert-tag-spec =
