@@ -46,7 +46,10 @@ fn asks_singles() -> bool {
     if count != 9 {
         return false;
     }
-    word[0] == b'-' && word[2] == b's' && word[8] == b's'
+    let dashes = word[0] == b'-' && word[1] == b'-';
+    let sing = word[2] == b's' && word[3] == b'i' && word[4] == b'n' && word[5] == b'g';
+    let les = word[6] == b'l' && word[7] == b'e' && word[8] == b's';
+    dashes && sing && les
 }
 
 fn main() {

@@ -1,10 +1,10 @@
 -- What the two calls leave are a file's tables; and the listing of the table with singles is the listing with singles.
-use Prim.Native.Nat.{ℕ, _-_, _≤_}
+use Prim.Native.Nat.{ℕ, _-_, _≤_, _<_}
 use mathlib.Core.Bool.{true}
 use mathlib.Core.List.{List, [], _∷_, map}
 use mathlib.Core.Path.{_≡_, refl, ap, ap₂, sym, _∙_}
 use native.Mathlib.Omega.{arith}
-use lib.ListN.{length, getD, take, drop}
+use lib.ListN.{length, getD, take, drop, length-take}
 use borrow.Author.Tests.{le-ltb}
 use Rattle.format.specs.Tests.{pick}
 use Rattle.format.specs.FileAndTags.{Tag, Walk, Outcome, whole, fault, packed}
@@ -32,6 +32,9 @@ pub tables-of : (f m g : List ℕ) {l h : List ℕ} {r s : answers.Answer} {k j 
     → TablesOf f (take (k - 0) (drop 0 l)) (take (j - 0) (drop 0 h))
 tables-of f m g {l} {h} {k = k} {j = j} a b c d =
     (filled m (readFile 0 1023 f) a (ap answerOf b) .shows ∙ ap gives (sym (part-is l k)), filled g (readTags 0 1023 f) c (ap answerOf d) .shows ∙ ap gives (sym (part-is h j)))
+
+pub part-few : (l : List ℕ) (k : ℕ) {n : ℕ} → length l ≡ n → n < 4294967296 → length (take (k - 0) (drop 0 l)) < 4294967296
+part-few l k e h = omega (arith, ap length (part-is l k), length-take k l)
 
 -- ---- the tags with singles: opaque ones are as they were, and the tag table is the same
 shown-singles : (f : List ℕ) (ts : List Tag) → Shown f ts → Shown f (map (withSingles f) ts)
