@@ -5,7 +5,7 @@ use mathlib.Core.List.{List, [], _∷_, map}
 use mathlib.Core.Path.{_≡_, refl, ap, ap₂, sym, _∙_}
 use native.Mathlib.Omega.{arith}
 use lib.ListN.{length, getD, take, drop, length-take}
-use borrow.Author.Tests.{le-ltb}
+use borrow.Author.Tests.{le-ltb, lt-ltb}
 use Rattle.format.specs.Tests.{pick}
 use Rattle.format.specs.FileAndTags.{Tag, Walk, Outcome, whole, fault, packed}
 use Rattle.format.specs.TableOfNumbers.{table, isOpaque, bodyIn, tagTable}
@@ -57,3 +57,7 @@ singles-listed f b w =
 -- and, of a file that is not too long and whose table has room, that is all that is printed; or the line of 29
 pub singles-printed : (f t : List ℕ) → length f ≤ 32768 → length t ≤ 8192 → readFile 0 1023 f ≡ gives t → listedOr f (judged f (walkFile 0 1023 f .tags)) ≡ printedInSingles f
 singles-printed f t h l e = rw (le-ltb 32768 (length f) h, e, le-ltb 8192 (length t) l)
+
+-- 19 before it
+pub singles-full : (f t : List ℕ) → length f ≤ 32768 → 8192 < length t → readFile 0 1023 f ≡ gives t → refusal 19 (length t) ≡ printedInSingles f
+singles-full f t h l e = rw (le-ltb 32768 (length f) h, e, lt-ltb 8192 (length t) l)
