@@ -27,7 +27,7 @@ from array import array
 from collections.abc import Sequence
 from typing import Any, Callable, NamedTuple, Union
 
-__all__ = ['FILE_MAX', 'HIGH_FIRST', 'LEVEL_MAX', 'LOW_FIRST', 'Field', 'Refused', 'Tag', 'bits', 'body', 'read', 'table', 'tag_table', 'tags', 'write']
+__all__ = ['FILE_MAX', 'HIGH_FIRST', 'LEVEL_MAX', 'LOW_FIRST', 'Field', 'Refused', 'Tag', 'bits', 'body', 'read', 'single', 'table', 'tag_table', 'tags', 'write']
 
 File = Union[bytes, bytearray, memoryview, str, 'os.PathLike[str]', 'os.PathLike[bytes]']
 
@@ -61,6 +61,7 @@ WORDS = {
     20: 'no file at this level has this table',
     21: 'output too short',
     24: 'the bit order is neither',
+    29: 'a step beyond those that a single holds',
 }
 
 
@@ -140,6 +141,7 @@ _pag_read = _call('pag_read', _Answer, _U32, _U32, *_BYTES, *_ITEMS)
 _pag_tags = _call('pag_tags', _Answer, _U32, _U32, *_BYTES, *_ITEMS)
 _pag_write = _call('pag_write', _Answer, _U32, _U32, *_ITEMS, *_ITEMS)
 _pag_bits = _call('pag_bits', _Field, _U32, *_BYTES, _U64, _U32, _U32)
+_pag_single = _call('pag_single', _Answer, ctypes.c_int64)
 
 
 def _filled(call: Callable[..., Any], typecode: str, *given: Any) -> array[int]:
@@ -258,6 +260,29 @@ def bits(data: Union[bytes, bytearray, memoryview], place: int, width: int, sign
     if field.reason != ACCEPTED:
         raise Refused(field.reason, 0)
     return Field(field.value - (1 << 64) if signed and field.value >> 63 else field.value, field.place)
+
+
+def single(step: int) -> int:
+    """The single-precision value of a path step as its 32 bits: the step times the single nearest to 0.05, rounded once (C-23). A number of a table from 2^63 on is
+    a negative step.
+
+    >>> hex(single(1)), hex(single(-20)), single(0)
+    ('0x3d4ccccd', '0xbf800000', 0)
+    >>> single(2 ** 64 - 20) == single(-20)
+    True
+    >>> single(16777217)
+    Traceback (most recent call last):
+        ...
+    pag.Refused: a step beyond those that a single holds (reason 29, number 0)
+    """
+    if isinstance(step, bool) or not isinstance(step, int):
+        raise TypeError('a step is a number, and not %s' % type(step).__name__)
+    if not -(1 << 63) <= step < 1 << 64:
+        raise ValueError('a step is a number from -2^63 up to 2^64 - 1')
+    answer = _pag_single(step - (1 << 64) if step >> 63 == 1 else step)
+    if answer.reason != ACCEPTED:
+        raise Refused(answer.reason, answer.number)
+    return answer.number
 
 
 def body(values: Sequence[int]) -> bytes:

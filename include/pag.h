@@ -77,6 +77,7 @@ enum pag_reason {
     PAG_TIME_TOO_LATE = 26,            /* opacity: a time of its keyframes or the frame is above 4,294,967,295: 0 */
     PAG_TIMES_DO_NOT_RISE = 27,        /* opacity: a time of its keyframes is not above the one before it: 0 */
     PAG_FRAME_IN_BEZIER = 28,          /* opacity: the frame falls in a Bezier keyframe: 0 */
+    PAG_STEP_BEYOND_SINGLES = 29,      /* single: the step is below -16,777,216 or above 16,777,216: 0 */
     PAG_NOT_THE_INDEX = 30             /* question: the lent numbers are not the index of the lent tag table: 0 */
 };
 
@@ -133,6 +134,11 @@ typedef struct pag_fraction {
 } pag_fraction;
 
 pag_fraction pag_opacity(uint32_t order, const uint8_t *body, size_t body_len, uint64_t t);
+
+/* The single-precision value of a path step: the step as a single, times the single nearest to 0.05 (0x3D4CCCCD), rounded once to the nearest, to the even one
+ * of two. The number of an acceptance is its 32 bits: sign, exponent, fraction; a step of 0 gives 0. A negative step of a table is kept modulo 2^64: pass
+ * (int64_t)step. Refusal: 29, for a step beyond those that a single holds without loss, from -16,777,216 to 16,777,216. */
+pag_answer pag_single(int64_t step);
 
 /* The canvas size of a file: the values of its first CompositionAttributes (code 3) that isn't opaque, in file order and at any depth, from a walk that stops
  * there. What stands behind that tag is not judged, so a file with a later fault is answered, and the time does not depend on it.

@@ -31,7 +31,7 @@ pub both-one : (b : Built) {m m′ x x′ : List ℕ} {r r′ : PagAnswer} → l
 both-one b p q = (p .0 ∙ sym (q .0), p .1 ∙ sym (q .1), p .2 ∙ sym (q .2))
 
 -- ---- reason 0 means accepted, with the count in the number
-plain-accepted : (y : paper.Answer) {r : PagAnswer} → ((e n : ℕ) → y ≡ paper.refused e n → 1 ≤ e) → r ≡ plainOf y → r .reason ≡ 0 → y ≡ paper.accepted (r .number)
+pub plain-accepted : (y : paper.Answer) {r : PagAnswer} → ((e n : ℕ) → y ≡ paper.refused e n → 1 ≤ e) → r ≡ plainOf y → r .reason ≡ 0 → y ≡ paper.accepted (r .number)
 plain-accepted y h p z = accepted-by y h (ap (λ (x : PagAnswer). x .reason) (sym p) ∙ z) ∙ ap (λ (x : PagAnswer). paper.accepted (x .number)) (sym p)
 
 pub index-accepted : (order level : ℕ) (f m x : List ℕ) {m′ x′ : List ℕ} {r : PagAnswer} → leavesBoth m′ x′ r (building m x (readTags order level f)) → r .reason ≡ 0

@@ -5,3 +5,4 @@ pub mod IndexLaws
 pub mod FractionLaws
 pub mod CanvasLaws
 pub mod TallyLaws
+pub mod SingleLaws

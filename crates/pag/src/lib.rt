@@ -8,6 +8,7 @@ ghost use Rattle.pag.specs.PlainBits.{plainStep, plainField, isSigned};
 pub mod canvas_size;
 mod fraction;
 mod indexes;
+mod single;
 
 use answers::Answer;
 use bit_reader::Field;

@@ -1,8 +1,9 @@
 // What the programs share: reading a whole input, and printing a file's listing or refusal. What is printed is made by proved functions.
 ghost use mathlib.Core.Path.{_≡_};
-ghost use Prim.Native.Nat.{_+_, _≤_};
+ghost use Prim.Native.Nat.{_+_, _≤_, _<_, _^_};
 ghost use lib.ListN.{length};
 ghost use Rattle.format.specs.Reasons.{readFile, readTags, into};
+ghost use Rattle.path_singles.specs.Tables.{TablesOf};
 ghost use Rattle.printing.specs.Input.{Within};
 use answers::Answer;
 use libc::STDERR_FILENO;
@@ -119,6 +120,36 @@ pub fn print_tables(level: u32, file: &[u8], table: &mut [u64], rows: &mut [u32]
                 print_listing(
                     file.len() as u64,
                     &table[0..count as usize],
+                    &rows[0..row_count as usize],
+                );
+            }
+        },
+    }
+}
+
+// The listing of a file's tables with singles for path coordinates; or 29, after all other refusals.
+fn print_converted(file: &[u8], table: &mut [u64], rows: &[u32])
+    requires { ⌜ TablesOf (now file) (now table) (now rows) × (length (now file) < 2 ^ 60) × (length (now table) < 2 ^ 32) ⌝ }
+{
+    match path_singles::tags::convert(file, rows, table) {
+        Answer::Refused(reason, number) => print_refusal(reason, number),
+        Answer::Accepted(_) => print_listing(file.len() as u64, table, rows),
+    }
+}
+
+// A file with singles for path coordinates (C-23), at level 1023: its listing, or the reason why it is refused. The table lent holds the bits then.
+pub fn print_singles(file: &[u8], table: &mut [u64], rows: &mut [u32])
+    requires { ⌜ (length (now file) < 2 ^ 60) × (length (now table) < 2 ^ 32) ⌝ }
+{
+    let tagged = reader::tags(1023, HIGH_FIRST, file, rows);
+    match reader::read(1023, HIGH_FIRST, file, table) {
+        Answer::Refused(reason, number) => print_refusal(reason, number),
+        Answer::Accepted(count) => match tagged {
+            Answer::Refused(reason, number) => print_refusal(reason, number),
+            Answer::Accepted(row_count) => {
+                print_converted(
+                    file,
+                    &mut table[0..count as usize],
                     &rows[0..row_count as usize],
                 );
             }

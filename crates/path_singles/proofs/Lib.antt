@@ -1,0 +1,4 @@
+pub mod StepLaws
+pub mod PathLaws
+pub mod BlockLaws
+pub mod TableLaws

@@ -1,0 +1,3 @@
+pub mod Coordinates
+pub mod Converting
+pub mod Tables
