@@ -79,6 +79,6 @@ pub classed : (scope : Scope) (level : ℕ) (l ns : List ℕ) → length l ≡ 1
 classed scope level l ns size none e = record {
   size = ap length e ∙ length-sets l 0 (tab (numberBy scope level) 0 32) ∙ size;
   each = λ code. ap (λ (m : List ℕ). numbered (getD m code 0)) e
-  ∙ ap numbered (entry (numberBy scope level) 32 l (omega (arith, size)) none code (past-first scope level code))
-  ∙ numbered-number (named (classBy scope level code));
+      ∙ ap numbered (entry (numberBy scope level) 32 l (omega (arith, size)) none code (past-first scope level code))
+      ∙ numbered-number (named (classBy scope level code));
 }

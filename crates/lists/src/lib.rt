@@ -146,7 +146,19 @@ fn read_tag(
             if why != 0 {
                 return Step::Fault(why);
             }
-            show_tag(order, class, depths, at, room, place, header, table, from, rows, row)
+            show_tag(
+                order,
+                class,
+                depths,
+                at,
+                room,
+                place,
+                header,
+                table,
+                from,
+                rows,
+                row,
+            )
         }
     }
 }

@@ -68,18 +68,7 @@ fn read_tags(
     classes::number_first(scope, level, &mut classes);
     let at = BytePlace(9);
     let room = &file[9..];
-    lists::read_list(
-        &classes,
-        order,
-        8,
-        Owner::File,
-        at,
-        room,
-        table,
-        1,
-        rows,
-        0,
-    )
+    lists::read_list(&classes, order, 8, Owner::File, at, room, table, 1, rows, 0)
 }
 
 // The run that counts: nothing is lent to it, so it finds the refusal, or how many numbers there are in the two tables.

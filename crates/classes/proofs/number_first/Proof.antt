@@ -57,8 +57,7 @@ loop-again c =
     let a = c .before .before .before .before .before .before .before .before .args in
     let i = c .before .before .before .before .before .loop .code in
     let h = c .before .before .before .before .loop-test .taken in
-    let e = taken-named (a .scope) (a .level) {code = i} refl (c .before .before .at-level .ensures ∙ class-at _ (c .before .before .before .before .before .before .all .ensures) (a .level) i 0 i _ (omega (arith, h)) (omega (arith, h)) (omega (arith, h))) (c .before .taken-as .ensures) in
-    (
+    let e = taken-named (a .scope) (a .level) {code = i} refl (c .before .before .at-level .ensures ∙ class-at _ (c .before .before .before .before .before .before .all .ensures) (a .level) i 0 i _ (omega (arith, h)) (omega (arith, h)) (omega (arith, h))) (c .before .taken-as .ensures) in (
       omega (arith, h),
       length-set (c .before .before .before .before .before .loop .numbers) i (c .number-of .result) ∙ c .before .before .before .before .before .loop .inv .1,
       stored-next (numberBy (a .scope) (a .level)) _ i 32 h (c .number-of .ensures ∙ ap numberOf e) ∙ c .before .before .before .before .before .loop .inv .2,
