@@ -98,14 +98,14 @@ headed-after o class left true c a (x ∷ r) = omega arith
 headed-after o class left false c a r = headed-list o class left c a r
 
 -- ---- the tag that is looked for is read as a fixed body
+abbrev taken : Scope → Bool → Class
+taken scope hidden = named (skimmed scope (pick hidden paper.opaque (paper.known (fixed compositionAttributes))))
+
 canvas-class : (ns : List ℕ) → Tabled ns → (classIn ns 3 ≡ Opaque) ⊎ (classIn ns 3 ≡ Fixed)
 unfolding classOf
 canvas-class ns k = subst (λ (c : Class). (c ≡ Opaque) ⊎ (c ≡ Fixed)) (sym (k .classed .each 3)) (go (k .scope) (ltb (k .level) 3))
   where
-    abbrev Taken : Scope → Bool → Class
-    Taken scope b = named (skimmed scope (pick b paper.opaque (paper.known (fixed compositionAttributes))))
-
-    go : (scope : Scope) (b : Bool) → (Taken scope b ≡ Opaque) ⊎ (Taken scope b ≡ Fixed)
+    go : (scope : Scope) (b : Bool) → (taken scope b ≡ Opaque) ⊎ (taken scope b ≡ Fixed)
     go All true = inl refl
     go All false = inr refl
     go Lists true = inl refl
@@ -118,11 +118,8 @@ leaf-is = refl
 looked-fixed : (ns : List ℕ) → Tabled ns → (code : ℕ) → isLooked (classIn ns code) code ≡ true → (code ≡ 3) × (classIn ns code ≡ Fixed)
 looked-fixed ns k code h = go (eqb code 3) refl h
   where
-    abbrev Seen : Class → Type 0
-    Seen c = not (eqb (isRead (bare c)) 0) ≡ true
-
-    by-class : (c : Class) → (c ≡ Opaque) ⊎ (c ≡ Fixed) → Seen c → c ≡ Fixed
-    by-class c (inl e) r = clash (subst (λ (c : Class). Seen c → _≡_ {A = ℕ} 0 1) (sym e) (λ z. cc) r)
+    by-class : (c : Class) → (c ≡ Opaque) ⊎ (c ≡ Fixed) → not (eqb (isRead (bare c)) 0) ≡ true → c ≡ Fixed
+    by-class c (inl e) r = clash (subst (λ (c : Class). not (eqb (isRead (bare c)) 0) ≡ true → _≡_ {A = ℕ} 0 1) (sym e) (λ z. cc) r)
     by-class c (inr e) r = e
 
     go : (b : Bool) → eqb code 3 ≡ b → (b and not (eqb (isRead (bare (classIn ns code))) 0)) ≡ true → (code ≡ 3) × (classIn ns code ≡ Fixed)
@@ -344,15 +341,16 @@ module _ (o : Order) (ns : List ℕ) (depths : ℕ) (own : paper.Owner) (a : ℕ
           go true h = told-canvas q h
           go false h = told-class q (looks-is h) c refl
 
+    -- the class of its code
+    abbrev C : Class
+    C = classIn ns (le16 (drop i r) / 64)
+
     -- judging it gave J
     pub tells : (J : Judged) → J ≡ judgedIn o ns depths r i → Told i J
     tells J e =
         let f : readHead (classesIn ns) depths (drop i r) ≡ headBy C depths (drop i r) = head-by (classesIn ns) depths (drop i r) C (with-named C (le16 (drop i r) / 64) .0) (with-named C (le16 (drop i r) / 64) .1) in
         subst (Told i) (sym (e ∙ ap (judgedAt o C r i) (sym f))) (go (readHead (classesIn ns) depths (drop i r)) refl)
       where
-        abbrev C : Class
-        C = classIn ns (le16 (drop i r) / 64)
-
         go : (g : Head) → readHead (classesIn ns) depths (drop i r) ≡ g → Told i (judgedAt o C r i g)
         go (noHead e) q = told-none q
         go (head code len size) q =

@@ -40,10 +40,10 @@ look-in-μ-loop classes order depths owner at room before place₀ headers₀ pl
 
 -- what judging the tag said of the rest of the list
 told-at : (t : ℕ) (c : look-in-lts.After-judge-tag (calls t) (look-in-at t) look-in.Post look-in-Inv-loop look-in-μ-loop)
-    → Told (orderOf (c@A .args .order)) (now (c@A .args .classes)) (c@A .args .depths) (ownerOf (c@A .args .owner)) (c@A .args .at .0) (now (c@A .args .room)) (c@L .loop .place .0) (c .judge-tag .result)
+    → Told (orderOf (c .before .before .before .before .before .before .before .args .order)) (now (c .before .before .before .before .before .before .before .args .classes)) (c .before .before .before .before .before .before .before .args .depths) (ownerOf (c .before .before .before .before .before .before .before .args .owner)) (c .before .before .before .before .before .before .before .args .at .0) (now (c .before .before .before .before .before .before .before .args .room)) (c .before .before .before .before .loop .place .0) (c .judge-tag .result)
 told-at t c =
-    let a = c@A .args in
-    tells (orderOf (a .order)) (now (a .classes)) (a .depths) (ownerOf (a .owner)) (a .at .0) (now (a .room)) (c@A .pre .1 .0) (c@I .if1 .taken) (c .judge-tag .result) (c .judge-tag .ensures)
+    let a = c .before .before .before .before .before .before .before .args in
+    tells (orderOf (a .order)) (now (a .classes)) (a .depths) (ownerOf (a .owner)) (a .at .0) (now (a .room)) (c .before .before .before .before .before .before .before .pre .1 .0) (c .before .before .if1 .taken) (c .judge-tag .result) (c .judge-tag .ensures)
 
 look-in-loop-holds : (t : ℕ) → look-in-lts.Need-loop-holds (calls t) (look-in-at t) look-in.Post look-in-Inv-loop look-in-μ-loop
 look-in-loop-holds t c = let a = c .before .before .args in going-start (orderOf (a .order)) (now (a .classes)) (a .depths) (ownerOf (a .owner)) (a .at .0) (now (a .room)) (a .before)
