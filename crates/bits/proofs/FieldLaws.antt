@@ -172,9 +172,9 @@ ordered-is low b i e = e
 pub field-cut : (o : Order) (b : List ℕ) (i k n : ℕ) {p x r : ℕ} → x ≡ ub low b (8 * i) 64 → 8 * i + k ≡ p → k + n ≤ 64 → r ≡ orderedBy o x / 2 ^ below o k (64 - k - n) % 2 ^ n → r ≡ ub o b p n
 field-cut o b i k n e f g h = sym (ub-cut o b (8 * i) 64 k n (64 - k - n) (ordered-is o b i e) f (omega arith) h)
 
--- the n bits from a place to the end of its byte x
-pub ub-rest : (o : Order) (b : List ℕ) (p n : ℕ) {x s r : ℕ} → (x ≡ getD b (p / 8) 0) × (x < 256) → p % 8 + n ≡ 8 → s ≡ below o (p % 8) 0 → r ≡ x / 2 ^ s % 2 ^ n → ub o b p n ≡ r
-ub-rest o b p n {x} h e s f = ub-cut o b (8 * (p / 8)) 8 (p % 8) n 0 (ub-first o b (p / 8) h) (omega arith) (omega arith) (f ∙ ap (λ (m : ℕ). x / 2 ^ m % 2 ^ n) s)
+-- n bits that stand in one byte x, with l bits of it behind them
+pub ub-in-byte : (o : Order) (b : List ℕ) (p n l : ℕ) {x s r : ℕ} → (x ≡ getD b (p / 8) 0) × (x < 256) → p % 8 + n + l ≡ 8 → s ≡ below o (p % 8) l → r ≡ x / 2 ^ s % 2 ^ n → ub o b p n ≡ r
+ub-in-byte o b p n l {x} h e s f = ub-cut o b (8 * (p / 8)) 8 (p % 8) n l (ub-first o b (p / 8) h) (omega arith) e (f ∙ ap (λ (m : ℕ). x / 2 ^ m % 2 ^ n) s)
 
 -- `1 << n` in 64 bits
 pub one-shl : (n : ℕ) → n < 64 → 1 * 2 ^ n % 2 ^ 64 ≡ 2 ^ n

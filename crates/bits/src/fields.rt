@@ -107,7 +107,18 @@ pub fn field(order: Order, bytes: &[u8], at: BitPlace, width: u64) -> u64
     cut_out(order, eight(bytes, i), (place - 8 * i) as u64, width)
 }
 
-// UB[n].
+// A field that stands in one byte: it is cut out of that one.
+fn field_in_byte(order: Order, bytes: &[u8], at: BitPlace, width: u64) -> u64
+    requires { ⌜ (at .0 % 8 + width ≤ 8) × (1 ≤ width) ⌝ }
+    ensures { λ r. ⌜ r ≡ fieldAt (orderOf order) (now (bytes .entry)) (at .0) width ⌝ }
+{
+    let place = at.0;
+    let used = (place % 8) as u64;
+    let below = bits_below(order, used, 8 - used - width);
+    cut(crate::byte_at(bytes, place / 8), below, width)
+}
+
+// UB[n]. A bit is always in one byte, so of a flag the bytes around it are not touched.
 pub fn read_ub(order: Order, bytes: &[u8], at: BitPlace, width: u64) -> Got
     requires { ⌜ PlaceIn (now bytes) (at .0) × (1 ≤ width) × (width ≤ 32) ⌝ }
     ensures { λ r. ⌜ numOf r ≡ readUB (orderOf order) (now (bytes .entry)) (at .0) width ⌝ }
@@ -116,6 +127,9 @@ pub fn read_ub(order: Order, bytes: &[u8], at: BitPlace, width: u64) -> Got
     let next = p + width as usize;
     if bytes.len() * 8 < next {
         return Got::Fault(13);
+    }
+    if (p % 8) as u64 + width <= 8 {
+        return Got::Value(field_in_byte(order, bytes, at, width), BitPlace(next));
     }
     Got::Value(field(order, bytes, at, width), BitPlace(next))
 }

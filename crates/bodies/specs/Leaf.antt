@@ -11,6 +11,9 @@ use Rattle.fixed.specs.Fixed.{fixedOf}
 abbrev pub isBlock : ℕ → Bool
 isBlock code = eqb code 6 or eqb code 9 or eqb code 10 or eqb code 13 or eqb code 14
 
--- a code that has no body of its own has no items
+-- the body of a code, read as an attribute block or not; a code that has no body of its own has no items
+abbrev pub bodyBy : Bool → ℕ → Body
+bodyBy block code = pick block (attributes (attributesOf code)) (fixed (fixedOf code))
+
 unfoldable pub leafBody : ℕ → Body
-leafBody code = pick (isBlock code) (attributes (attributesOf code)) (fixed (fixedOf code))
+leafBody code = bodyBy (isBlock code) code

@@ -2,27 +2,28 @@
 use Prim.Native.Nat.{ℕ, _+_, _-_, _*_, _^_, _≤_, _<_}
 use mathlib.Core.List.{List, [], _∷_, _++_, append-nil}
 use mathlib.Core.Path.{_≡_, refl, ap, ap₂, sym, subst, _∙_}
-use mathlib.Core.Bool.{Bool, true, false}
 use native.Mathlib.Omega.{arith}
 use lib.ListN.{length, take, drop, length-drop, length-take}
 use lib.Seq.{sets, sets-eq, drop-drop, length-take-le}
 use lib.Dec.{eqb}
-use borrow.Author.Tests.{eq-eqb, ne-eqb}
+use borrow.Author.Tests.{ne-eqb}
 use Rattle.format.specs.Tests.{pick}
-use Rattle.format.specs.Bits.{Order, orderNamed, ub}
-use Rattle.format.specs.Reading.{Ending, At, Fault, Reading, shows, stop, follow}
-use Rattle.format.specs.Formats.{Format}
-use Rattle.format.specs.Items.{skipped, run, readAlign}
-use Rattle.format.specs.Bodies.{compositionAttributes, fixed, readPart, toEnd, usedUp, readBody}
+use Rattle.format.specs.Bits.{Order, orderNamed}
+use Rattle.format.specs.Reading.{Ending, At, Fault}
+use Rattle.format.specs.Bodies.{Body, compositionAttributes, fixed, toEnd, usedUp, readBody}
+use Rattle.format.specs.FileAndTags as paper
 use Rattle.format.specs.FileAndTags.{classOf, Walk, broken, file, walkList}
 use Rattle.format.specs.Reasons.{startFault, walkFile}
 use Rattle.format.proofs.StartLaws.{good-start}
 use Rattle.table.specs.State.{State, shownOver}
-use Rattle.table.specs.Run.{runLeaves}
-use Rattle.table.specs.declared.Run.{Run}
 use Rattle.fixed.specs.Fixed.{fixedOf}
+use Rattle.bodies.specs.Shown.{shownLeaves}
+use Rattle.bodies.specs.declared.Shown.{Shown}
+use Rattle.classes.specs.Classes.{Classed}
+use Rattle.classes.specs.declared.Scope.the-variants.{All}
 use Rattle.bits.specs.declared.BytePlace.{BytePlace}
-use Rattle.lists.proofs.ListLaws.{piece, piece-rest}
+use Rattle.lists.specs.Lists.{classesIn}
+use Rattle.lists.proofs.ListLaws.{piece, piece-rest, class-level}
 use Rattle.canvas.specs.Canvas.{Seen, found, none, refused, Canvas, canvas, canvasIn, canvasOf, canvasFile}
 use Rattle.canvas.specs.Looking.{bodyAt, Stands, Looks, Bounds, zeros, bare, told, filled}
 use Rattle.canvas.specs.declared.CanvasSize.{CanvasSize}
@@ -33,23 +34,12 @@ use Rattle.canvas.specs.declared.Looked.the-variants as looked
 use Rattle.canvas.proofs.SureLaws.{SureEnd, Sure, canvas-sure}
 
 -- ---- a body shows what its items show
-body-shown : (o : Order) (f : Format) (b : List ℕ) → readBody o (fixed f) b .shown ≡ run o b f 0 .shown
-unfolding readBody readPart
-body-shown o f b = end (toEnd o b (fixed f) .shown) (toEnd o b (fixed f) .ended) ∙ go (run o b f 0 .shown) (run o b f 0 .ended)
+body-shown : (o : Order) (y : Body) (b : List ℕ) → readBody o y b .shown ≡ toEnd o b y .shown
+unfolding readBody
+body-shown o y b = go (toEnd o b y .shown) (toEnd o b y .ended)
   where
-    end : (xs : List ℕ) (z : Ending) → usedUp (8 * length b) xs z .shown ≡ xs
-    end xs (At p) = refl
-    end xs (Fault e) = refl
-
-    none-shown : (p : ℕ) → readAlign o b p .shown ≡ []
-    none-shown p = go (eqb (ub o b p (skipped p)) 0)
-      where
-        go : (c : Bool) → pick {A = Reading} c (shows [] (p + skipped p)) (stop 15) .shown ≡ []
-        go true = refl
-        go false = refl
-
-    go : (xs : List ℕ) (z : Ending) → follow xs z (λ ys p. readAlign o b p) .shown ≡ xs
-    go xs (At p) = ap (λ (ys : List ℕ). xs ++ ys) (none-shown p) ∙ append-nil xs
+    go : (xs : List ℕ) (z : Ending) → usedUp (8 * length b) xs z .shown ≡ xs
+    go xs (At p) = refl
     go xs (Fault e) = refl
 
 -- ---- seven values over seven zeros
@@ -58,7 +48,7 @@ over-zeros xs h =
     let d : drop (0 + length xs) zeros ≡ [] = rw h in
     sets-eq xs zeros 0 (omega (arith, h)) ∙ ap (λ (ys : List ℕ). xs ++ ys) d ∙ append-nil xs
 
-pub filled-is : (o : Order) (body : List ℕ) (h : ℕ) {t : List ℕ} (R : Run) → runLeaves t R ≡ shownOver zeros 0 (run o body (fixedOf 3) 0) → record { seen = seen.Found; values = t; headers = h } ≡ filled o body h
+pub filled-is : (o : Order) (body : List ℕ) (h : ℕ) {t : List ℕ} (R : Shown) → shownLeaves t R ≡ shownOver zeros 0 (toEnd o body (fixed (fixedOf 3))) → record { seen = seen.Found; values = t; headers = h } ≡ filled o body h
 unfolding shownOver
 filled-is o body h R e = ap (λ (s : State). record { seen = seen.Found; values = s .table; headers = h }) e
 
@@ -71,15 +61,19 @@ module _ (order level : ℕ) (f : List ℕ) where
   unfolding walkFile canvasIn
   call-start {e} is h = rw (← is, ne-eqb e 0 h)
 
-  module _ (start : startFault order level f ≡ 0) (o : Order) (named : o ≡ orderNamed order) where
+  module _ (start : startFault order level f ≡ 0) (o : Order) (named : o ≡ orderNamed order) {ns : List ℕ} (made : Classed All level ns) where
     abbrev room : List ℕ
     room = piece 9 (length f) f
 
-    walk-is : walkFile order level f ≡ walkList o (classOf level) 8 file 9 room
+    -- by the classes of the level, and by those that are lent
+    walk-at : walkFile order level f ≡ walkList o (classOf level) 8 file 9 room
     unfolding walkFile
-    walk-is = rw (start, piece-rest 9 f, named)
+    walk-at = rw (start, piece-rest 9 f, named)
 
-    module _ (y : Looked) (done : Looks o 9 room 0 y (canvasOf (walkList o (classOf level) 8 file 9 room))) where
+    walk-is : walkFile order level f ≡ walkList o (classesIn ns) 8 file 9 room
+    walk-is = walk-at ∙ sym (ap (λ (class : ℕ → paper.Class). walkList o class 8 file 9 room) (λ i. λ code. class-level ns All level made code i))
+
+    module _ (y : Looked) (done : Looks o 9 room 0 y (canvasOf (walkList o (classesIn ns) 8 file 9 room))) where
       looks : Looks o 9 room 0 y (canvasFile order level f)
       looks = subst (λ (w : Walk). Looks o 9 room 0 y (canvasOf w)) (sym walk-is) done
 
@@ -123,8 +117,8 @@ module _ (order level : ℕ) (f : List ℕ) where
         call-found {r} q =
             let g : readBody o (fixed compositionAttributes) (piece i j f) .ended ≡ At (at .0 .place) = sym (ap (λ (x : List ℕ). readBody o (fixed compositionAttributes) x .ended) body-is) ∙ at .0 .good in
             let n : length (readBody o (fixed compositionAttributes) (piece i j f) .shown) ≡ 7 = subst (SureEnd 7 (readBody o (fixed compositionAttributes) (piece i j f) .shown)) g (canvas-sure o (piece i j f)) in
-            let v : sets zeros 0 (run o (piece i j f) compositionAttributes 0 .shown) ≡ readBody o (fixed compositionAttributes) (piece i j f) .shown =
-            ap (sets zeros 0) (sym (body-shown o compositionAttributes (piece i j f))) ∙ over-zeros (readBody o (fixed compositionAttributes) (piece i j f) .shown) n in
+            let v : sets zeros 0 (toEnd o (piece i j f) (fixed compositionAttributes) .shown) ≡ readBody o (fixed compositionAttributes) (piece i j f) .shown =
+            ap (sets zeros 0) (sym (body-shown o (fixed compositionAttributes) (piece i j f))) ∙ over-zeros (readBody o (fixed compositionAttributes) (piece i j f) .shown) n in
             let w : canvasFile order level f .seen ≡ found (readBody o (fixed compositionAttributes) (piece i j f) .shown) = at .1 ∙ ap (λ (x : List ℕ). found (readBody o (fixed compositionAttributes) x .shown)) body-is in
             q ∙ ap (λ (vs : List ℕ). record { seen = seen.Found; values = vs; headers = s .headers }) v ∙ told-as w (at .2)
 

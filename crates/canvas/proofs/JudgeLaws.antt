@@ -1,7 +1,7 @@
 -- One tag: whether it is the one that is looked for, what its class tells, its header and its body.
 use Prim.Native.Nat.{ℕ, _+_, _-_, _*_, _/_, _≤_}
-use mathlib.Core.List.{List, []}
-use mathlib.Core.Path.{_≡_, refl, ap, ap₂, sym, subst, _∙_}
+use mathlib.Core.List.{List}
+use mathlib.Core.Path.{_≡_, ap, sym, subst, _∙_}
 use mathlib.Core.Bool.{Bool, true, false, not}
 use native.Mathlib.Omega.{arith}
 use lib.ListN.{length, take, drop, length-drop}
@@ -10,26 +10,25 @@ use lib.Dec.{eqb}
 use borrow.Author.Tests.{eq-eqb, ne-eqb}
 use Rattle.format.specs.Tests.{pick}
 use Rattle.format.specs.Bits.{Order}
-use Rattle.format.specs.Reading.{Ending, At, Fault}
+use Rattle.format.specs.Reading.{Ending, Reading}
 use Rattle.format.specs.FileAndTags as paper
-use Rattle.format.specs.FileAndTags.{isRead, blame}
+use Rattle.format.specs.FileAndTags.{le16, isRead, blame}
 use Rattle.format.proofs.WalkLaws.{Fits, head-fits}
 use Rattle.table.specs.State.{State, shownOver}
-use Rattle.bodies.specs.Shown.{shownLeaves}
+use Rattle.bodies.specs.Shown.{shownEnd, shownLeaves}
 use Rattle.bodies.specs.declared.Shown.{Shown}
 use Rattle.bodies.specs.declared.Shown.the-variants.{Done, Stop}
 use Rattle.classes.specs.Classes.{bare}
 use Rattle.classes.specs.declared.Class.{Class}
 use Rattle.headers.specs.Heads.{asHead, headBy}
-use Rattle.headers.specs.declared.Head.{Head}
 use Rattle.headers.specs.declared.Head.the-variants as heads
 use Rattle.headers.specs.declared.Header.{Header}
-use Rattle.tags.specs.Shown.{valuesOf, headed}
+use Rattle.tags.specs.Shown.{valuesOf}
 use Rattle.tags.proofs.TagLaws.{values-le}
 use Rattle.bits.specs.declared.BytePlace.{BytePlace}
-use Rattle.lists.specs.Lists.{byteAt, ownerOf}
+use Rattle.lists.specs.Lists.{byteAt, ownerOf, classIn}
 use Rattle.lists.specs.declared.Owner.{Owner}
-use Rattle.canvas.specs.Looking.{isLooked, judgedClass, judgedBy, judgedEnd, judgedAt, afterEnd}
+use Rattle.canvas.specs.Looking.{isLooked, judgedClass, judgedBy, judgedEnd, judgedAt, judgedIn, afterEnd}
 use Rattle.canvas.specs.declared.Body.{Body}
 use Rattle.canvas.specs.declared.Judged.{Judged}
 use Rattle.canvas.specs.declared.Judged.the-variants as judged
@@ -57,51 +56,57 @@ end-whole own a stop room h e = rw (eq-eqb stop room e)
 pub end-more : (own : Owner) (a stop room h : ℕ) {b : BytePlace} → (stop ≡ room → ⊥) → b .0 ≡ blame (ownerOf own) (a + stop) → looked.Fault 11 b h ≡ afterEnd own a stop room h
 end-more own a stop room h n e = ap (λ (n : ℕ). looked.Fault 11 (byteAt n) h) e ∙ rw (ne-eqb stop room n)
 
--- ---- judge_tag: the tag at i of the list r; H is its header, by its class
-module _ (o : Order) (class : Class) (depths : ℕ) (r : List ℕ) (i : ℕ) (H : paper.Head) {h : Head} (at : asHead h ≡ H) where
-  -- the header is refused
-  pub judged-none : {e : ℕ} → h ≡ heads.Fault e → judged.NoTag e ≡ judgedAt o class r i H
-  judged-none {e} is = ap (judgedAt o class r i) (sym (ap asHead is) ∙ at)
+-- ---- judge_values: by the class that a `match` tells
+pub ended-of : (o : Order) (body : List ℕ) (code : ℕ) {class : Class} {z : Ending} (told : Class) → class ≡ told → z ≡ valuesOf o told code body .ended → z ≡ valuesOf o class code body .ended
+ended-of o body code told e f = f ∙ ap (λ (c : Class). valuesOf o c code body .ended) (sym e)
+
+-- as reading with no table ended
+pub ended-by : (t : List ℕ) (k : ℕ) {u : List ℕ} (R : Shown) {r r′ : Reading} → shownLeaves u R ≡ shownOver t k r → r ≡ r′ → shownEnd R ≡ r′ .ended
+unfolding shownOver
+ended-by t k R e f = ap (λ (s : State). s .ended) e ∙ ap (λ (r : Reading). r .ended) f
+
+-- ---- judge_body: the tag with this header at i of the list r
+module _ (o : Order) (class : Class) (r : List ℕ) (i : ℕ) (head : Header) {start stop : ℕ} {body : List ℕ} (R : Shown) (begin : start ≡ i + head .size) (end : stop ≡ start + head .length)
+    (part : body ≡ take (stop - start) (drop start r)) (ran : shownEnd R ≡ valuesOf o class (head .code) body .ended) where
+  body-is : body ≡ take (head .length) (drop (head .size) (drop i r))
+  body-is =
+      let n : stop - start ≡ head .length = omega arith in
+      part ∙ rw (n, begin) (ap (take (head .length)) (sym (drop-drop (head .size) i r)))
+
+  judged-is : judgedEnd class (head .code) start stop (shownEnd R) ≡ judgedAt o class r i (asHead (heads.Tag head))
+  judged-is =
+      let b : start + head .length ≡ i + head .size + head .length = omega arith in
+      ap (judgedEnd class (head .code) start stop) (ran ∙ ap (λ (b : List ℕ). valuesOf o class (head .code) b .ended) body-is) ∙ rw (end, b, begin)
+
+  pub judged-faulty : {e j : ℕ} → R ≡ Stop e j → judged.Faulty e ≡ judgedAt o class r i (asHead (heads.Tag head))
+  judged-faulty q = ap (λ (x : Shown). judgedEnd class (head .code) start stop (shownEnd x)) (sym q) ∙ judged-is
+
+  pub judged-good : {p : BytePlace} {j : ℕ} {x : Judged} {b : Body} → R ≡ Done p j → b ≡ record { start = byteAt start; list = byteAt (start + p .0); stop = byteAt stop } → x ≡ judgedBy class (head .code) b
+      → x ≡ judgedAt o class r i (asHead (heads.Tag head))
+  judged-good {p} q s e =
+      let n : 8 * p .0 / 8 ≡ p .0 = omega arith in
+      e ∙ ap (judgedBy class (head .code)) (s ∙ ap (λ (n : ℕ). record { start = byteAt start; list = byteAt (start + n); stop = byteAt stop }) (sym n))
+      ∙ ap (λ (x : Shown). judgedEnd class (head .code) start stop (shownEnd x)) (sym q) ∙ judged-is
+
+  -- its values end in the room
+  pub judged-fits : {p : BytePlace} {j : ℕ} → start + head .length ≤ length r → R ≡ Done p j → start + p .0 ≤ length r
+  judged-fits {p} l q =
+      let n : length body ≡ head .length = ap length part ∙ length-take-le (stop - start) (drop start r) (rw length-drop (omega arith)) ∙ omega arith in
+      omega (arith, values-le o class (head .code) body (8 * p .0) (sym ran ∙ ap shownEnd q), n)
+
+-- ---- judge_tag: its header, by its class
+module _ (o : Order) (class : Class) (depths : ℕ) (r : List ℕ) (i : ℕ) where
+  -- it is refused
+  pub judged-none : {e : ℕ} → headBy class depths (drop i r) ≡ paper.noHead e → judged.NoTag e ≡ judgedAt o class r i (headBy class depths (drop i r))
+  judged-none is = ap (judgedAt o class r i) (sym is)
 
   -- it stands in the room with its body
-  pub judged-stands : {head : Header} → H ≡ headBy class depths (drop i r) → h ≡ heads.Tag head → i ≤ length r → i + head .size + head .length ≤ length r
-  judged-stands {head} e is l =
-      let u : Fits (λ code. bare class) depths (drop i r) (asHead (heads.Tag head)) =
-      subst (Fits (λ code. bare class) depths (drop i r)) (sym e ∙ sym at ∙ ap asHead is) (head-fits (λ code. bare class) depths (drop i r)) in
+  pub judged-stands : {head : Header} → headBy class depths (drop i r) ≡ asHead (heads.Tag head) → i ≤ length r → i + head .size + head .length ≤ length r
+  judged-stands {head} e l =
+      let u : Fits (λ code. bare class) depths (drop i r) (asHead (heads.Tag head)) = subst (Fits (λ code. bare class) depths (drop i r)) e (head-fits (λ code. bare class) depths (drop i r)) in
       omega (arith, u .1, length-drop i r)
 
-  -- its values were judged, with no table
-  module _ {head : Header} {start stop : ℕ} {body : List ℕ} (t : List ℕ) {t′ : List ℕ} (R : Shown) (is : h ≡ heads.Tag head) (begin : start ≡ i + head .size) (end : stop ≡ start + head .length)
-      (part : body ≡ take (stop - start) (drop start r)) (ran : shownLeaves t′ R ≡ shownOver t 0 (headed (head .code) 0 (valuesOf o class (head .code) body))) where
-    body-is : body ≡ take (head .length) (drop (head .size) (drop i r))
-    body-is =
-        let n : stop - start ≡ head .length = omega arith in
-        part ∙ rw (n, begin) (ap (take (head .length)) (sym (drop-drop (head .size) i r)))
-
-    ended-is : shownLeaves t′ R .ended ≡ valuesOf o class (head .code) (take (head .length) (drop (head .size) (drop i r))) .ended
-    unfolding shownOver
-    ended-is = ap (λ (s : State). s .ended) ran ∙ ap (λ (b : List ℕ). valuesOf o class (head .code) b .ended) body-is
-
-    judged-is : judgedEnd class (head .code) start stop (shownLeaves t′ R .ended) ≡ judgedAt o class r i H
-    judged-is =
-        let b : start + head .length ≡ i + head .size + head .length = omega arith in
-        let z : Ending = valuesOf o class (head .code) (take (head .length) (drop (head .size) (drop i r))) .ended in
-        let q : judgedEnd class (head .code) start stop z ≡ judgedEnd class (head .code) (i + head .size) (i + head .size + head .length) z = rw (end, b, begin) in
-        ap (judgedEnd class (head .code) start stop) ended-is ∙ q ∙ ap (judgedAt o class r i) (sym (ap asHead is) ∙ at)
-
-    pub judged-faulty : {e j : ℕ} → R ≡ Stop e j → judged.Faulty e ≡ judgedAt o class r i H
-    judged-faulty q = ap (λ (x : Shown). judgedEnd class (head .code) start stop (shownLeaves t′ x .ended)) (sym q) ∙ judged-is
-
-    pub judged-good : {p : BytePlace} {j : ℕ} {x : Judged} {b : Body} → R ≡ Done p j → b ≡ record { start = byteAt start; list = byteAt (start + p .0); stop = byteAt stop } → x ≡ judgedBy class (head .code) b → x ≡ judgedAt o class r i H
-    judged-good {p} {j} {x} {b} q s e =
-        let n : 8 * p .0 / 8 ≡ p .0 = omega arith in
-        e ∙ ap (judgedBy class (head .code)) (s ∙ ap (λ (n : ℕ). record { start = byteAt start; list = byteAt (start + n); stop = byteAt stop }) (sym n))
-        ∙ ap (λ (x : Shown). judgedEnd class (head .code) start stop (shownLeaves t′ x .ended)) (sym q) ∙ judged-is
-
-    -- its values end in the room
-    pub judged-fits : {p : BytePlace} {j : ℕ} → H ≡ headBy class depths (drop i r) → i ≤ length r → R ≡ Done p j → start + p .0 ≤ length r
-    judged-fits {p} {j} e l q =
-        let u : i + head .size + head .length ≤ length r = judged-stands e is l in
-        let z : valuesOf o class (head .code) (take (head .length) (drop (head .size) (drop i r))) .ended ≡ At (8 * p .0) = sym ended-is ∙ ap (λ (x : Shown). shownLeaves t′ x .ended) q in
-        let n : length (take (head .length) (drop (head .size) (drop i r))) ≡ head .length = length-take-le (head .length) (drop (head .size) (drop i r)) (rw (length-drop, length-drop) (omega arith)) in
-        omega (arith, values-le o class (head .code) (take (head .length) (drop (head .size) (drop i r))) (8 * p .0) z)
+-- the class was looked up
+pub judged-in : (o : Order) (ns : List ℕ) (depths : ℕ) (r : List ℕ) (i : ℕ) {class : Class} {code : ℕ} {x : Judged} → class ≡ classIn ns code → code ≡ le16 (drop i r) / 64
+    → x ≡ judgedAt o class r i (headBy class depths (drop i r)) → x ≡ judgedIn o ns depths r i
+judged-in o ns depths r i e f h = h ∙ ap (λ (c : Class). judgedAt o c r i (headBy c depths (drop i r))) (e ∙ ap (classIn ns) f)

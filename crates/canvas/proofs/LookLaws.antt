@@ -25,21 +25,21 @@ use Rattle.format.proofs.WalkLaws.{run-le, Fits, head-fits}
 use Rattle.format.proofs.Absurd.{clash}
 use Rattle.fixed.specs.Fixed.{fixedOf}
 use Rattle.bodies.specs.Leaf.{leafBody}
-use Rattle.classes.specs.Classes.{named, bare, ends, contains}
+use Rattle.classes.specs.Classes.{named, bare, ends, contains, skimmed}
 use Rattle.classes.specs.declared.Class.{Class}
 use Rattle.classes.specs.declared.Class.the-variants.{Opaque, End, Container, Fixed, Attributes}
-use Rattle.classes.specs.declared.Scope.the-variants.{All}
-use Rattle.classes.proofs.ClassLaws.{ends-named, contains-named, read-named, fair-by}
+use Rattle.classes.specs.declared.Scope.{Scope}
+use Rattle.classes.specs.declared.Scope.the-variants.{All, Lists}
 use Rattle.headers.specs.Heads.{headBy}
 use Rattle.headers.proofs.HeadLaws.{head-by}
 use Rattle.tags.specs.Shown.{valuesOf}
 use Rattle.tags.proofs.TagLaws.{values-le}
 use Rattle.bits.specs.declared.BytePlace.{BytePlace}
-use Rattle.lists.specs.Lists.{byteAt, ownerOf}
+use Rattle.lists.specs.Lists.{byteAt, ownerOf, classIn, classesIn, Tabled}
 use Rattle.lists.specs.declared.Owner.{Owner}
-use Rattle.lists.proofs.ListLaws.{piece, length-piece, drop-take, pred-is, positive, walkOf, insideOf, within-is}
+use Rattle.lists.proofs.ListLaws.{piece, length-piece, drop-take, pred-is, positive, walkOf, insideOf, fair-in, with-named, within-is}
 use Rattle.canvas.specs.Canvas.{isCanvas, Seen, found, none, refused, Canvas, canvas, more, seenIn, canvasIn, canvasOf}
-use Rattle.canvas.specs.Looking.{isLooked, judgedClass, judgedBy, judgedEnd, judgedAt, afterEnd, bodyAt, Stands, Looks, Bounds}
+use Rattle.canvas.specs.Looking.{isLooked, judgedClass, judgedBy, judgedEnd, judgedAt, judgedIn, afterEnd, bodyAt, Stands, Looks, Bounds}
 use Rattle.canvas.specs.declared.Body.{Body}
 use Rattle.canvas.specs.declared.Spot.{Spot}
 use Rattle.canvas.specs.declared.Judged.{Judged}
@@ -98,46 +98,50 @@ headed-after o class left true c a (x ∷ r) = omega arith
 headed-after o class left false c a r = headed-list o class left c a r
 
 -- ---- the tag that is looked for is read as a fixed body
-canvas-class : (level : ℕ) → (named (classOf level 3) ≡ Opaque) ⊎ (named (classOf level 3) ≡ Fixed)
+abbrev taken : Scope → Bool → Class
+taken scope hidden = named (skimmed scope (pick hidden paper.opaque (paper.known (fixed compositionAttributes))))
+
+canvas-class : (ns : List ℕ) → Tabled ns → (classIn ns 3 ≡ Opaque) ⊎ (classIn ns 3 ≡ Fixed)
 unfolding classOf
-canvas-class level = go (ltb level 3)
+canvas-class ns k = subst (λ (c : Class). (c ≡ Opaque) ⊎ (c ≡ Fixed)) (sym (k .classed .each 3)) (go (k .scope) (ltb (k .level) 3))
   where
-    go : (b : Bool) → (named (pick b paper.opaque (paper.known (fixed compositionAttributes))) ≡ Opaque) ⊎ (named (pick b paper.opaque (paper.known (fixed compositionAttributes))) ≡ Fixed)
-    go true = inl refl
-    go false = inr refl
+    go : (scope : Scope) (b : Bool) → (taken scope b ≡ Opaque) ⊎ (taken scope b ≡ Fixed)
+    go All true = inl refl
+    go All false = inr refl
+    go Lists true = inl refl
+    go Lists false = inl refl
 
 leaf-is : leafBody 3 ≡ fixed compositionAttributes
 unfolding leafBody fixedOf
 leaf-is = refl
 
-looked-fixed : (level code : ℕ) (c : Class) → c ≡ named (classOf level code) → isLooked c code ≡ true → (code ≡ 3) × (c ≡ Fixed)
-looked-fixed level code c is h = go (eqb code 3) refl h
+looked-fixed : (ns : List ℕ) → Tabled ns → (code : ℕ) → isLooked (classIn ns code) code ≡ true → (code ≡ 3) × (classIn ns code ≡ Fixed)
+looked-fixed ns k code h = go (eqb code 3) refl h
   where
-    go : (b : Bool) → eqb code 3 ≡ b → (b and not (eqb (isRead (bare c)) 0)) ≡ true → (code ≡ 3) × (c ≡ Fixed)
+    by-class : (c : Class) → (c ≡ Opaque) ⊎ (c ≡ Fixed) → not (eqb (isRead (bare c)) 0) ≡ true → c ≡ Fixed
+    by-class c (inl e) r = clash (subst (λ (c : Class). not (eqb (isRead (bare c)) 0) ≡ true → _≡_ {A = ℕ} 0 1) (sym e) (λ z. cc) r)
+    by-class c (inr e) r = e
+
+    go : (b : Bool) → eqb code 3 ≡ b → (b and not (eqb (isRead (bare (classIn ns code))) 0)) ≡ true → (code ≡ 3) × (classIn ns code ≡ Fixed)
     go true q r =
         let n : code ≡ 3 = eqb-true code 3 q in
-        let is3 : c ≡ named (classOf level 3) = is ∙ ap (λ (k : ℕ). named (classOf level k)) n in
-        (n, pick-class (canvas-class level) is3 r)
-      where
-        pick-class : (named (classOf level 3) ≡ Opaque) ⊎ (named (classOf level 3) ≡ Fixed) → c ≡ named (classOf level 3) → not (eqb (isRead (bare c)) 0) ≡ true → c ≡ Fixed
-        pick-class (inl e) i r = clash (subst (λ (c : Class). not (eqb (isRead (bare c)) 0) ≡ true → _≡_ {A = ℕ} 0 1) (sym (i ∙ e)) (λ z. cc) r)
-        pick-class (inr e) i r = i ∙ e
+        (n, by-class (classIn ns code) (subst (λ (m : ℕ). (classIn ns m ≡ Opaque) ⊎ (classIn ns m ≡ Fixed)) (sym n) (canvas-class ns k)) r)
     go false q r = clash cc
 
 state-looked : (c : Class) (code size len : ℕ) → isCanvas code (stateOf (bare c) size len) ≡ isLooked c code
 state-looked c code size len = ap (λ (b : Bool). eqb code 3 and not b) (state-opaque (bare c) (longOnShort size len))
 
--- ---- a list: that of the owner at place a, whose room is r
-module _ (o : Order) (level depths : ℕ) (own : paper.Owner) (a : ℕ) (r : List ℕ) where
+-- ---- a list: that of the owner at place a, whose room is r; the classes are lent as numbers
+module _ (o : Order) (ns : List ℕ) (depths : ℕ) (own : paper.Owner) (a : ℕ) (r : List ℕ) where
   abbrev from : ℕ → Walk
-  from i = walkList o (classOf level) depths own (a + i) (drop i r)
+  from i = walkList o (classesIn ns) depths own (a + i) (drop i r)
 
   abbrev all : Walk
-  all = walkList o (classOf level) depths own a r
+  all = walkList o (classesIn ns) depths own a r
 
   -- the list inside the container at i
   abbrev inner : ℕ → ℕ → ℕ → Walk
-  inner i l p = walkList o (classOf level) (pred depths) (paper.inside (a + i)) (a + l) (piece l p r)
+  inner i l p = walkList o (classesIn ns) (pred depths) (paper.inside (a + i)) (a + l) (piece l p r)
 
   -- what judging the tag at i says of the rest of the list
   abbrev pub Told : ℕ → Judged → Type 0
@@ -152,21 +156,21 @@ module _ (o : Order) (level depths : ℕ) (own : paper.Owner) (a : ℕ) (r : Lis
       (1 ≤ depths) × (i < b .list .0) × (b .list .0 ≤ b .stop .0) × (b .stop .0 ≤ length r)
       × (canvasOf (from i) ≡ more 1 (thenLook (canvasOf (inner i (b .list .0) (b .stop .0))) (canvasOf (from (b .stop .0)))))
 
-  module _ {i : ℕ} (some : i < length r) where
+  module _ (tabled : Tabled ns) {i : ℕ} (some : i < length r) where
     left-over : 0 < length (drop i r)
     left-over = rw length-drop (omega arith)
 
-    told-none : {e : ℕ} → readHead (classOf level) depths (drop i r) ≡ noHead e → canvasOf (from i) ≡ canvas (refused e (a + i)) 0
+    told-none : {e : ℕ} → readHead (classesIn ns) depths (drop i r) ≡ noHead e → canvasOf (from i) ≡ canvas (refused e (a + i)) 0
     unfolding canvasIn
-    told-none {e} is = ap canvasOf (list-fault o (classOf level) depths own (a + i) (drop i r) e left-over is)
+    told-none {e} is = ap canvasOf (list-fault o (classesIn ns) depths own (a + i) (drop i r) e left-over is)
 
     -- its header passes
-    module _ {code len size : ℕ} (stands : readHead (classOf level) depths (drop i r) ≡ head code len size) where
-      fits : Fits (classOf level) depths (drop i r) (head code len size)
-      fits = subst (Fits (classOf level) depths (drop i r)) stands (head-fits (classOf level) depths (drop i r))
+    module _ {code len size : ℕ} (stands : readHead (classesIn ns) depths (drop i r) ≡ head code len size) where
+      fits : Fits (classesIn ns) depths (drop i r) (head code len size)
+      fits = subst (Fits (classesIn ns) depths (drop i r)) stands (head-fits (classesIn ns) depths (drop i r))
 
       abbrev R : paper.Owner → ℕ → List ℕ → Walk
-      R = walkList o (classOf level) (pred depths)
+      R = walkList o (classesIn ns) (pred depths)
 
       abbrev start : ℕ
       start = i + size
@@ -178,10 +182,10 @@ module _ (o : Order) (level depths : ℕ) (own : paper.Owner) (a : ℕ) (r : Lis
       body = take len (drop size (drop i r))
 
       abbrev c : Class
-      c = named (classOf level code)
+      c = classIn ns code
 
       abbrev later : Bool → Walk
-      later b = afterTag b own (a + stop) (drop stop r) (walkList o (classOf level) depths own)
+      later b = afterTag b own (a + stop) (drop stop r) (walkList o (classesIn ns) depths own)
 
       abbrev tag : Tag
       tag = record { depth = 8 - depths; code = code; place = a + i; headerSize = size; bodyLength = len; state = stateOf (bare c) size len; values = valuesOf o c code body .shown }
@@ -198,11 +202,11 @@ module _ (o : Order) (level depths : ℕ) (own : paper.Owner) (a : ℕ) (r : Lis
           let q : a + i + size + len ≡ a + stop = omega arith in
           let n : i + (size + len) ≡ stop = omega arith in
           let d : drop (size + len) (drop i r) ≡ drop stop r = drop-drop (size + len) i r ∙ ap (λ (n : ℕ). drop n r) n in
-          list-tag o (classOf level) depths own (a + i) (drop i r) code len size left-over stands
-          ∙ rw (q, p, d, ends-named (classOf level code), read-named (classOf level code), within-is o R All level code (a + i) (a + start) body)
+          list-tag o (classesIn ns) depths own (a + i) (drop i r) code len size left-over stands
+          ∙ rw (q, p, d, with-named c code .0, with-named c code .2, within-is o R ns code (a + i) (a + start) body)
 
       headed-later : (b : Bool) → HeadedWalk (later b)
-      headed-later b = headed-after o (classOf level) depths b own (a + stop) (drop stop r)
+      headed-later b = headed-after o (classesIn ns) depths b own (a + stop) (drop stop r)
 
       -- what looking at the tag gives, whose inside has the walk w
       tag-looked : (w : Walk) → walkOf R c (a + i) (a + start) body (valuesOf o c code body .ended) ≡ w
@@ -268,7 +272,7 @@ module _ (o : Order) (level depths : ℕ) (own : paper.Owner) (a : ℕ) (r : Lis
 
       values-canvas : isLooked c code ≡ true → valuesOf o c code body ≡ readBody o (fixed compositionAttributes) body
       values-canvas h =
-          let l : (code ≡ 3) × (c ≡ Fixed) = looked-fixed level code c refl h in
+          let l : (code ≡ 3) × (c ≡ Fixed) = looked-fixed ns tabled code h in
           ap₂ (λ (d : Class) (k : ℕ). valuesOf o d k body) (l .1) (l .0) ∙ ap (λ (y : bodies.Body). readBody o y body) leaf-is
 
       fault-reason : {e : ℕ} → z ≡ Fault e → looks ≡ true → 13 ≤ e
@@ -303,7 +307,7 @@ module _ (o : Order) (level depths : ℕ) (own : paper.Owner) (a : ℕ) (r : Lis
       told-open : {p : ℕ} → c ≡ Container → z ≡ At p → looks ≡ false → Told i (judged.Open (bodyOf p))
       told-open {p} e q n =
           let l : p ≤ 8 * length body = values-le o c code body p q in
-          let d : pick true (eqb depths 0) false ≡ false = subst (λ (b : Bool). pick b (eqb depths 0) false ≡ false) (contains-named (classOf level code) ∙ ap contains e) (fits .3) in
+          let d : pick true (eqb depths 0) false ≡ false = subst (λ (b : Bool). pick b (eqb depths 0) false ≡ false) (with-named c code .1 ∙ ap contains e) (fits .3) in
           let m : a + start + p / 8 ≡ a + (start + p / 8) = omega arith in
           let w : walkOf R c (a + i) (a + start) body z ≡ inner i (start + p / 8) stop = walk-as e q ∙ rw (m, list-room p l) in
           (positive depths (eqb-false depths 0 d), omega (arith, fits .0), omega (arith, l, body-length), stop-fits, container-looked n (ap ends e) (inner i (start + p / 8) stop) w)
@@ -318,7 +322,7 @@ module _ (o : Order) (level depths : ℕ) (own : paper.Owner) (a : ℕ) (r : Lis
       told-canvas : {p : ℕ} → z ≡ At p → isLooked c code ≡ true → Told i (judged.Canvas (bodyOf p))
       told-canvas {p} q h =
           let v : valuesOf o c code body ≡ readBody o (fixed compositionAttributes) body = values-canvas h in
-          let l : (code ≡ 3) × (c ≡ Fixed) = looked-fixed level code c refl h in (
+          let l : (code ≡ 3) × (c ≡ Fixed) = looked-fixed ns tabled code h in (
             record {
               after = omega arith;
               order = omega arith;
@@ -337,18 +341,21 @@ module _ (o : Order) (level depths : ℕ) (own : paper.Owner) (a : ℕ) (r : Lis
           go true h = told-canvas q h
           go false h = told-class q (looks-is h) c refl
 
-    -- judging it, by the class of its code, gave J
-    pub tells : {class : Class} (J : Judged) → class ≡ named (classOf level (le16 (drop i r) / 64)) → J ≡ judgedAt o class r i (headBy class depths (drop i r)) → Told i J
-    tells {class} J is e =
-        let f : judgedAt o class r i (headBy class depths (drop i r)) ≡ judgedAt o (named (classOf level (le16 (drop i r) / 64))) r i (readHead (classOf level) depths (drop i r)) =
-        rw (is, head-by (classOf level) depths (drop i r)) in
-        subst (Told i) (sym (e ∙ f)) (go (readHead (classOf level) depths (drop i r)) refl)
+    -- the class of its code
+    abbrev C : Class
+    C = classIn ns (le16 (drop i r) / 64)
+
+    -- judging it gave J
+    pub tells : (J : Judged) → J ≡ judgedIn o ns depths r i → Told i J
+    tells J e =
+        let f : readHead (classesIn ns) depths (drop i r) ≡ headBy C depths (drop i r) = head-by (classesIn ns) depths (drop i r) C (with-named C (le16 (drop i r) / 64) .0) (with-named C (le16 (drop i r) / 64) .1) in
+        subst (Told i) (sym (e ∙ ap (judgedAt o C r i) (sym f))) (go (readHead (classesIn ns) depths (drop i r)) refl)
       where
-        go : (g : Head) → readHead (classOf level) depths (drop i r) ≡ g → Told i (judgedAt o (named (classOf level (le16 (drop i r) / 64))) r i g)
+        go : (g : Head) → readHead (classesIn ns) depths (drop i r) ≡ g → Told i (judgedAt o C r i g)
         go (noHead e) q = told-none q
         go (head code len size) q =
-            subst (λ (n : ℕ). Told i (judgedEnd (named (classOf level n)) code (i + size) (i + size + len) (valuesOf o (named (classOf level n)) code (take len (drop size (drop i r))) .ended))) (fits q .4)
-            (told-end q (valuesOf o (named (classOf level code)) code (take len (drop size (drop i r))) .ended) refl)
+            subst (λ (n : ℕ). Told i (judgedEnd (classIn ns n) code (i + size) (i + size + len) (valuesOf o (classIn ns n) code (take len (drop size (drop i r))) .ended))) (fits q .4)
+            (told-end q (valuesOf o (classIn ns code) code (take len (drop size (drop i r))) .ended) refl)
 
   -- ---- h₀ headers were read before the list, and h so far: at i
   module _ (h₀ : ℕ) where
@@ -385,7 +392,7 @@ module _ (o : Order) (level depths : ℕ) (own : paper.Owner) (a : ℕ) (r : Lis
     used-up {i} {h} g l {p} e =
         let z : i ≡ length r = omega (arith, g .inside) in
         let d : drop i r ≡ [] = rw z (drop-length r) in
-        let f : from i ≡ broken 7 (blame own (a + i)) = rw d (list-nil o (classOf level) depths own (a + i)) in
+        let f : from i ≡ broken 7 (blame own (a + i)) = rw d (list-nil o (classesIn ns) depths own (a + i)) in
         looks-fault g (ap canvasOf f) p (e ∙ ap (λ (x : ℕ). blame own (a + x)) (sym z)) (sym (add-zero h))
 
     module _ {i h : ℕ} (g : Going i h) (J : Judged) (t : Told i J) where
@@ -460,18 +467,18 @@ module _ (o : Order) (level depths : ℕ) (own : paper.Owner) (a : ℕ) (r : Lis
               headers = omega (arith, u .headers, u .place, u .depth, opens .0, opens .1, opens .2, opens .3, g .headers, g .few);
             }
 
-        inner-le : canvasOf (inner i l p) .headers ≤ p - l
-        inner-le =
-            let u : Room (length (piece l p r)) (inner i l p) = walk-room o (classOf level) (fair-by o All level) (length (piece l p r)) (pred depths) (paper.inside (a + i)) (a + l) (piece l p r) in
+        inner-le : Tabled ns → canvasOf (inner i l p) .headers ≤ p - l
+        inner-le tabled =
+            let u : Room (length (piece l p r)) (inner i l p) = walk-room o (classesIn ns) (fair-in o tabled) (length (piece l p r)) (pred depths) (paper.inside (a + i)) (a + l) (piece l p r) in
             omega (arith, u .tags, headers-le (inner i l p .tags) (inner i l p .ended), length-piece l p r (opens .3))
 
-        module _ (y : Looked) (done : Looks o (a + l) (piece l p r) (h + 1) y (canvasOf (walkList o (classOf level) (depths - 1) (paper.inside (a + i)) (a + l) (piece l p r)))) where
+        module _ (y : Looked) (done : Looks o (a + l) (piece l p r) (h + 1) y (canvasOf (walkList o (classesIn ns) (depths - 1) (paper.inside (a + i)) (a + l) (piece l p r)))) where
           looked-inner : Looks o (a + l) (piece l p r) (h + 1) y (canvasOf (inner i l p))
           looked-inner = rw (pred-is depths) done
 
           -- it is whole
-          pub open-next : {h′ : ℕ} → y ≡ looked.Whole h′ → (i < p) × Going p h′
-          open-next {h′} e =
+          pub open-next : Tabled ns → {h′ : ℕ} → y ≡ looked.Whole h′ → (i < p) × Going p h′
+          open-next tabled {h′} e =
               let u : (canvasOf (inner i l p) .seen ≡ none) × (h′ ≡ h + 1 + canvasOf (inner i l p) .headers) = subst (λ (x : Looked). Looks o (a + l) (piece l p r) (h + 1) x (canvasOf (inner i l p))) e looked-inner in
               let k : ℕ = canvasOf (inner i l p) .headers in
               let n : g .passed + (1 + (k + canvasOf (from p) .headers)) ≡ g .passed + 1 + k + canvasOf (from p) .headers = omega arith in (
@@ -480,7 +487,7 @@ module _ (o : Order) (level depths : ℕ) (own : paper.Owner) (a : ℕ) (r : Lis
                   inside = opens .3;
                   passed = g .passed + 1 + k;
                   headers = omega (arith, g .headers, u .1);
-                  few = omega (arith, g .few, inner-le, opens .1, opens .2);
+                  few = omega (arith, g .few, inner-le tabled, opens .1, opens .2);
                   rest = g .rest ∙ ap (more (g .passed)) (opens .4 ∙ ap (λ (s : Seen). more 1 (thenSeen s k (canvasOf (from p)))) (u .0)) ∙ ap (canvas (canvasOf (from p) .seen)) n;
                 },
               )

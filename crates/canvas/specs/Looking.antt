@@ -1,5 +1,5 @@
 -- What the functions of the walk that stops leave.
-use Prim.Native.Nat.{ℕ, _+_, _-_, _*_, _≤_}
+use Prim.Native.Nat.{ℕ, _+_, _-_, _*_, _/_, _≤_}
 use mathlib.Core.List.{List, [], _∷_}
 use mathlib.Core.Path.{_≡_}
 use mathlib.Core.Bool.{Bool, not}
@@ -9,15 +9,16 @@ use lib.Dec.{eqb}
 use Rattle.format.specs.Tests.{pick, _and_}
 use Rattle.format.specs.Bits.{Order}
 use Rattle.format.specs.Reading.{Ending, At, Fault}
-use Rattle.format.specs.Items.{toByte, run}
-use Rattle.format.specs.Bodies.{compositionAttributes, fixed, readBody}
+use Rattle.format.specs.Items.{toByte}
+use Rattle.format.specs.Bodies.{compositionAttributes, fixed, toEnd, readBody}
 use Rattle.format.specs.FileAndTags as paper
-use Rattle.format.specs.FileAndTags.{isRead, blame}
+use Rattle.format.specs.FileAndTags.{le16, isRead, blame}
 use Rattle.classes.specs.Classes as classes
 use Rattle.classes.specs.declared.Class.{Class}
 use Rattle.classes.specs.declared.Class.the-variants as class
 use Rattle.fixed.specs.Fixed.{fixedOf}
-use Rattle.lists.specs.Lists.{byteAt, ownerOf}
+use Rattle.headers.specs.Heads.{headBy}
+use Rattle.lists.specs.Lists.{byteAt, ownerOf, classIn}
 use Rattle.lists.specs.declared.Owner.{Owner}
 use Rattle.tags.specs.Shown.{valuesOf}
 use Rattle.canvas.specs.Canvas as wanted
@@ -57,6 +58,10 @@ abbrev pub judgedAt : Order → Class → List ℕ → ℕ → paper.Head → Ju
 judgedAt o class r i (paper.noHead e) = judged.NoTag e
 judgedAt o class r i (paper.head code len size) =
     judgedEnd class code (i + size) (i + size + len) (valuesOf o class code (take len (drop size (drop i r))) .ended)
+
+-- by its header, and the class that its code has among these
+abbrev pub judgedIn : Order → List ℕ → ℕ → List ℕ → ℕ → Judged
+judgedIn o ns depths r i = judgedAt o (classIn ns (le16 (drop i r) / 64)) r i (headBy (classIn ns (le16 (drop i r) / 64)) depths (drop i r))
 
 -- after End, which ends at `stop` of the room, with h headers read
 abbrev pub afterEnd : Owner → ℕ → ℕ → ℕ → ℕ → Looked
@@ -104,4 +109,4 @@ told (wanted.refused e n) h = bare (seen.Refused e n) h
 
 -- with the values of a body
 abbrev pub filled : Order → List ℕ → ℕ → CanvasSize
-filled o body h = record { seen = seen.Found; values = sets zeros 0 (run o body (fixedOf 3) 0 .shown); headers = h }
+filled o body h = record { seen = seen.Found; values = sets zeros 0 (toEnd o body (fixed (fixedOf 3)) .shown); headers = h }

@@ -1,19 +1,21 @@
 // The first CompositionAttributes of a file that isn't opaque: a walk that stops there, without judging the rest.
 ghost use mathlib.Core.Path.{_≡_};
 ghost use Prim.Native.Nat.{_+_, _≤_, _<_, _^_};
-ghost use lib.ListN.{length, drop};
-ghost use Rattle.format.specs.FileAndTags.{classOf, walkList};
+ghost use lib.ListN.{length};
+ghost use Rattle.format.specs.FileAndTags.{head, walkList};
 ghost use Rattle.bits.specs.Places.{orderOf};
-ghost use Rattle.headers.specs.Heads.{headBy};
-ghost use Rattle.lists.specs.Lists.{ownerOf};
+ghost use Rattle.bodies.specs.Shown.{shownEnd};
+ghost use Rattle.tags.specs.Shown.{valuesOf};
+ghost use Rattle.lists.specs.Lists.{ownerOf, classesIn, Tabled};
 ghost use Rattle.canvas.specs.Canvas.{canvasOf, canvasFile};
-ghost use Rattle.canvas.specs.Looking.{isLooked, judgedBy, judgedAt, afterEnd, Looks, Bounds, bare, filled, told};
-use bits::BitPlace;
+ghost use Rattle.canvas.specs.Looking.{isLooked, judgedBy, judgedAt, judgedIn, afterEnd, Looks, Bounds, bare, filled, told};
 use bits::BytePlace;
 use bits::Order;
 use bodies::Shown;
 use classes::Class;
+use classes::Scope;
 use headers::Head;
+use headers::Header;
 use lists::Owner;
 
 // What is answered: there is such a tag; there is none; or a reason and its second number.
@@ -95,33 +97,62 @@ fn by_class(class: Class, code: u32, body: Body) -> Judged
     }
 }
 
-// The tag at a place of the room; `class` is that of its code. Its header and its own values are judged, and nothing is stored.
-fn judge_tag(order: Order, class: Class, depths: u32, room: &[u8], place: BytePlace) -> Judged
-    requires { ⌜ (place .0 ≤ length (now room)) × (length (now room) ≤ 16777216) ⌝ }
-    ensures { λ r. ⌜ r ≡ judgedAt (orderOf order) class (now (room .entry)) (place .0) (headBy class depths (drop (place .0) (now (room .entry)))) ⌝ }
+// The values of a tag are judged, by its class, and nothing is stored: where they end in its body, for a container where its list starts; or a reason.
+fn judge_values(order: Order, class: Class, code: u32, body: &[u8]) -> Shown
+    requires { ⌜ length (now body) ≤ 16777216 ⌝ }
+    ensures { λ r. ⌜ shownEnd r ≡ valuesOf (orderOf order) class code (now (body .entry)) .ended ⌝ }
 {
-    match headers::read_head(class, depths, room, place) {
+    let mut none = [0u64; 1];
+    match class {
+        Class::Opaque => Shown::Done(BytePlace(0), 0),
+        Class::End => Shown::Done(BytePlace(0), 0),
+        Class::Container => bodies::read_to_end(order, false, code, body, &mut none[..0], 0),
+        Class::Fixed => bodies::read_body(order, code, body, &mut none[..0], 0),
+        Class::Attributes => bodies::read_body(order, code, body, &mut none[..0], 0),
+    }
+}
+
+// The tag of this class and header at a place of the room.
+fn judge_body(order: Order, class: Class, header: Header, room: &[u8], place: BytePlace) -> Judged
+    requires { ⌜ (place .0 + header .size + header .length ≤ length (now room)) × (length (now room) ≤ 16777216) ⌝ }
+    ensures { λ r. ⌜ r ≡ judgedAt (orderOf order) class (now (room .entry)) (place .0) (head (header .code) (header .length) (header .size)) ⌝ }
+{
+    let code = header.code;
+    let start = place.0 + header.size as usize;
+    let stop = start + header.length as usize;
+    match judge_values(order, class, code, &room[start..stop]) {
+        Shown::Stop(why, _) => Judged::Faulty(why),
+        Shown::Done(next, _) => {
+            let list = start + next.0;
+            by_class(
+                class,
+                code,
+                Body {
+                    start: BytePlace(start),
+                    list: BytePlace(list),
+                    stop: BytePlace(stop),
+                },
+            )
+        }
+    }
+}
+
+// The tag at a place of the room: its header; the class of its code; and its own values, if the header passes.
+fn judge_tag(classes: &[u8], order: Order, depths: u32, room: &[u8], place: BytePlace) -> Judged
+    requires { ⌜ (length (now classes) ≡ 1024) × (place .0 ≤ length (now room)) × (length (now room) ≤ 16777216) ⌝ }
+    ensures { λ r. ⌜ r ≡ judgedIn (orderOf order) (now (classes .entry)) depths (now (room .entry)) (place .0) ⌝ }
+{
+    match headers::raw_head(room, place) {
         Head::Fault(why) => Judged::NoTag(why),
         Head::Tag(header) => {
-            let code = header.code;
+            let code = header.code as usize;
+            let class = classes::class_numbered(classes[code]);
             let start = place.0 + header.size as usize;
-            let stop = start + header.length as usize;
-            let mut none = [0u64; 1];
-            match tags::show_tag(order, class, code, 0, &room[start..stop], &mut none[..0], 0) {
-                Shown::Stop(why, _) => Judged::Faulty(why),
-                Shown::Done(next, _) => {
-                    let list = start + next.0;
-                    by_class(
-                        class,
-                        code,
-                        Body {
-                            start: BytePlace(start),
-                            list: BytePlace(list),
-                            stop: BytePlace(stop),
-                        },
-                    )
-                }
+            let why = headers::head_fault(class, depths, room.len() - start, header.length);
+            if why != 0 {
+                return Judged::NoTag(why);
             }
+            judge_body(order, class, header, room, place)
         }
     }
 }
@@ -141,7 +172,7 @@ fn after_end(owner: Owner, at: BytePlace, stop: BytePlace, size: usize, headers:
 
 // The list at place `at` of the file, with its room; `depths` may lie below it, and `before` headers were read before it.
 fn look_in(
-    level: u32,
+    classes: &[u8],
     order: Order,
     depths: u32,
     owner: Owner,
@@ -149,19 +180,15 @@ fn look_in(
     room: &[u8],
     before: usize,
 ) -> Looked
-    requires { ⌜ Bounds depths (at .0) (length (now room)) before ⌝ }
-    ensures { λ r. ⌜ Looks (orderOf order) (at .0) (now (room .entry)) before r (canvasOf (walkList (orderOf order) (classOf level) depths (ownerOf owner) (at .0) (now (room .entry)))) ⌝ }
+    requires { ⌜ Tabled (now classes) × Bounds depths (at .0) (length (now room)) before ⌝ }
+    ensures { λ r. ⌜ Looks (orderOf order) (at .0) (now (room .entry)) before r (canvasOf (walkList (orderOf order) (classesIn (now (classes .entry))) depths (ownerOf owner) (at .0) (now (room .entry)))) ⌝ }
 {
-    let classes = classes::all();
     let mut place = BytePlace(0);
     let mut headers = before;
     while place.0 < room.len() {
         let tag = at.0 + place.0;
-        let code = headers::code_at(room, place);
-        let listed = classes[(code / 32) as usize][(code % 32) as usize];
-        let class = classes::at_level(level, code, listed);
         let passed = headers + 1;
-        match judge_tag(order, class, depths, room, place) {
+        match judge_tag(classes, order, depths, room, place) {
             Judged::NoTag(why) => return Looked::Fault(why, BytePlace(tag), headers),
             Judged::Faulty(why) => return Looked::Fault(why, BytePlace(tag), passed),
             Judged::Canvas(body) => {
@@ -184,7 +211,15 @@ fn look_in(
                 let home = at.0 + first;
                 let own = Owner::Container(BytePlace(tag));
                 let part = &room[first..stop];
-                match look_in(level, order, depths - 1, own, BytePlace(home), part, passed) {
+                match look_in(
+                    classes,
+                    order,
+                    depths - 1,
+                    own,
+                    BytePlace(home),
+                    part,
+                    passed,
+                ) {
                     Looked::Found(spot) => return Looked::Found(spot),
                     Looked::Fault(why, fault, count) => return Looked::Fault(why, fault, count),
                     Looked::Whole(count) => {
@@ -216,7 +251,7 @@ fn with(order: Order, body: &[u8], headers: usize) -> CanvasSize
     ensures { λ r. ⌜ r ≡ filled (orderOf order) (now (body .entry)) headers ⌝ }
 {
     let mut values = [0u64; 7];
-    fixed::read_fixed(order, 3, body, BitPlace(0), &mut values, 0);
+    bodies::read_to_end(order, false, 3, body, &mut values, 0);
     CanvasSize {
         seen: Seen::Found,
         values: values,
@@ -233,8 +268,10 @@ pub fn canvas(level: u32, order: u32, file: &[u8]) -> CanvasSize
         return without(Seen::Refused(why, 0), 0);
     }
     let named = bits::order_named(order);
+    let mut classes = [0u8; 1024];
+    classes::number_first(Scope::All, level, &mut classes);
     let room = &file[9..];
-    match look_in(level, named, 8, Owner::File, BytePlace(9), room, 0) {
+    match look_in(&classes, named, 8, Owner::File, BytePlace(9), room, 0) {
         Looked::Whole(headers) => without(Seen::None, headers),
         Looked::Fault(fault, place, headers) => without(
             Seen::Refused(fault, place.0 as u64),

@@ -1,7 +1,10 @@
 -- The class of a code at a level, as the program has it.
 use Prim.Native.Nat.{ℕ}
 use mathlib.Core.List.{List, []}
-use lib.ListN.{getD}
+use mathlib.Core.Path.{_≡_}
+use lib.ListN.{length, getD}
+use lib.Dec.{eqb}
+use Rattle.format.specs.Tests.{pick}
 use mathlib.Core.Bool.{Bool}
 use Rattle.format.specs.Formats.{nothing}
 use Rattle.format.specs.Bodies.{fixed, attributes}
@@ -61,3 +64,24 @@ takenAs Lists class = named (skimmed Lists (bare class))
 -- the classes that a walk at a level goes by; where it reads all, they are the level's
 abbrev pub classBy : Scope → ℕ → ℕ → paper.Class
 classBy scope level code = skimmed scope (classOf level code)
+
+-- ---- Classes as numbers.
+
+abbrev pub numberOf : Class → ℕ
+numberOf Opaque = 0
+numberOf End = 1
+numberOf Container = 2
+numberOf Fixed = 3
+numberOf Attributes = 4
+
+abbrev pub numbered : ℕ → Class
+numbered n = pick (eqb n 0) Opaque (pick (eqb n 1) End (pick (eqb n 2) Container (pick (eqb n 3) Fixed Attributes)))
+
+-- the number of the class that a walk goes by
+abbrev pub numberBy : Scope → ℕ → ℕ → ℕ
+numberBy scope level code = numberOf (named (classBy scope level code))
+
+-- a table of numbers has the classes that a walk goes by
+pub record Classed (scope : Scope) (level : ℕ) (ns : List ℕ) : Type 0 where
+  pub size : length ns ≡ 1024
+  pub each : (code : ℕ) → numbered (getD ns code 0) ≡ named (classBy scope level code)

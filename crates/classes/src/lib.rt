@@ -2,7 +2,11 @@
 ghost use mathlib.Core.Path.{_≡_};
 ghost use lib.Dec.{ltb};
 ghost use Rattle.format.specs.Tests.{pick};
-ghost use Rattle.classes.specs.Classes.{allClasses, takenAs};
+ghost use Prim.Native.Nat.{_<_};
+ghost use lib.ListN.{length};
+ghost use lib.Seq.{sets};
+ghost use Rattle.classes.specs.Tables.{tab};
+ghost use Rattle.classes.specs.Classes.{allClasses, takenAs, numberOf, numbered, numberBy};
 ghost use Rattle.classes.specs.declared.Class.the-variants.{Opaque};
 
 pub enum Class {
@@ -119,5 +123,45 @@ pub fn taken_as(scope: Scope, class: Class) -> Class
             Class::Fixed => Class::Opaque,
             Class::Attributes => Class::Opaque,
         },
+    }
+}
+
+// A class as a number. A reference to enums is not covered, so a walk lends its classes as numbers.
+fn number_of(class: Class) -> u8
+    ensures { λ r. ⌜ r ≡ numberOf class ⌝ }
+{
+    match class {
+        Class::Opaque => 0,
+        Class::End => 1,
+        Class::Container => 2,
+        Class::Fixed => 3,
+        Class::Attributes => 4,
+    }
+}
+
+// The class of a number.
+pub fn class_numbered(number: u8) -> Class
+    ensures { λ r. ⌜ r ≡ numbered number ⌝ }
+{
+    match number {
+        0 => Class::Opaque,
+        1 => Class::End,
+        2 => Class::Container,
+        3 => Class::Fixed,
+        _ => Class::Attributes,
+    }
+}
+
+// The numbers of the classes that a walk goes by, from the first row of the table; those of the other rows are opaque.
+pub fn number_first(scope: Scope, level: u32, numbers: &mut [u8])
+    requires { ⌜ 31 < length (now numbers) ⌝ }
+    ensures { λ r. ⌜ now (numbers .exit) ≡ sets (now (numbers .entry)) 0 (tab (numberBy scope level) 0 32) ⌝ }
+{
+    let classes = all();
+    let mut code = 0;
+    while code < 32 {
+        let listed = classes[0][code];
+        numbers[code] = number_of(taken_as(scope, at_level(level, code as u32, listed)));
+        code += 1;
     }
 }

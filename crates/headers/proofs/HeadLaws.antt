@@ -9,19 +9,17 @@ use lib.ListN.{length, getD, drop, length-drop}
 use lib.Seq.{getD-drop, drop-drop}
 use lib.Dec.{ltb, eqb}
 use borrow.Author.Tests.{ltb-false, lt-ltb, le-ltb, eq-eqb, ne-eqb}
-use Rattle.format.specs.Tests.{pick}
+use Rattle.format.specs.Tests.{pick, _and_}
 use Rattle.format.specs.FileAndTags as paper
-use Rattle.format.specs.FileAndTags.{head, noHead, le16, le32, rawHead, passes, readHead}
-use Rattle.classes.specs.Classes.{named, bare, ends, contains}
+use Rattle.format.specs.FileAndTags.{head, noHead, le16, le32, isEnd, isContainer, rawHead, passes, readHead}
+use Rattle.classes.specs.Classes.{bare, ends, contains}
 use Rattle.classes.specs.declared.Class.{Class}
-use Rattle.classes.specs.declared.Class.the-variants.{End, Container}
-use Rattle.classes.proofs.ClassLaws.{ends-named, contains-named}
 use Rattle.format.proofs.WalkLaws.{RawFits, raw-fits}
 use Rattle.format.proofs.Absurd.{clash}
 use Rattle.headers.specs.declared.Header.{Header}
 use Rattle.headers.specs.declared.Head.{Head}
 use Rattle.headers.specs.declared.Head.the-variants.{Tag, Fault}
-use Rattle.headers.specs.Heads.{asHead, headBy}
+use Rattle.headers.specs.Heads.{asHead, codeOf, headBy, faultBy}
 
 -- ---- Numbers.
 
@@ -80,53 +78,46 @@ head-one (Tag g) (Fault r) e = clash cc
 head-one (Fault r) (Tag g) e = clash cc
 head-one (Fault r) (Fault r′) e = cc
 
--- ---- Whether a header passes, by the name of its class.
+-- ---- A header that stands at i: its code, and that it fits.
+-- a code has ten bits
+pub coded-fits : {h : Head} {H : Header} → codeOf h < 1024 → h ≡ Tag H → H .code < 1024
+coded-fits f is = subst (λ (x : Head). codeOf x < 1024) is f
 
--- what follows the header at i
-pub rest-is : (s : List ℕ) (i size : ℕ) → length (drop size (drop i s)) ≡ length s - i - size
-rest-is s i size = rw (length-drop, length-drop)
+pub record StandsAt (s : List ℕ) (i : ℕ) (H : Header) : Type 0 where
+  pub raw : rawHead (drop i s) ≡ asHead (Tag H)
+  pub inside : H .size ≤ length s - i
+  pub coded : H .code ≡ le16 (drop i s) / 64
 
-pub size-fits : (s : List ℕ) (i : ℕ) {h : Head} {H : Header} → asHead h ≡ rawHead (drop i s) → h ≡ Tag H → H .size ≤ length s - i
-size-fits s i {H = H} at is =
+pub stands-at : (s : List ℕ) (i : ℕ) {h : Head} {H : Header} → asHead h ≡ rawHead (drop i s) → h ≡ Tag H → StandsAt s i H
+stands-at s i {H = H} at is =
     let u : RawFits (drop i s) (asHead (Tag H)) = subst (RawFits (drop i s)) (sym at ∙ ap asHead is) (raw-fits (drop i s)) in
-    omega (arith, u .1, length-drop i s)
+    record { raw = sym at ∙ ap asHead is; inside = omega (arith, u .1, length-drop i s); coded = u .2 }
 
--- H is the header that stands at r; rest bytes follow it
-module _ (left : ℕ) (r : List ℕ) {h : Head} {H : Header} {rest : ℕ} (class : Class) (at : asHead h ≡ rawHead r) (is : h ≡ Tag H) (follow : length (drop (H .size) r) ≡ rest) where
-  stands : rawHead r ≡ asHead (Tag H)
-  stands = sym at ∙ ap asHead is
+-- ---- Whether a header passes, by the name of its class.
+module _ (class : Class) (left : ℕ) (s : List ℕ) (i : ℕ) {H : Header} {rest e : ℕ} (at : StandsAt s i H) (follow : rest ≡ length s - (i + H .size)) (fault : e ≡ faultBy class left rest (H .length)) where
+  rests : length (drop (H .size) (drop i s)) ≡ rest
+  rests = rw (length-drop, length-drop) (omega (arith, follow))
 
-  pub head-over : rest < H .length → noHead 9 ≡ headBy class left r
-  head-over h = rw (stands, follow, lt-ltb rest (H .length) h)
+  judged : (a b c : Bool) → ltb rest (H .length) ≡ a → (ends class and ltb 0 (H .length)) ≡ b → (contains class and eqb left 0) ≡ c
+      → headBy class left (drop i s) ≡ pick (eqb e 0) (asHead (Tag H)) (noHead e)
+  judged true b c p q r = rw (at .raw, rests, fault, p)
+  judged false true c p q r = rw (at .raw, rests, fault, p, q)
+  judged false false true p q r = rw (at .raw, rests, fault, p, q, r)
+  judged false false false p q r = rw (at .raw, rests, fault, p, q, r)
 
-  module _ (fits : H .length ≤ rest) where
-    pub head-end-body : class ≡ End → 0 < H .length → noHead 10 ≡ headBy class left r
-    head-end-body e h = rw (stands, follow, le-ltb rest (H .length) fits, e, lt-ltb 0 (H .length) h)
+  pub head-passes : e ≡ 0 → headBy class left (drop i s) ≡ asHead (Tag H)
+  head-passes z = judged _ _ _ refl refl refl ∙ rw (eq-eqb e 0 z)
 
-    pub head-deep : class ≡ Container → left ≡ 0 → noHead 12 ≡ headBy class left r
-    head-deep e h = rw (stands, follow, le-ltb rest (H .length) fits, e, h)
+  pub head-fails : (e ≡ 0 → ⊥) → headBy class left (drop i s) ≡ noHead e
+  head-fails z = judged _ _ _ refl refl refl ∙ rw (ne-eqb e 0 z)
 
-    pub head-end : class ≡ End → H .length ≤ 0 → asHead (Tag H) ≡ headBy class left r
-    head-end e l = rw (stands, follow, le-ltb rest (H .length) fits, e, le-ltb 0 (H .length) l)
-
-    pub head-container : class ≡ Container → (left ≡ 0 → ⊥) → asHead (Tag H) ≡ headBy class left r
-    head-container e l = rw (stands, follow, le-ltb rest (H .length) fits, e, ne-eqb left 0 l)
-
-    -- a class that is neither passes
-    pub head-other : ends class ≡ false → contains class ≡ false → asHead (Tag H) ≡ headBy class left r
-    head-other e f = rw (stands, follow, le-ltb rest (H .length) fits, e, f)
-
-pub head-none : (left : ℕ) (r : List ℕ) {h : Head} {e : ℕ} (class : Class) → asHead h ≡ rawHead r → h ≡ Fault e → asHead h ≡ headBy class left r
-head-none left r class at is = ap asHead is ∙ rw (sym at ∙ ap asHead is)
+pub head-none : (left : ℕ) (r : List ℕ) {h : Head} {e : ℕ} (class : Class) → asHead h ≡ rawHead r → h ≡ Fault e → headBy class left r ≡ noHead e
+head-none left r class at is = rw (sym at ∙ ap asHead is)
 
 -- ---- The definitions' header, by the name of the class of its code, whatever the classes are.
-pub head-by : (class : ℕ → paper.Class) (left : ℕ) (r : List ℕ) → readHead class left r ≡ headBy (named (class (le16 r / 64))) left r
-head-by class left r = go (rawHead r) (raw-fits r)
+pub head-by : (class : ℕ → paper.Class) (left : ℕ) (r : List ℕ) (c : Class) → isEnd (class (le16 r / 64)) ≡ ends c → isContainer (class (le16 r / 64)) ≡ contains c → readHead class left r ≡ headBy c left r
+head-by class left r c e f = go (rawHead r) (raw-fits r)
   where
-    go : (h : paper.Head) → RawFits r h → passes class left r h ≡ passes (λ code. bare (named (class (le16 r / 64)))) left r h
-    go (noHead e) u = refl
-    go (head code len size) u = rw (u .2, ends-named (class (le16 r / 64)), contains-named (class (le16 r / 64)))
-
--- ---- The code of the header at i, by its two bytes.
-pub code-of : (s : List ℕ) (i j a b : ℕ) {n : ℕ} → i + 1 ≡ j → a ≡ getD s i 0 → b ≡ getD s j 0 → n ≡ a + 256 * b → n / 64 ≡ le16 (drop i s) / 64
-code-of s i j a b q x y e = ap (λ (m : ℕ). m / 64) (e ∙ two-bytes s i j a b q x y)
+    go : (h : paper.Head) → RawFits r h → passes class left r h ≡ passes (λ code. bare c) left r h
+    go (noHead x) u = refl
+    go (head code len size) u = rw (u .2, e, f)

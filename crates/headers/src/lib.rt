@@ -1,9 +1,9 @@
 // Tag headers: a little-endian 16-bit number, and a 32-bit body length after it where its length is 63.
 ghost use mathlib.Core.Path.{_≡_};
-ghost use Prim.Native.Nat.{_+_, _/_, _<_, _≤_, _^_};
+ghost use Prim.Native.Nat.{_+_, _<_, _≤_, _^_};
 ghost use lib.ListN.{length, drop};
 ghost use Rattle.format.specs.FileAndTags.{le16, le32, rawHead};
-ghost use Rattle.headers.specs.Heads.{asHead, headBy};
+ghost use Rattle.headers.specs.Heads.{asHead, codeOf, faultBy};
 use bits::BytePlace;
 use classes::Class;
 
@@ -47,7 +47,7 @@ pub fn le32_at(bytes: &[u8], i: usize) -> u32
 // The header as it stands in a list's room, unless the room's end cuts it (6). The long one takes any length.
 pub fn raw_head(room: &[u8], at: BytePlace) -> Head
     requires { ⌜ at .0 ≤ length (now room) ⌝ }
-    ensures { λ r. ⌜ asHead r ≡ rawHead (drop (at .0) (now (room .entry))) ⌝ }
+    ensures { λ r. ⌜ (asHead r ≡ rawHead (drop (at .0) (now (room .entry)))) × (codeOf r < 1024) ⌝ }
 {
     let i = at.0;
     let rest = room.len() - i;
@@ -74,39 +74,19 @@ pub fn raw_head(room: &[u8], at: BytePlace) -> Head
     })
 }
 
-// The code of the header in a list's room; bytes past the room count as 0.
-pub fn code_at(room: &[u8], at: BytePlace) -> u32
-    requires { ⌜ at .0 < length (now room) ⌝ }
-    ensures { λ r. ⌜ (r ≡ le16 (drop (at .0) (now (room .entry))) / 64) × (r < 1024) ⌝ }
+// Why a header does not pass, 0 if it does; `class` is that of its code, and `rest` bytes of the list's room follow it: its body is longer (9); End has a
+// body (10); a container, and no depth is left (12).
+pub fn head_fault(class: Class, depths: u32, rest: usize, len: u32) -> u32
+    ensures { λ r. ⌜ r ≡ faultBy class depths rest len ⌝ }
 {
-    let i = at.0;
-    let number = bits::byte_at(room, i) + 256 * bits::byte_at(room, i + 1);
-    (number / 64) as u32
-}
-
-// The header in a list's room, if it passes; `class` is that of its code: the body is longer than the list's rest (9); End has a body (10); a
-// container, and no depth is left (12).
-pub fn read_head(class: Class, depths: u32, room: &[u8], at: BytePlace) -> Head
-    requires { ⌜ at .0 ≤ length (now room) ⌝ }
-    ensures { λ r. ⌜ asHead r ≡ headBy class depths (drop (at .0) (now (room .entry))) ⌝ }
-{
-    let head = raw_head(room, at);
-    let Head::Tag(header) = head else {
-        return head;
-    };
-    let rest = room.len() - at.0 - header.size as usize;
-    if rest < header.length as usize {
-        return Head::Fault(9);
+    if rest < len as usize {
+        return 9;
     }
     match class {
-        Class::End => if 0 < header.length {
-            Head::Fault(10)
-        } else {
-            head
-        },
-        Class::Container => if depths == 0 { Head::Fault(12) } else { head },
-        Class::Opaque => head,
-        Class::Fixed => head,
-        Class::Attributes => head,
+        Class::End => if 0 < len { 10 } else { 0 },
+        Class::Container => if depths == 0 { 12 } else { 0 },
+        Class::Opaque => 0,
+        Class::Fixed => 0,
+        Class::Attributes => 0,
     }
 }

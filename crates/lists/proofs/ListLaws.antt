@@ -15,27 +15,27 @@ use Rattle.format.specs.Reading.{Ending, At, Fault}
 use Rattle.format.specs.Items.{run, toByte}
 use Rattle.format.specs.Bodies.{readBody}
 use Rattle.format.specs.FileAndTags as paper
-use Rattle.format.specs.FileAndTags.{le16, container, stateOf, Tag, Outcome, whole, fault, Walk, noTags, broken, chain, head, noHead, readHead, blame, atEnd, afterTag, TagInside, endAt, front, opened, within, tagThen, walkList}
+use Rattle.format.specs.FileAndTags.{le16, container, isEnd, isContainer, isRead, stateOf, Tag, Outcome, whole, fault, Walk, noTags, broken, chain, head, noHead, readHead, blame, atEnd, afterTag, TagInside, endAt, front, opened, within, tagThen, walkList}
 use Rattle.format.specs.TableOfNumbers.{numbers, tagTable}
 use Rattle.format.proofs.EngineLaws.{chain-chain, numbers-append, tagTable-append}
 use Rattle.format.proofs.ListLaws.{list-nil, list-fault, list-tag}
-use Rattle.format.proofs.RoomLaws.{Room, walk-room, tag-table-length}
+use Rattle.format.proofs.RoomLaws.{FairClass, Room, walk-room, tag-table-length}
 use Rattle.format.proofs.WalkLaws.{run-le, Fits, head-fits}
 use Rattle.format.proofs.Absurd.{clash}
 use Rattle.table.proofs.EngineLaws.{sets-append}
 use Rattle.attributes.specs.Rows.{attributesOf}
 use Rattle.fixed.specs.Fixed.{fixedOf}
 use Rattle.bodies.specs.Leaf.{leafBody}
-use Rattle.classes.specs.Classes.{named, bare, ends, contains, classBy}
+use Rattle.classes.specs.Classes.{bare, ends, contains, classBy, Classed}
 use Rattle.classes.specs.declared.Class.{Class}
 use Rattle.classes.specs.declared.Class.the-variants.{Opaque, End, Container, Fixed, Attributes}
 use Rattle.classes.specs.declared.Scope.{Scope}
-use Rattle.classes.proofs.ClassLaws.{Right, spelt, ends-named, contains-named, read-named, fair-by, taken-by}
+use Rattle.classes.proofs.ClassLaws.{Right, spelt, fair-by, taken-by}
 use Rattle.headers.specs.Heads.{headBy}
 use Rattle.headers.proofs.HeadLaws.{head-by}
 use Rattle.tags.specs.Shown.{valuesOf}
 use Rattle.bits.specs.declared.BytePlace.{BytePlace}
-use Rattle.lists.specs.Lists.{ownerOf, byteAt, tagShown, stepOf, Stepped, stepped, tagAt, lastOf, Listed, listed, walkedOf, walkOver, Bounds}
+use Rattle.lists.specs.Lists.{ownerOf, byteAt, classWith, classIn, classesIn, Tabled, tagShown, stepOf, Stepped, stepped, tagAt, lastOf, Listed, listed, walkedOf, walkOver, Bounds}
 use Rattle.lists.specs.declared.Owner.{Owner}
 use Rattle.lists.specs.declared.Opened.{Opened}
 use Rattle.lists.specs.declared.Step.{Step}
@@ -88,10 +88,32 @@ pub right : Right leafBody (λ code. container (fixedOf code))
 unfolding leafBody fixedOf attributesOf
 right = refl
 
-pub within-is : (o : Order) (R : paper.Owner → ℕ → List ℕ → Walk) (scope : Scope) (level code a s : ℕ) (body : List ℕ)
-    → within o R (classBy scope level code) a s body ≡ insideOf o R (named (classBy scope level code)) code a s body
-within-is o R scope level code a s body =
-    ap (λ (c : paper.Class). within o R c a s body) (taken-by leafBody fixedOf right scope level code) ∙ go (named (classBy scope level code))
+-- the classes of a table are those of its level, and no list needs more room by them
+with-spelt : (c : Class) (code : ℕ) → classWith c code ≡ spelt leafBody (λ code. container (fixedOf code)) c code
+with-spelt Opaque code = refl
+with-spelt End code = refl
+with-spelt Container code = refl
+with-spelt Fixed code = refl
+with-spelt Attributes code = refl
+
+pub class-level : (ns : List ℕ) (scope : Scope) (level : ℕ) → Classed scope level ns → (code : ℕ) → classesIn ns code ≡ classBy scope level code
+class-level ns scope level k code =
+    with-spelt (classIn ns code) code ∙ ap (λ (c : Class). spelt leafBody (λ code. container (fixedOf code)) c code) (k .each code) ∙ sym (taken-by leafBody fixedOf right scope level code)
+
+pub fair-in : (o : Order) {ns : List ℕ} → Tabled ns → (code : ℕ) → FairClass o (classesIn ns code)
+fair-in o {ns} k code = subst (FairClass o) (sym (class-level ns (k .scope) (k .level) (k .classed) code)) (fair-by o (k .scope) (k .level) code)
+
+-- the rules that look at the name alone
+pub with-named : (c : Class) (code : ℕ) → (isEnd (classWith c code) ≡ ends c) × (isContainer (classWith c code) ≡ contains c) × (isRead (classWith c code) ≡ isRead (bare c))
+with-named Opaque code = (refl, refl, refl)
+with-named End code = (refl, refl, refl)
+with-named Container code = (refl, refl, refl)
+with-named Fixed code = (refl, refl, refl)
+with-named Attributes code = (refl, refl, refl)
+
+pub within-is : (o : Order) (R : paper.Owner → ℕ → List ℕ → Walk) (ns : List ℕ) (code a s : ℕ) (body : List ℕ)
+    → within o R (classesIn ns code) a s body ≡ insideOf o R (classIn ns code) code a s body
+within-is o R ns code a s body = go (classIn ns code)
   where
     leaf : (xs : List ℕ) (z : Ending) → _≡_ {A = TagInside} (record { values = xs; walk = noTags (endAt a z) }) (record { values = xs; walk = walkOf R Fixed a s body z })
     leaf xs (At p) = refl
@@ -105,7 +127,7 @@ within-is o R scope level code a s body =
     leaf-too xs (At p) = refl
     leaf-too xs (Fault e) = refl
 
-    go : (c : Class) → within o R (spelt leafBody (λ code. container (fixedOf code)) c code) a s body ≡ insideOf o R c code a s body
+    go : (c : Class) → within o R (classWith c code) a s body ≡ insideOf o R c code a s body
     go Opaque = refl
     go End = refl
     go Container = fronted (run o body (front (fixedOf code)) 0 .shown) (run o body (front (fixedOf code)) 0 .ended)
@@ -148,12 +170,12 @@ listed-eq : {t t′ g g′ : List ℕ} {x x′ : Walked} → t ≡ t′ → g �
 listed-eq p q r = λ i. record { table = p i; rows = q i; answer = r i }
 
 -- the list of the owner at place a, whose room is r, over the tables t₀ from k on and g₀ from m on
-module _ (o : Order) (scope : Scope) (level depths : ℕ) (own : paper.Owner) (a : ℕ) (r t₀ : List ℕ) (k : ℕ) (g₀ : List ℕ) (m : ℕ) where
+module _ (o : Order) (ns : List ℕ) (depths : ℕ) (own : paper.Owner) (a : ℕ) (r t₀ : List ℕ) (k : ℕ) (g₀ : List ℕ) (m : ℕ) where
   abbrev from : ℕ → Walk
-  from i = walkList o (classBy scope level) depths own (a + i) (drop i r)
+  from i = walkList o (classesIn ns) depths own (a + i) (drop i r)
 
   abbrev all : Walk
-  all = walkList o (classBy scope level) depths own a r
+  all = walkList o (classesIn ns) depths own a r
 
   -- some tags were passed, and `rest` is the walk of what is left
   pub record Passed (t g : List ℕ) (j w : ℕ) (rest : Walk) : Type 0 where
@@ -181,9 +203,9 @@ module _ (o : Order) (scope : Scope) (level depths : ℕ) (own : paper.Owner) (a
   passed-rows rest s = ap length (s .rows) ∙ length-sets g₀ m (tagTable (s .tags))
 
   -- the indexes stay in the list's room
-  pub passed-room : {t g : List ℕ} {j w : ℕ} (rest : Walk) → Passed t g j w rest → (j ≤ k + 8 * length r) × (w ≤ m + 5 * length r)
-  passed-room rest s =
-      let u : Room (length r) all = walk-room o (classBy scope level) (fair-by o scope level) (length r) depths own a r in
+  pub passed-room : Tabled ns → {t g : List ℕ} {j w : ℕ} (rest : Walk) → Passed t g j w rest → (j ≤ k + 8 * length r) × (w ≤ m + 5 * length r)
+  passed-room tabled rest s =
+      let u : Room (length r) all = walk-room o (classesIn ns) (fair-in o tabled) (length r) depths own a r in
       let ns : length (numbers (all .tags)) ≡ length (numbers (s .tags)) + length (numbers (rest .tags)) =
       ap (λ (w : Walk). length (numbers (w .tags))) (s .split) ∙ ap length (numbers-append (s .tags) (rest .tags)) ∙ length-append (numbers (s .tags)) (numbers (rest .tags)) in
       let ts : length (all .tags) ≡ length (s .tags) + length (rest .tags) = ap (λ (w : Walk). length (w .tags)) (s .split) ∙ length-append (s .tags) (rest .tags) in
@@ -268,7 +290,7 @@ module _ (o : Order) (scope : Scope) (level depths : ℕ) (own : paper.Owner) (a
   used-up {t} {g} {i} {j} {w} go l {n} e =
       let z : i ≡ length r = omega (arith, go .inside) in
       let d : drop i r ≡ [] = rw z (drop-length r) in
-      let f : from i ≡ broken 7 (blame own (a + i)) = rw d (list-nil o (classBy scope level) depths own (a + i)) in
+      let f : from i ≡ broken 7 (blame own (a + i)) = rw d (list-nil o (classesIn ns) depths own (a + i)) in
       passed-fault (from i) (go .passed) (f ∙ ap (λ (x : ℕ). broken 7 (blame own (a + x))) z ∙ ap (broken 7) (sym e))
 
   -- the tag at i is a container, whose list has the room from l up to p; n and m′ are the next indexes
@@ -278,24 +300,24 @@ module _ (o : Order) (scope : Scope) (level depths : ℕ) (own : paper.Owner) (a
     pub order : l ≤ p
     pub inside : p ≤ length r
     pub passed : Passed t g n m′
-        (chain (walkList o (classBy scope level) (pred depths) (paper.inside (a + i)) (a + l) (piece l p r) .tags)
-        (walkList o (classBy scope level) (pred depths) (paper.inside (a + i)) (a + l) (piece l p r) .ended) (from p))
+        (chain (walkList o (classesIn ns) (pred depths) (paper.inside (a + i)) (a + l) (piece l p r) .tags)
+        (walkList o (classesIn ns) (pred depths) (paper.inside (a + i)) (a + l) (piece l p r) .ended) (from p))
 
   -- ---- the tag at i
   module _ {t g : List ℕ} {i j w : ℕ} (going : Going t g i j w) (some : i < length r) where
     left-over : 0 < length (drop i r)
     left-over = rw length-drop (omega arith)
 
-    head-fault : {e : ℕ} → readHead (classBy scope level) depths (drop i r) ≡ noHead e → listed t g (walked.Fault e (byteAt (a + i))) ≡ walkOver t₀ k g₀ m all
-    head-fault {e} is = passed-fault (from i) (going .passed) (list-fault o (classBy scope level) depths own (a + i) (drop i r) e left-over is)
+    head-fault : {e : ℕ} → readHead (classesIn ns) depths (drop i r) ≡ noHead e → listed t g (walked.Fault e (byteAt (a + i))) ≡ walkOver t₀ k g₀ m all
+    head-fault {e} is = passed-fault (from i) (going .passed) (list-fault o (classesIn ns) depths own (a + i) (drop i r) e left-over is)
 
     -- its header passes
-    module _ {code len size : ℕ} (stands : readHead (classBy scope level) depths (drop i r) ≡ head code len size) where
-      fits : Fits (classBy scope level) depths (drop i r) (head code len size)
-      fits = subst (Fits (classBy scope level) depths (drop i r)) stands (head-fits (classBy scope level) depths (drop i r))
+    module _ {code len size : ℕ} (stands : readHead (classesIn ns) depths (drop i r) ≡ head code len size) where
+      fits : Fits (classesIn ns) depths (drop i r) (head code len size)
+      fits = subst (Fits (classesIn ns) depths (drop i r)) stands (head-fits (classesIn ns) depths (drop i r))
 
       abbrev R : paper.Owner → ℕ → List ℕ → Walk
-      R = walkList o (classBy scope level) (pred depths)
+      R = walkList o (classesIn ns) (pred depths)
 
       abbrev start : ℕ
       start = i + size
@@ -307,13 +329,13 @@ module _ (o : Order) (scope : Scope) (level depths : ℕ) (own : paper.Owner) (a
       body = take len (drop size (drop i r))
 
       abbrev c : Class
-      c = named (classBy scope level code)
+      c = classIn ns code
 
       abbrev inner : Walk
       inner = walkOf R c (a + i) (a + start) body (valuesOf o c code body .ended)
 
       abbrev later : Bool → Walk
-      later b = afterTag b own (a + stop) (drop stop r) (walkList o (classBy scope level) depths own)
+      later b = afterTag b own (a + stop) (drop stop r) (walkList o (classesIn ns) depths own)
 
       abbrev t′ : List ℕ
       t′ = sets t j (tagShown o c code len size body .shown)
@@ -336,8 +358,8 @@ module _ (o : Order) (scope : Scope) (level depths : ℕ) (own : paper.Owner) (a
           let q : a + i + size + len ≡ a + stop = omega arith in
           let n : i + (size + len) ≡ stop = omega arith in
           let d : drop (size + len) (drop i r) ≡ drop stop r = drop-drop (size + len) i r ∙ ap (λ (n : ℕ). drop n r) n in
-          list-tag o (classBy scope level) depths own (a + i) (drop i r) code len size left-over stands
-          ∙ rw (q, p, d, ends-named (classBy scope level code), read-named (classBy scope level code), within-is o R scope level code (a + i) (a + start) body)
+          list-tag o (classesIn ns) depths own (a + i) (drop i r) code len size left-over stands
+          ∙ rw (q, p, d, with-named c code .0, with-named c code .2, within-is o R ns code (a + i) (a + start) body)
 
       tag-passed : Passed t′ g′ j′ (w + 5) (chain (inner .tags) (inner .ended) (later (ends c)))
       tag-passed = passed-tag (8 - depths) code (a + i) size len (stateOf (bare c) size len) (insideOf o R c code (a + i) (a + start) body) (later (ends c))
@@ -389,7 +411,7 @@ module _ (o : Order) (scope : Scope) (level depths : ℕ) (own : paper.Owner) (a
             let l : ℕ = op .list .0 in
             let f : (op .stop .0 ≡ stop) × (op .behind ≡ j′) × (ends c ≡ false) × (contains c ≡ true) × (start ≤ l) × (l ≤ start + length body) × (inner ≡ R (paper.inside (a + i)) (a + l) (drop (l - start) body)) =
             subst (Follows R a (a + i) start stop body c inner j′) z tag-follows in
-            let d : pick true (eqb depths 0) false ≡ false = subst (λ (b : Bool). pick b (eqb depths 0) false ≡ false) (contains-named (classBy scope level code) ∙ f .3) (fits .3) in
+            let d : pick true (eqb depths 0) false ≡ false = subst (λ (b : Bool). pick b (eqb depths 0) false ≡ false) (with-named c code .1 ∙ f .3) (fits .3) in
             let q : len - (l - start) ≡ stop - l = omega (arith, f .4) in
             let q′ : i + (size + (l - start)) ≡ l = omega (arith, f .4) in
             let room : drop (l - start) body ≡ piece l stop r =
@@ -406,20 +428,20 @@ module _ (o : Order) (scope : Scope) (level depths : ℕ) (own : paper.Owner) (a
             }
 
     -- reading it, by the class of its code, left this
-    module _ {class : Class} {t′ g′ : List ℕ} (x : Step) (is-named : class ≡ named (classBy scope level (le16 (drop i r) / 64)))
+    module _ {class : Class} {t′ g′ : List ℕ} (x : Step) (is-named : class ≡ classIn ns (le16 (drop i r) / 64))
         (read : stepped t′ g′ x ≡ tagAt o class depths a r i t j g w (headBy class depths (drop i r))) where
-      read-is : stepped t′ g′ x ≡ tagAt o (named (classBy scope level (le16 (drop i r) / 64))) depths a r i t j g w (readHead (classBy scope level) depths (drop i r))
-      read-is = read ∙ rw (is-named, head-by (classBy scope level) depths (drop i r))
+      read-is : stepped t′ g′ x ≡ tagAt o (classIn ns (le16 (drop i r) / 64)) depths a r i t j g w (readHead (classesIn ns) depths (drop i r))
+      read-is = read ∙ rw (is-named, head-by (classesIn ns) depths (drop i r) (classIn ns (le16 (drop i r) / 64)) (with-named (classIn ns (le16 (drop i r) / 64)) (le16 (drop i r) / 64) .0) (with-named (classIn ns (le16 (drop i r) / 64)) (le16 (drop i r) / 64) .1))
 
       -- by what its header gives
-      by-head : (P : Stepped → Type 0) → ((e : ℕ) → readHead (classBy scope level) depths (drop i r) ≡ noHead e → P (stepped t g (step.Fault e)))
-          → ((code len size : ℕ) → readHead (classBy scope level) depths (drop i r) ≡ head code len size → P (tagAt o (named (classBy scope level code)) depths a r i t j g w (head code len size))) → P (stepped t′ g′ x)
-      by-head P f h = subst P (sym read-is) (go (readHead (classBy scope level) depths (drop i r)) refl)
+      by-head : (P : Stepped → Type 0) → ((e : ℕ) → readHead (classesIn ns) depths (drop i r) ≡ noHead e → P (stepped t g (step.Fault e)))
+          → ((code len size : ℕ) → readHead (classesIn ns) depths (drop i r) ≡ head code len size → P (tagAt o (classIn ns code) depths a r i t j g w (head code len size))) → P (stepped t′ g′ x)
+      by-head P f h = subst P (sym read-is) (go (readHead (classesIn ns) depths (drop i r)) refl)
         where
-          go : (d : paper.Head) → readHead (classBy scope level) depths (drop i r) ≡ d → P (tagAt o (named (classBy scope level (le16 (drop i r) / 64))) depths a r i t j g w d)
+          go : (d : paper.Head) → readHead (classesIn ns) depths (drop i r) ≡ d → P (tagAt o (classIn ns (le16 (drop i r) / 64)) depths a r i t j g w d)
           go (noHead e) q = f e q
           go (head code len size) q =
-              subst (λ (n : ℕ). P (tagAt o (named (classBy scope level n)) depths a r i t j g w (head code len size))) (fits q .4) (h code len size q)
+              subst (λ (n : ℕ). P (tagAt o (classIn ns n) depths a r i t j g w (head code len size))) (fits q .4) (h code len size q)
 
       -- the lent tables keep their lengths
       pub tag-sizes : (length t′ ≡ length t₀) × (length g′ ≡ length g₀)
@@ -463,12 +485,12 @@ module _ (o : Order) (scope : Scope) (level depths : ℕ) (own : paper.Owner) (a
         n = op .behind
 
         abbrev R′ : Walk
-        R′ = walkList o (classBy scope level) (pred depths) (paper.inside (a + i)) (a + l) (piece l p r)
+        R′ = walkList o (classesIn ns) (pred depths) (paper.inside (a + i)) (a + l) (piece l p r)
 
-        pub open-bounds : Bounds depths a (length r) k m → Bounds (depths - 1) (a + l) (length (piece l p r)) n (w + 5)
-        open-bounds b =
+        pub open-bounds : Tabled ns → Bounds depths a (length r) k m → Bounds (depths - 1) (a + l) (length (piece l p r)) n (w + 5)
+        open-bounds tabled b =
             let q : Opens t′ g′ i l p n (w + 5) = tag-open op z in
-            let v : (n ≤ k + 8 * length r) × (w + 5 ≤ m + 5 * length r) = passed-room _ (q .passed) in
+            let v : (n ≤ k + 8 * length r) × (w + 5 ≤ m + 5 * length r) = passed-room tabled _ (q .passed) in
             let y : length (piece l p r) ≡ p - l = length-piece l p r (q .inside) in
             record {
               depth = omega (arith, b .depth);
@@ -477,7 +499,7 @@ module _ (o : Order) (scope : Scope) (level depths : ℕ) (own : paper.Owner) (a
               row = omega (arith, b .row, b .place, v .1, q .deep, b .depth);
             }
 
-        module _ {t″ g″ : List ℕ} (y : Walked) (done : listed t″ g″ y ≡ walkOver t′ n g′ (w + 5) (walkList o (classBy scope level) (depths - 1) (paper.inside (a + i)) (a + l) (piece l p r))) where
+        module _ {t″ g″ : List ℕ} (y : Walked) (done : listed t″ g″ y ≡ walkOver t′ n g′ (w + 5) (walkList o (classesIn ns) (depths - 1) (paper.inside (a + i)) (a + l) (piece l p r))) where
           read-inner : listed t″ g″ y ≡ walkOver t′ n g′ (w + 5) R′
           read-inner = rw (pred-is depths) done
 

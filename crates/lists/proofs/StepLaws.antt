@@ -2,18 +2,16 @@
 use Prim.Native.Nat.{ℕ, _+_, _-_, _*_, _/_, _≤_}
 use mathlib.Core.List.{List, [], _∷_}
 use mathlib.Core.Path.{_≡_, ap, ap₂, sym, subst, _∙_}
-use mathlib.Core.Bool.{Bool}
 use native.Mathlib.Omega.{arith}
 use lib.ListN.{length, take, drop, length-drop}
 use lib.Seq.{sets, drop-drop, length-take-le}
 use lib.Dec.{eqb}
 use borrow.Author.Tests.{eq-eqb, ne-eqb}
 use Rattle.bits.specs.declared.BytePlace.{BytePlace}
-use Rattle.format.specs.Tests.{pick}
 use Rattle.format.specs.Bits.{Order}
 use Rattle.format.specs.Reading.{At, Fault}
 use Rattle.format.specs.FileAndTags as paper
-use Rattle.format.specs.FileAndTags.{isRead, longOnShort, stateOf, blame}
+use Rattle.format.specs.FileAndTags.{le16, stateOf, blame}
 use Rattle.table.specs.State.{State, shownOver}
 use Rattle.bodies.specs.Shown.{shownLeaves}
 use Rattle.bodies.specs.declared.Shown.{Shown}
@@ -22,10 +20,9 @@ use Rattle.format.proofs.WalkLaws.{Fits, head-fits}
 use Rattle.classes.specs.Classes.{bare}
 use Rattle.classes.specs.declared.Class.{Class}
 use Rattle.headers.specs.Heads.{asHead, headBy}
-use Rattle.headers.specs.declared.Head.{Head}
 use Rattle.headers.specs.declared.Head.the-variants as heads
 use Rattle.headers.specs.declared.Header.{Header}
-use Rattle.lists.specs.Lists.{ownerOf, byteAt, tagShown, stepBy, stepOf, stepped, tagAt, lastOf}
+use Rattle.lists.specs.Lists.{ownerOf, byteAt, classIn, tagShown, stepBy, stepOf, Stepped, stepped, tagAt, tagIn, lastOf}
 use Rattle.tags.specs.Shown.{valuesOf, headed}
 use Rattle.tags.proofs.TagLaws.{values-le}
 use Rattle.lists.specs.declared.Owner.{Owner}
@@ -48,24 +45,24 @@ values-fit o class code s body t k {u} {R} {p} {j} e is =
     let f : At (8 * p .0) ≡ valuesOf o class code body .ended = ap (λ (z : Shown). shownLeaves u z .ended) (sym is) ∙ ap (λ (s : State). s .ended) e in
     omega (arith, values-le o class code body (8 * p .0) (sym f))
 
--- the tag at i of the list r at place a; H is its header, by its class
-module _ (o : Order) (class : Class) (depths a : ℕ) (r : List ℕ) (i : ℕ) (t : List ℕ) (k : ℕ) (g : List ℕ) (m : ℕ) (H : paper.Head) {h : Head} (at : asHead h ≡ H) where
-  -- the header is refused
-  pub tag-none : {e : ℕ} → h ≡ heads.Fault e → stepped t g (step.Fault e) ≡ tagAt o class depths a r i t k g m H
-  tag-none {e} is = ap (tagAt o class depths a r i t k g m) (sym (ap asHead is) ∙ at)
+-- the tag at i of the list r at place a
+module _ (o : Order) (class : Class) (depths a : ℕ) (r : List ℕ) (i : ℕ) (t : List ℕ) (k : ℕ) (g : List ℕ) (m : ℕ) where
+  -- its header, by its class, is refused
+  pub tag-none : {e : ℕ} → headBy class depths (drop i r) ≡ paper.noHead e → stepped t g (step.Fault e) ≡ tagAt o class depths a r i t k g m (headBy class depths (drop i r))
+  tag-none is = ap (tagAt o class depths a r i t k g m) (sym is)
 
   -- it stands in the room with its body
-  pub tag-stands : {head : Header} → H ≡ headBy class depths (drop i r) → h ≡ heads.Tag head → (i ≤ length r) → i + head .size + head .length ≤ length r
-  tag-stands {head} e is l =
+  pub tag-stands : {head : Header} → headBy class depths (drop i r) ≡ asHead (heads.Tag head) → i ≤ length r → i + head .size + head .length ≤ length r
+  tag-stands {head} e l =
       let u : Fits (λ code. bare class) depths (drop i r) (asHead (heads.Tag head)) =
-      subst (Fits (λ code. bare class) depths (drop i r)) (sym e ∙ sym at ∙ ap asHead is) (head-fits (λ code. bare class) depths (drop i r)) in
+      subst (Fits (λ code. bare class) depths (drop i r)) e (head-fits (λ code. bare class) depths (drop i r)) in
       omega (arith, u .1, length-drop i r)
 
   -- it passes, and the row and the numbers are stored
-  module _ {head : Header} {start stop : ℕ} {body g′ t′ : List ℕ} (R : Shown) (is : h ≡ heads.Tag head) (begin : start ≡ i + head .size) (end : stop ≡ start + head .length)
+  module _ (head : Header) {start stop : ℕ} {body g′ t′ : List ℕ} (R : Shown) (begin : start ≡ i + head .size) (end : stop ≡ start + head .length)
       (part : body ≡ take (stop - start) (drop start r)) (row : g′ ≡ sets g m ((8 - depths) ∷ head .code ∷ (a + i) ∷ head .size ∷ head .length ∷ []))
-      {early : Bool} {st : ℕ} (gains : early ≡ longOnShort (head .size) (head .length)) (stated : st ≡ isRead (bare class) + pick early 2 0)
-      (ran : shownLeaves t′ R ≡ shownOver t k (headed (head .code) st (valuesOf o class (head .code) body))) where
+      (room : start + head .length ≤ length r)
+      (ran : shownLeaves t′ R ≡ shownOver t k (headed (head .code) (stateOf (bare class) (head .size) (length body)) (valuesOf o class (head .code) body))) where
     abbrev code : ℕ
     code = head .code
 
@@ -80,36 +77,34 @@ module _ (o : Order) (class : Class) (depths a : ℕ) (r : List ℕ) (i : ℕ) (
         let n : stop - start ≡ len = omega arith in
         part ∙ rw (n, begin) (ap (take len) (sym (drop-drop size i r)))
 
-    head-is : paper.head code len size ≡ H
-    head-is = sym (ap asHead is) ∙ at
-
-    state-is : st ≡ stateOf (bare class) size len
-    state-is = stated ∙ ap (λ (z : Bool). isRead (bare class) + pick z 2 0) gains
+    full : length body ≡ len
+    full = ap length part ∙ length-take-le (stop - start) (drop start r) (rw length-drop (omega arith)) ∙ omega arith
 
     ran-is : shownLeaves t′ R ≡ shownOver t k (tagShown o class code len size (take len (drop size (drop i r))))
-    ran-is = ran ∙ ap₂ (λ (s : ℕ) (b : List ℕ). shownOver t k (headed code s (valuesOf o class code b))) state-is body-is
+    ran-is = ran ∙ ap₂ (λ (n : ℕ) (b : List ℕ). shownOver t k (headed code (stateOf (bare class) size n) (valuesOf o class code b))) full body-is
 
-    tag-done : {x : Step} → x ≡ stepOf class start stop (shownLeaves t′ R .count) (shownLeaves t′ R .ended) → stepped t′ g′ x ≡ tagAt o class depths a r i t k g m H
+    tag-done : {x : Step} → x ≡ stepOf class start stop (shownLeaves t′ R .count) (shownLeaves t′ R .ended) → stepped t′ g′ x ≡ tagAt o class depths a r i t k g m (paper.head code len size)
     unfolding shownOver
     tag-done {x} e =
         let b : start + len ≡ i + size + len = omega arith in
         stepped-eq (ap (λ (s : State). s .table) ran-is) row (e ∙ ap (λ (s : State). stepOf class start stop (s .count) (s .ended)) ran-is ∙ rw (end, b, begin))
-        ∙ ap (tagAt o class depths a r i t k g m) head-is
 
-    pub tag-stop : {e j : ℕ} → R ≡ Stop e j → stepped t′ g′ (step.Fault e) ≡ tagAt o class depths a r i t k g m H
+    pub tag-stop : {e j : ℕ} → R ≡ Stop e j → stepped t′ g′ (step.Fault e) ≡ tagAt o class depths a r i t k g m (paper.head code len size)
     tag-stop e = tag-done (ap (λ (q : Shown). stepOf class start stop (shownLeaves t′ q .count) (shownLeaves t′ q .ended)) (sym e))
 
-    pub tag-shown : {p : BytePlace} {j : ℕ} {x : Step} → R ≡ Done p j → x ≡ stepBy class (byteAt (start + p .0)) (byteAt stop) j → stepped t′ g′ x ≡ tagAt o class depths a r i t k g m H
+    pub tag-shown : {p : BytePlace} {j : ℕ} {x : Step} → R ≡ Done p j → x ≡ stepBy class (byteAt (start + p .0)) (byteAt stop) j → stepped t′ g′ x ≡ tagAt o class depths a r i t k g m (paper.head code len size)
     tag-shown {p} {j} e f =
         let n : 8 * p .0 / 8 ≡ p .0 = omega arith in
         tag-done (f ∙ ap (λ (n : ℕ). stepBy class (byteAt (start + n)) (byteAt stop) j) (sym n) ∙ ap (λ (q : Shown). stepOf class start stop (shownLeaves t′ q .count) (shownLeaves t′ q .ended)) (sym e))
 
     -- its values end in the room
-    pub list-fits : {p : BytePlace} {j : ℕ} → H ≡ headBy class depths (drop i r) → i ≤ length r → R ≡ Done p j → start + p .0 ≤ length r
-    list-fits e l f =
-        let u : i + size + len ≤ length r = tag-stands e is l in
-        let n : length body ≡ stop - start = ap length part ∙ length-take-le (stop - start) (drop start r) (rw length-drop (omega arith)) in
-        omega (arith, values-fit o class code st body t k ran f)
+    pub list-fits : {p : BytePlace} {j : ℕ} → R ≡ Done p j → start + p .0 ≤ length r
+    list-fits f = omega (arith, values-fit o class code (stateOf (bare class) size (length body)) body t k ran f, full)
+
+-- the class was looked up
+pub tag-in : (o : Order) (ns : List ℕ) (depths a : ℕ) (r : List ℕ) (i : ℕ) (t : List ℕ) (k : ℕ) (g : List ℕ) (m : ℕ) {class : Class} {code : ℕ} {x : Stepped} → class ≡ classIn ns code → code ≡ le16 (drop i r) / 64
+    → x ≡ tagAt o class depths a r i t k g m (headBy class depths (drop i r)) → x ≡ tagIn o ns depths a r i t k g m
+tag-in o ns depths a r i t k g m e f h = h ∙ ap (λ (c : Class). tagAt o c depths a r i t k g m (headBy c depths (drop i r))) (e ∙ ap (classIn ns) f)
 
 -- after End
 pub last-whole : (own : Owner) (a stop room k m : ℕ) → stop ≡ room → walked.Next k m ≡ lastOf own a stop room k m

@@ -1,7 +1,7 @@
 -- What reading a tag list leaves: the lent table, the lent tag table, and the answer.
-use Prim.Native.Nat.{ℕ, _+_, _-_, _*_, _≤_}
+use Prim.Native.Nat.{ℕ, _+_, _-_, _*_, _/_, _≤_}
 use mathlib.Core.List.{List, [], _∷_}
-use lib.ListN.{length, take, drop}
+use lib.ListN.{length, getD, take, drop}
 use lib.Seq.{sets}
 use lib.Dec.{eqb}
 use Rattle.format.specs.Bits.{Order}
@@ -10,11 +10,15 @@ use Rattle.format.specs.Reading.{Ending, At, Reading}
 use Rattle.format.specs.Reading as reading
 use Rattle.format.specs.Items.{toByte}
 use Rattle.format.specs.FileAndTags as paper
-use Rattle.format.specs.FileAndTags.{stateOf, Outcome, whole, fault, Walk, blame}
+use Rattle.format.specs.FileAndTags.{le16, stateOf, Outcome, whole, fault, Walk, blame}
 use Rattle.format.specs.TableOfNumbers.{numbers, tagTable}
-use Rattle.classes.specs.Classes.{bare}
+use Rattle.fixed.specs.Fixed.{fixedOf}
+use Rattle.bodies.specs.Leaf.{leafBody}
+use Rattle.classes.specs.Classes.{bare, numbered, Classed}
+use Rattle.classes.specs.declared.Scope.{Scope}
 use Rattle.classes.specs.declared.Class.{Class}
 use Rattle.classes.specs.declared.Class.the-variants.{Opaque, End, Container, Fixed, Attributes}
+use Rattle.headers.specs.Heads.{headBy}
 use Rattle.bits.specs.declared.BytePlace.{BytePlace}
 use Rattle.tags.specs.Shown.{valuesOf, headed}
 use Rattle.lists.specs.declared.Owner.{Owner}
@@ -31,6 +35,28 @@ ownerOf (Container c) = paper.inside (c .0)
 -- the byte place n
 abbrev pub byteAt : ℕ → BytePlace
 byteAt n = record { 0 = n }
+
+-- ---- the classes that a walk goes by, lent as numbers
+
+-- the class of this name that a code has
+abbrev pub classWith : Class → ℕ → paper.Class
+classWith Opaque code = paper.opaque
+classWith End code = paper.end
+classWith Container code = paper.container (fixedOf code)
+classWith Fixed code = paper.known (leafBody code)
+classWith Attributes code = paper.known (leafBody code)
+
+abbrev pub classIn : List ℕ → ℕ → Class
+classIn ns code = numbered (getD ns code 0)
+
+abbrev pub classesIn : List ℕ → ℕ → paper.Class
+classesIn ns code = classWith (classIn ns code) code
+
+-- they are those of a level
+pub record Tabled (ns : List ℕ) : Type 0 where
+  pub scope : Scope
+  pub level : ℕ
+  pub classed : Classed scope level ns
 
 -- ---- one tag
 
@@ -65,6 +91,11 @@ tagAt o class depths a r i t k g m (paper.noHead e) = stepped t g (step.Fault e)
 tagAt o class depths a r i t k g m (paper.head code len size) =
     stepped (sets t k (tagShown o class code len size (take len (drop size (drop i r))) .shown)) (sets g m ((8 - depths) ∷ code ∷ (a + i) ∷ size ∷ len ∷ []))
     (stepOf class (i + size) (i + size + len) (k + length (tagShown o class code len size (take len (drop size (drop i r))) .shown)) (tagShown o class code len size (take len (drop size (drop i r))) .ended))
+
+-- by its header, and the class that its code has among these
+abbrev pub tagIn : Order → List ℕ → ℕ → ℕ → List ℕ → ℕ → List ℕ → ℕ → List ℕ → ℕ → Stepped
+tagIn o ns depths a r i t k g m =
+    tagAt o (classIn ns (le16 (drop i r) / 64)) depths a r i t k g m (headBy (classIn ns (le16 (drop i r) / 64)) depths (drop i r))
 
 -- after End, which ends at `stop` of the room
 abbrev pub lastOf : Owner → ℕ → ℕ → ℕ → ℕ → ℕ → Walked

@@ -1,18 +1,16 @@
 // Tag lists: the tags of a list one after the other, each container's own list by a call to the same function.
 ghost use mathlib.Core.Path.{_≡_};
 ghost use Prim.Native.Nat.{_+_, _<_, _≤_, _^_};
-ghost use lib.ListN.{length, drop};
-ghost use Rattle.format.specs.FileAndTags.{blame as blameOf, walkList};
-ghost use Rattle.classes.specs.Classes.{classBy};
-ghost use Rattle.headers.specs.Heads.{headBy};
-ghost use Rattle.lists.specs.Lists.{ownerOf, listed, walkOver, stepBy, stepped, tagAt, lastOf, Bounds};
+ghost use lib.ListN.{length};
+ghost use Rattle.format.specs.FileAndTags.{blame as blameOf, head, walkList};
+ghost use Rattle.lists.specs.Lists.{ownerOf, listed, walkOver, stepBy, stepped, tagAt, tagIn, lastOf, classesIn, Tabled, Bounds};
 ghost use Rattle.bits.specs.Places.{orderOf};
 use bits::BytePlace;
 use bits::Order;
 use bodies::Shown;
 use classes::Class;
-use classes::Scope;
 use headers::Head;
+use headers::Header;
 
 // Whose list it is: the file's own, or that of the container at this place in the file.
 pub enum Owner {
@@ -89,10 +87,43 @@ fn next_step(class: Class, list: BytePlace, stop: BytePlace, behind: usize) -> S
     }
 }
 
-// The tag at a place of the room, in the list at place `at`; `class` is that of its code. Its header, its row, and its own numbers.
-fn read_tag(
+// The tag of this class and header at a place of the room, in the list at place `at`: its row, and its own numbers.
+fn show_tag(
     order: Order,
     class: Class,
+    depths: u32,
+    at: BytePlace,
+    room: &[u8],
+    place: BytePlace,
+    header: Header,
+    table: &mut [u64],
+    from: usize,
+    rows: &mut [u32],
+    row: usize,
+) -> Step
+    requires { ⌜ (depths ≤ 8) × (place .0 + header .size + header .length ≤ length (now room)) × (at .0 + length (now room) ≤ 16777216) × (from < 2 ^ 60) × (row < 2 ^ 60) ⌝ }
+    ensures { λ r. ⌜ stepped (now (table .exit)) (now (rows .exit)) r ≡ tagAt (orderOf order) class depths (at .0) (now (room .entry)) (place .0) (now (table .entry)) from (now (rows .entry)) row (head (header .code) (header .length) (header .size)) ⌝ }
+{
+    let code = header.code;
+    let size = header.size;
+    let len = header.length;
+    let start = place.0 + size as usize;
+    let stop = start + len as usize;
+    let tag = at.0 + place.0;
+    tags::show_row(8 - depths, code, BytePlace(tag), size, len, rows, row);
+    match tags::show_tag(order, class, code, size, &room[start..stop], table, from) {
+        Shown::Stop(why, _) => Step::Fault(why),
+        Shown::Done(next, behind) => {
+            let list = start + next.0;
+            next_step(class, BytePlace(list), BytePlace(stop), behind)
+        }
+    }
+}
+
+// The tag at a place of the room, in the list at place `at`: its header, once; the class of its code; and what it shows, if the header passes.
+fn read_tag(
+    classes: &[u8],
+    order: Order,
     depths: u32,
     at: BytePlace,
     room: &[u8],
@@ -102,37 +133,40 @@ fn read_tag(
     rows: &mut [u32],
     row: usize,
 ) -> Step
-    requires { ⌜ (depths ≤ 8) × (place .0 ≤ length (now room)) × (at .0 + length (now room) ≤ 16777216) × (from < 2 ^ 60) × (row < 2 ^ 60) ⌝ }
-    ensures { λ r. ⌜ stepped (now (table .exit)) (now (rows .exit)) r ≡ tagAt (orderOf order) class depths (at .0) (now (room .entry)) (place .0) (now (table .entry)) from (now (rows .entry)) row (headBy class depths (drop (place .0) (now (room .entry)))) ⌝ }
+    requires { ⌜ (length (now classes) ≡ 1024) × (depths ≤ 8) × (place .0 ≤ length (now room)) × (at .0 + length (now room) ≤ 16777216) × (from < 2 ^ 60) × (row < 2 ^ 60) ⌝ }
+    ensures { λ r. ⌜ stepped (now (table .exit)) (now (rows .exit)) r ≡ tagIn (orderOf order) (now (classes .entry)) depths (at .0) (now (room .entry)) (place .0) (now (table .entry)) from (now (rows .entry)) row ⌝ }
 {
-    match headers::read_head(class, depths, room, place) {
+    match headers::raw_head(room, place) {
         Head::Fault(why) => Step::Fault(why),
         Head::Tag(header) => {
-            let code = header.code;
-            let size = header.size;
-            let len = header.length;
-            let start = place.0 + size as usize;
-            let stop = start + len as usize;
-            let tag = at.0 + place.0;
-            tags::show_row(8 - depths, code, BytePlace(tag), size, len, rows, row);
-            let state = tags::state(class, tags::long_on_short(size, len));
-            match tags::show_tag(order, class, code, state, &room[start..stop], table, from) {
-                Shown::Stop(why, _) => Step::Fault(why),
-                Shown::Done(next, behind) => {
-                    let list = start + next.0;
-                    next_step(class, BytePlace(list), BytePlace(stop), behind)
-                }
+            let code = header.code as usize;
+            let class = classes::class_numbered(classes[code]);
+            let start = place.0 + header.size as usize;
+            let why = headers::head_fault(class, depths, room.len() - start, header.length);
+            if why != 0 {
+                return Step::Fault(why);
             }
+            show_tag(
+                order,
+                class,
+                depths,
+                at,
+                room,
+                place,
+                header,
+                table,
+                from,
+                rows,
+                row,
+            )
         }
     }
 }
 
 // The list at place `at` of the file, with its room; `depths` may lie below it. Its numbers go to the table from index `from` on, its rows to the
-// tag table from index `row` on, where there is room. Where only lists are read, a body that has no list in it is taken as it stands: nothing in
-// it is judged.
+// tag table from index `row` on, where there is room. The classes of the 1,024 codes are lent as numbers: they were made once, for all lists.
 pub fn read_list(
-    scope: Scope,
-    level: u32,
+    classes: &[u8],
     order: Order,
     depths: u32,
     owner: Owner,
@@ -143,10 +177,9 @@ pub fn read_list(
     rows: &mut [u32],
     row: usize,
 ) -> Walked
-    requires { ⌜ Bounds depths (at .0) (length (now room)) from row ⌝ }
-    ensures { λ r. ⌜ listed (now (table .exit)) (now (rows .exit)) r ≡ walkOver (now (table .entry)) from (now (rows .entry)) row (walkList (orderOf order) (classBy scope level) depths (ownerOf owner) (at .0) (now (room .entry))) ⌝ }
+    requires { ⌜ Tabled (now classes) × Bounds depths (at .0) (length (now room)) from row ⌝ }
+    ensures { λ r. ⌜ listed (now (table .exit)) (now (rows .exit)) r ≡ walkOver (now (table .entry)) from (now (rows .entry)) row (walkList (orderOf order) (classesIn (now (classes .entry))) depths (ownerOf owner) (at .0) (now (room .entry))) ⌝ }
 {
-    let classes = classes::all();
     let mut place = BytePlace(0);
     let mut index = from;
     let mut line = row;
@@ -154,12 +187,9 @@ pub fn read_list(
         let tag = at.0 + place.0;
         let mine = line;
         line += 5;
-        let code = headers::code_at(room, place);
-        let listed = classes[(code / 32) as usize][(code % 32) as usize];
-        let class = classes::taken_as(scope, classes::at_level(level, code, listed));
         match read_tag(
+            classes,
             order,
-            class,
             depths,
             at,
             room,
@@ -185,8 +215,7 @@ pub fn read_list(
                 let part = &room[first..stop];
                 let next = opened.behind;
                 let x = read_list(
-                    scope,
-                    level,
+                    classes,
                     order,
                     less,
                     own,

@@ -10,6 +10,7 @@ use lib.Dec.{leb, eqb}
 use borrow.Author.Tests.{lt-ltb, le-ltb, lt-leb, le-leb, eq-eqb, ne-eqb}
 use Rattle.format.specs.Tests.{pick, _and_}
 use Rattle.format.specs.Bits.{Order, orderNamed}
+use Rattle.format.specs.FileAndTags as paper
 use Rattle.format.specs.FileAndTags.{le32, versionRight, lengthRight, classOf, Outcome, whole, fault, Walk, file, walkList}
 use Rattle.format.specs.TableOfNumbers.{numbers, table, tagTable}
 use Rattle.format.specs.Reasons.{startFault, walkFile, gives, refuses, result, readFile, readTags, into}
@@ -17,14 +18,14 @@ use Rattle.format.proofs.StartLaws.{good-start, whole-start}
 use Rattle.format.proofs.Absurd.{clash}
 use Rattle.answers.specs.Answers.{leaves}
 use Rattle.answers.specs.declared.Answer.the-variants.{Accepted, Refused}
-use Rattle.classes.specs.Classes.{classBy}
+use Rattle.classes.specs.Classes.{classBy, Classed}
 use Rattle.classes.specs.declared.Scope.{Scope}
 use Rattle.classes.specs.declared.Scope.the-variants.{Lists}
 use Rattle.bits.specs.declared.BytePlace.{BytePlace}
-use Rattle.lists.specs.Lists.{byteAt, Listed, listed, walkedOf, walkOver, Bounds}
+use Rattle.lists.specs.Lists.{byteAt, classesIn, Listed, listed, walkedOf, walkOver, Bounds}
 use Rattle.lists.specs.declared.Walked.{Walked}
 use Rattle.lists.specs.declared.Walked.the-variants.{Next, Fault}
-use Rattle.lists.proofs.ListLaws.{piece, piece-rest, length-piece}
+use Rattle.lists.proofs.ListLaws.{piece, piece-rest, length-piece, class-level}
 use Rattle.reader.specs.Survey.{surveyed}
 use Rattle.reader.proofs.SkimLaws.{skim-rows}
 
@@ -96,8 +97,9 @@ module _ (order level : ℕ) (f : List ℕ) where
   pub tags-bounds : 9 ≤ length f → length f ≤ 16777216 → Bounds 8 9 (length (piece 9 (length f) f)) 1 0
   tags-bounds l h = record { depth = omega arith; place = omega (arith, length-piece 9 (length f) f (omega arith)); index = omega arith; row = omega arith }
 
-  pub tags-read : (o : Order) (scope : Scope) (t g : List ℕ) {x : Listed} → x ≡ walkOver t 1 g 0 (walkList o (classBy scope level) 8 file 9 (piece 9 (length f) f)) → x ≡ walkOver t 1 g 0 (walkList o (classBy scope level) 8 file 9 (drop 9 f))
-  tags-read o scope t g e = e ∙ ap (λ (r : List ℕ). walkOver t 1 g 0 (walkList o (classBy scope level) 8 file 9 r)) (piece-rest 9 f)
+  -- by the classes that were lent
+  pub tags-read : (o : Order) (scope : Scope) (t g : List ℕ) (ns : List ℕ) → Classed scope level ns → {x : Listed} → x ≡ walkOver t 1 g 0 (walkList o (classesIn ns) 8 file 9 (piece 9 (length f) f)) → x ≡ walkOver t 1 g 0 (walkList o (classBy scope level) 8 file 9 (drop 9 f))
+  tags-read o scope t g ns k e = e ∙ ap (λ (class : ℕ → paper.Class). walkOver t 1 g 0 (walkList o class 8 file 9 (piece 9 (length f) f))) (λ i. λ code. class-level ns scope level k code i) ∙ ap (λ (r : List ℕ). walkOver t 1 g 0 (walkList o (classBy scope level) 8 file 9 r)) (piece-rest 9 f)
 
   pub survey-walk : (o : Order) (t g : List ℕ) {t′ g′ : List ℕ} {x : Walked} → o ≡ orderNamed order → startFault order level f ≡ 0 → listed t′ g′ x ≡ walkOver t 1 g 0 (walkList o (classOf level) 8 file 9 (drop 9 f)) → x ≡ surveyed (walkFile order level f)
   survey-walk o t g q z e = ap (λ (l : Listed). l .answer) e ∙ rw (zero-add, q, walk-is z)

@@ -51,7 +51,8 @@ pub fn start_fault(level: u32, order: u32, file: &[u8]) -> u32
     0
 }
 
-// The tags at depth 0, which follow the header's nine bytes; eight depths may lie below them. The compression byte stands before their numbers.
+// The tags at depth 0, which follow the header's nine bytes; eight depths may lie below them. The compression byte stands before their numbers. The
+// classes of the codes are made here, once, and lent to every list.
 fn read_tags(
     scope: Scope,
     level: u32,
@@ -63,21 +64,11 @@ fn read_tags(
     requires { ⌜ (9 ≤ length (now file)) × (length (now file) ≤ 16777216) ⌝ }
     ensures { λ x. ⌜ listed (now (table .exit)) (now (rows .exit)) x ≡ walkOver (now (table .entry)) 1 (now (rows .entry)) 0 (walkList (orderOf order) (classBy scope level) 8 ownFile 9 (drop 9 (now (file .entry)))) ⌝ }
 {
+    let mut classes = [0u8; 1024];
+    classes::number_first(scope, level, &mut classes);
     let at = BytePlace(9);
     let room = &file[9..];
-    lists::read_list(
-        scope,
-        level,
-        order,
-        8,
-        Owner::File,
-        at,
-        room,
-        table,
-        1,
-        rows,
-        0,
-    )
+    lists::read_list(&classes, order, 8, Owner::File, at, room, table, 1, rows, 0)
 }
 
 // The run that counts: nothing is lent to it, so it finds the refusal, or how many numbers there are in the two tables.

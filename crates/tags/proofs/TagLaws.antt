@@ -11,25 +11,19 @@ use borrow.Author.Tests.{eqb-true}
 use Rattle.format.specs.Bits.{Order}
 use Rattle.format.specs.Tests.{pick}
 use Rattle.format.specs.Reading.{Ending, At, Fault, Reading, shows}
-use Rattle.format.specs.Items.{run}
-use Rattle.format.specs.Bodies.{aligned, Body, toEnd, usedUp, readBody}
+use Rattle.format.specs.Items.{readItem, run}
+use Rattle.format.specs.Bodies.{Body, readPart, toEnd, usedUp, readBody}
 use Rattle.format.specs.FileAndTags.{le64, eights, packed, front}
 use Rattle.format.proofs.PackLaws.{length-eights, eights-at}
 use Rattle.format.proofs.WalkLaws.{run-le}
 use Rattle.format.proofs.Absurd.{clash}
 use Rattle.fixed.specs.Fixed.{fixedOf}
-use Rattle.bodies.specs.Leaf.{leafBody}
+use Rattle.bodies.specs.Leaf.{bodyBy, leafBody}
 use Rattle.table.specs.State.{State, shownOver}
-use Rattle.bits.specs.Places.{alignedAt}
-use Rattle.bits.specs.declared.BitPlace.{BitPlace}
-use Rattle.bits.specs.declared.BytePlace.{BytePlace}
-use Rattle.bits.specs.declared.Aligned.the-variants.{Clean}
 use Rattle.bits.proofs.StoreLaws.{sets-out}
-use Rattle.bits.proofs.FieldLaws.{align-clean}
 use Rattle.table.proofs.EngineLaws.{state, state-eq, after-none}
 use Rattle.table.proofs.StoringLaws.{Storing, storing-next, storing-done}
 use Rattle.table.proofs.TextLaws.{set-sets}
-use Rattle.table.proofs.RunLaws.{align-none}
 use Rattle.bodies.specs.Shown.{shownIndex, shownLeaves}
 use Rattle.bodies.specs.declared.Shown.{Shown}
 use Rattle.classes.specs.declared.Class.{Class}
@@ -66,9 +60,10 @@ packed-last b k {u} {t} {i} {m} {x} g n h e =
 pub none-left : (t : List ℕ) (k : ℕ) {q : ℕ} {r : Reading} → r ≡ shows [] q → state t k (At q) ≡ shownOver t k r
 none-left t k {q} e = rw e (sym (after-none t k q))
 
--- ---- the whole byte after a container's own items, where its list starts
-pub list-starts : (o : Order) (body t : List ℕ) (k p : ℕ) {i : BytePlace} {q : BitPlace} → alignedAt o body p ≡ Clean i q → state t k (At (8 * i .0)) ≡ shownOver t k (run o body aligned p)
-list-starts o body t k p e = none-left t k (align-none o body p e ∙ ap (shows []) (align-clean o body p e .1))
+-- ---- a container's own items, up to the whole byte where its list starts
+pub front-is : (o : Order) (body : List ℕ) (code : ℕ) → toEnd o body (bodyBy false code) ≡ run o body (front (fixedOf code)) 0
+unfolding readPart run readItem
+front-is o body code = refl
 
 -- ---- the class that a `match` tells
 pub values-of : (o : Order) (body t : List ℕ) (k code : ℕ) {class : Class} {x : State} (told : Class) → class ≡ told → x ≡ shownOver t k (valuesOf o told code body) → x ≡ shownOver t k (valuesOf o class code body)
@@ -107,10 +102,10 @@ pub gains-none : {gains : Bool} {n m : ℕ} → gains ≡ false → n ≡ m → 
 gains-none e f = rw e (omega arith)
 
 -- ---- three numbers before the values
-pub headed-stored : (t : List ℕ) (k code : ℕ) (s : ℕ) (r : Reading) {u u₁ u₂ u₃ : List ℕ} {n : ℕ} (R : Shown) → shownLeaves u R ≡ shownOver t (k + 3) r
-    → u₁ ≡ set u k code → u₂ ≡ set u₁ (k + 1) s → n ≡ shownIndex R - (k + 3) → u₃ ≡ set u₂ (k + 2) n → shownLeaves u₃ R ≡ shownOver t k (headed code s r)
+pub headed-stored : (t : List ℕ) (k code : ℕ) (s : ℕ) (r : Reading) {u u₁ u₂ u₃ : List ℕ} {n x : ℕ} (R : Shown) → shownLeaves u R ≡ shownOver t (k + 3) r
+    → u₁ ≡ set u k code → x ≡ s → u₂ ≡ set u₁ (k + 1) x → n ≡ shownIndex R - (k + 3) → u₃ ≡ set u₂ (k + 2) n → shownLeaves u₃ R ≡ shownOver t k (headed code s r)
 unfolding shownOver
-headed-stored t k code s r R e a b c d =
+headed-stored t k code s r R e a z b c d =
     let v : List ℕ = r .shown in
     let m : shownIndex R ≡ k + 3 + length v = ap (λ (z : State). z .count) e in
     let n : shownIndex R - (k + 3) ≡ length v = omega arith in
@@ -123,6 +118,7 @@ headed-stored t k code s r R e a b c d =
       c,
       n,
       b,
+      z,
       a,
       i1,
       i2,

@@ -5,23 +5,18 @@ ghost use Prim.Native.Nat.{_+_, _<_, _≤_, _^_};
 ghost use lib.ListN.{length, set};
 ghost use lib.Seq.{sets};
 ghost use Rattle.format.specs.Reading.{shows};
-ghost use Rattle.format.specs.Items.{run};
 ghost use Rattle.format.specs.Tests.{pick};
-ghost use Rattle.format.specs.FileAndTags.{isRead, longOnShort, packed, front};
+ghost use Rattle.format.specs.FileAndTags.{isRead, longOnShort, stateOf, packed};
 ghost use Rattle.table.specs.State.{shownOver};
 ghost use Rattle.classes.specs.Classes.{bare};
-ghost use Rattle.fixed.specs.Fixed.{fixedOf};
 ghost use Rattle.bodies.specs.Shown.{shownIndex, shownLeaves};
 ghost use Rattle.tags.specs.Shown.{valuesOf, headed};
 ghost use Rattle.bits.specs.Places.{orderOf};
-use bits::Aligned;
-use bits::BitPlace;
 use bits::BytePlace;
 use bits::Order;
 use bits::fields;
 use bodies::Shown;
 use classes::Class;
-use table::Run;
 
 // An opaque body, packed: its length, and then eight bytes to a number, by one load where eight are there. Where there is no room, no byte of it is touched.
 fn pack_bytes(body: &[u8], table: &mut [u64], from: usize) -> Shown
@@ -52,21 +47,7 @@ fn pack_bytes(body: &[u8], table: &mut [u64], from: usize) -> Shown
     Shown::Done(BytePlace(0), behind)
 }
 
-// What stands in a container before its list, up to the whole byte where that starts.
-pub fn read_front(order: Order, code: u32, body: &[u8], table: &mut [u64], from: usize) -> Shown
-    requires { ⌜ (length (now body) < 2 ^ 60) × (from < 2 ^ 61) ⌝ }
-    ensures { λ r. ⌜ shownLeaves (now (table .exit)) r ≡ shownOver (now (table .entry)) from (run (orderOf order) (now (body .entry)) (front (fixedOf code)) 0) ⌝ }
-{
-    match fixed::read_fixed(order, code, body, BitPlace(0), table, from) {
-        Run::Stop(why, behind) => Shown::Stop(why, behind),
-        Run::Done(next, behind) => match bits::align(order, body, next) {
-            Aligned::Unclean => Shown::Stop(15, behind),
-            Aligned::Clean(list, _) => Shown::Done(list, behind),
-        },
-    }
-}
-
-// The values of a tag, by its class.
+// The values of a tag, by its class. Those of a container stand before its list, which starts on a whole byte.
 fn read_tag_values(
     order: Order,
     class: Class,
@@ -81,7 +62,7 @@ fn read_tag_values(
     match class {
         Class::Opaque => pack_bytes(body, table, from),
         Class::End => Shown::Done(BytePlace(0), from),
-        Class::Container => read_front(order, code, body, table, from),
+        Class::Container => bodies::read_to_end(order, false, code, body, table, from),
         Class::Fixed => bodies::read_body(order, code, body, table, from),
         Class::Attributes => bodies::read_body(order, code, body, table, from),
     }
@@ -125,25 +106,28 @@ pub fn state(class: Class, gains: bool) -> u64
     if gains { read + 2 } else { read }
 }
 
-// A tag's numbers: its values are stored first, behind its code, its state and their count. The walk that counts has no room for any of them.
+// A tag's numbers, with a header of this size: its values are stored first, behind its code, its state and their count. The walk that counts has no room
+// for any of them.
 pub fn show_tag(
     order: Order,
     class: Class,
     code: u32,
-    state: u64,
+    size: u32,
     body: &[u8],
     table: &mut [u64],
     from: usize,
 ) -> Shown
-    requires { ⌜ (length (now body) < 2 ^ 60) × (from < 2 ^ 60) ⌝ }
-    ensures { λ r. ⌜ shownLeaves (now (table .exit)) r ≡ shownOver (now (table .entry)) from (headed code state (valuesOf (orderOf order) class code (now (body .entry)))) ⌝ }
+    requires { ⌜ (length (now body) < 2 ^ 32) × (from < 2 ^ 60) ⌝ }
+    ensures { λ r. ⌜ shownLeaves (now (table .exit)) r ≡ shownOver (now (table .entry)) from (headed code (stateOf (bare class) size (length (now (body .entry)))) (valuesOf (orderOf order) class code (now (body .entry)))) ⌝ }
 {
     let shown = read_tag_values(order, class, code, body, table, from + 3);
     if table.len() <= from {
         return shown;
     }
+    let gains = long_on_short(size, body.len() as u32);
+    let number = state(class, gains);
     table::put(table, from, code as u64);
-    table::put(table, from + 1, state);
+    table::put(table, from + 1, number);
     table::put(table, from + 2, (index_behind(shown) - (from + 3)) as u64);
     shown
 }

@@ -64,7 +64,7 @@ fn list_in(order: Order, code: u32, body: &[u8]) -> usize
     ensures { λ r. ⌜ r ≡ listIn (orderOf order) code (now (body .entry)) ⌝ }
 {
     let mut none = [0u64; 1];
-    match tags::read_front(order, code, body, &mut none[..0], 0) {
+    match bodies::read_to_end(order, false, code, body, &mut none[..0], 0) {
         Shown::Done(list, _) => list.0,
         Shown::Stop(_, _) => body.len(),
     }

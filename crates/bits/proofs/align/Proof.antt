@@ -4,7 +4,7 @@ use mathlib.Core.Path.{sym, _∙_}
 use Prim.Native.Nat.{_-_, _%_}
 use native.Mathlib.Omega.{arith}
 use Rattle.bits.specs.Places.{orderOf}
-use Rattle.bits.proofs.FieldLaws.{skips-none, ub-rest, below-lt, aligned-clean, aligned-unclean}
+use Rattle.bits.proofs.FieldLaws.{skips-none, ub-in-byte, below-lt, aligned-clean, aligned-unclean}
 use borrow.Author.Needs.{needs}
 use Rattle.bits.proofs.align.Statement.{statement}
 use Rattle.bits.proofs.align.Tie as tie
@@ -34,7 +34,7 @@ returns-2 : tie.Need-returns-2
 returns-2 c =
     let b = now (c .before .before .before .before .before .before .args .bytes) in
     let p = c .before .before .before .before .before .before .args .at .0 in
-    let e = ub-rest (orderOf (c .before .before .before .before .before .before .args .order)) b p (8 - p % 8) (c .before .before .byte-at .ensures) (omega arith) (c .before .before .before .bits-below .ensures) (c .before .cut .ensures .0) in
+    let e = ub-in-byte (orderOf (c .before .before .before .before .before .before .args .order)) b p (8 - p % 8) 0 (c .before .before .byte-at .ensures) (omega arith) (c .before .before .before .bits-below .ensures) (c .before .cut .ensures .0) in
     aligned-unclean (orderOf (c .before .before .before .before .before .before .args .order)) b p (8 - p % 8) (omega (arith, c .before .before .before .before .if1 .left)) (λ z. c .if2 .taken (sym e ∙ z))
 
 next-byte-requires-2 : tie.Need-next-byte-requires-2
@@ -46,7 +46,7 @@ returns-3 c =
     let p = c .before .before .before .before .before .before .before .before .before .args .at .0 in
     let w = c .before .before .next-byte2 .ensures in
     let l = c .before .before .before .before .before .before .before .if1 .left in
-    let e = ub-rest (orderOf (c .before .before .before .before .before .before .before .before .before .args .order)) b p (8 - p % 8) (c .before .before .before .before .before .byte-at .ensures) (omega arith) (c .before .before .before .before .before .before .bits-below .ensures) (c .before .before .before .before .cut .ensures .0) in
+    let e = ub-in-byte (orderOf (c .before .before .before .before .before .before .before .before .before .args .order)) b p (8 - p % 8) 0 (c .before .before .before .before .before .byte-at .ensures) (omega arith) (c .before .before .before .before .before .before .bits-below .ensures) (c .before .before .before .before .cut .ensures .0) in
     aligned-clean (orderOf (c .before .before .before .before .before .before .before .before .before .args .order)) b p (8 - p % 8) (omega (arith, l)) (e ∙ c .before .before .before .if2 .left) (omega (arith, w .0, l)) (w .1)
 
 pub align-spec : {M : Type 1} → statement M

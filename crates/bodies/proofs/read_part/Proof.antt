@@ -1,5 +1,5 @@
+-- `bodies::read_part` meets its contract: it is told which of the two bodies it reads.
 use denote.Ref.{now}
-use mathlib.Core.Path.{sym, _∙_}
 use native.Mathlib.Omega.{arith}
 use Rattle.bits.specs.Places.{orderOf}
 use Rattle.attributes.proofs.FlagLaws.{rows-are}
@@ -7,27 +7,18 @@ use Rattle.bodies.proofs.BodyLaws.{part-block, part-fixed}
 use borrow.Author.Needs.{needs}
 use Rattle.bodies.proofs.read_part.Statement.{statement}
 use Rattle.bodies.proofs.read_part.Tie as tie
-use Rattle.bodies.proofs.read_part.Reads as reads
-use Rattle.bodies.proofs.read_part.Lts as lts
-use Rattle.attributes.proofs.rows_of.Reads as rows-of-reads
-use Rattle.bodies.proofs.blocks.read_block.Reads as read-block-reads
-use Rattle.bodies.proofs.is_block.Reads as is-block-reads
-use Rattle.fixed.proofs.read_fixed.Reads as read-fixed-reads
-
-is-block-requires : tie.Need-is-block-requires
-is-block-requires c κs = search needs
 
 rows-of-requires : tie.Need-rows-of-requires
 rows-of-requires c κs = search needs
 
 read-block-requires : tie.Need-read-block-requires
-read-block-requires c κs = let a = c .before .before .before .before .before .before .args in (rows-are (a .code) (c .before .rows-of .result) (c .before .rows-of .ensures) .0, ((omega arith, c .before .before .before .before .before .before .pre .0), omega (arith, c .before .before .before .before .before .before .pre .1)))
+read-block-requires c κs = let a = c .before .before .before .before .before .args in (rows-are (a .code) (c .before .rows-of .result) (c .before .rows-of .ensures) .0, ((omega arith, c .before .before .before .before .before .pre .0), omega (arith, c .before .before .before .before .before .pre .1)))
 
 same-length : tie.Need-same-length
 same-length c = search needs
 
 returns : tie.Need-returns
-returns c = let a = c .before .before .before .before .before .before .before .before .before .args in part-block (orderOf (a .order)) (now (a .body)) (now (a .table)) (a .from) (a .code) (sym (c .before .before .before .before .before .before .is-block .ensures) ∙ c .before .before .before .before .before .if1 .taken) (rows-are (a .code) (c .before .before .before .before .rows-of .result) (c .before .before .before .before .rows-of .ensures) .1) (c .before .before .read-block .ensures)
+returns c = let a = c .before .before .before .before .before .before .before .before .args in part-block (orderOf (a .order)) (now (a .body)) (now (a .table)) (a .from) (a .code) (c .before .before .before .before .before .if1 .taken) (rows-are (a .code) (c .before .before .before .before .rows-of .result) (c .before .before .before .before .rows-of .ensures) .1) (c .before .before .read-block .ensures)
 
 read-fixed-requires : tie.Need-read-fixed-requires
 read-fixed-requires c κs = search needs
@@ -36,13 +27,12 @@ same-length-2 : tie.Need-same-length-2
 same-length-2 c = search needs
 
 returns-2 : tie.Need-returns-2
-returns-2 c = let a = c .before .before .before .before .before .before .before .before .args in part-fixed (orderOf (a .order)) (now (a .body)) (now (a .table)) (a .from) (a .code) (sym (c .before .before .before .before .before .is-block .ensures) ∙ c .before .before .before .before .if1 .left) (c .before .before .read-fixed .ensures)
+returns-2 c = let a = c .before .before .before .before .before .before .before .args in part-fixed (orderOf (a .order)) (now (a .body)) (now (a .table)) (a .from) (a .code) (c .before .before .before .before .if1 .left) (c .before .before .read-fixed .ensures)
 
 pub read-part-spec : {M : Type 1} → statement M
 read-part-spec =
     tie.close
     (tie.spec
-    is-block-requires
     rows-of-requires
     read-block-requires
     same-length

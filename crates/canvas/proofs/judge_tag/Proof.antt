@@ -1,120 +1,95 @@
+use Prim.Native.Nat.{_/_}
 use denote.Ref.{now}
-use mathlib.Core.Path.{refl}
+use mathlib.Core.Path.{refl, sym, ap, _∙_}
 use native.Mathlib.Omega.{arith}
 use lib.ListN.{drop}
+use Rattle.format.specs.FileAndTags.{le16}
 use Rattle.bits.specs.Places.{orderOf}
-use Rattle.headers.specs.Heads.{headBy}
-use Rattle.canvas.proofs.JudgeLaws.{judged-none, judged-stands, judged-faulty, judged-good, judged-fits}
+use Rattle.headers.proofs.HeadLaws.{coded-fits, stands-at, head-none, head-passes, head-fails}
+use Rattle.lists.specs.Lists.{classIn}
+use Rattle.canvas.specs.Looking.{judgedAt}
+use Rattle.canvas.proofs.JudgeLaws.{judged-none, judged-stands, judged-in}
 use borrow.Author.Needs.{needs}
 use Rattle.canvas.proofs.judge_tag.Statement.{statement}
 use Rattle.canvas.proofs.judge_tag.Tie as tie
 use Rattle.canvas.proofs.judge_tag.Reads as reads
 use Rattle.canvas.proofs.judge_tag.Lts as lts
-use Rattle.canvas.proofs.by_class.Reads as by-class-reads
-use Rattle.headers.proofs.read_head.Reads as read-head-reads
-use Rattle.tags.proofs.show_tag.Reads as show-tag-reads
+use Rattle.canvas.proofs.judge_body.Reads as judge-body-reads
+use Rattle.classes.proofs.class_numbered.Reads as class-numbered-reads
+use Rattle.headers.proofs.head_fault.Reads as head-fault-reads
+use Rattle.headers.proofs.raw_head.Reads as raw-head-reads
 
--- src/lib.rt:103:11
-read-head-requires : tie.Need-read-head-requires
-read-head-requires c κs = search needs
+-- src/lib.rt:145:11
+raw-head-requires : tie.Need-raw-head-requires
+raw-head-requires c κs = search needs
 
--- src/lib.rt:104:21
+-- src/lib.rt:146:21
 enum-known-why : tie.Need-enum-known-why
 enum-known-why c = search needs
 
--- src/lib.rt:105:19
+-- src/lib.rt:147:19
 enum-known-header : tie.Need-enum-known-header
 enum-known-header c = search needs
 
--- src/lib.rt:107:35
+-- src/lib.rt:148:24
+cast-code : tie.Need-cast-code
+cast-code c = search needs
+
+-- src/lib.rt:149:49
+shared-slice-read-class-numbered : tie.Need-shared-slice-read-class-numbered
+shared-slice-read-class-numbered c = omega (arith, coded-fits (c .before .before .before .before .before .raw-head .ensures .1) (c .before .before .before .header .given .1), c .before .before .before .before .before .before .before .before .pre .0)
+
+-- src/lib.rt:149:17
+class-numbered-requires : tie.Need-class-numbered-requires
+class-numbered-requires c κs = search needs
+
+-- src/lib.rt:150:35
 cast-start : tie.Need-cast-start
 cast-start c = search needs
 
--- src/lib.rt:107:25
+-- src/lib.rt:150:25
 add-start : tie.Need-add-start
-add-start c = search needs
+add-start c = let a = c .before .before .before .before .before .before .before .before .before .before .before .args in omega (arith, (stands-at (now (a .room)) (a .place .0) (c .before .before .before .before .before .before .before .before .raw-head .ensures .0) (c .before .before .before .before .before .before .header .given .1)) .inside, c .before .before .before .before .before .before .before .before .before .before .before .pre .1, c .before .before .before .before .before .before .before .before .before .before .before .pre .2)
 
--- src/lib.rt:108:32
-cast-stop : tie.Need-cast-stop
-cast-stop c = search needs
+-- src/lib.rt:151:58
+sub-head-fault : tie.Need-sub-head-fault
+sub-head-fault c = let a = c .before .before .before .before .before .before .before .before .before .before .before .args in omega (arith, (stands-at (now (a .room)) (a .place .0) (c .before .before .before .before .before .before .before .before .raw-head .ensures .0) (c .before .before .before .before .before .before .header .given .1)) .inside, c .before .before .before .before .before .before .before .before .before .before .before .pre .1)
 
--- src/lib.rt:108:24
-add-stop : tie.Need-add-stop
-add-stop c = search needs
+-- src/lib.rt:151:17
+head-fault-requires : tie.Need-head-fault-requires
+head-fault-requires c κs = search needs
 
--- src/lib.rt:110:57
-sub-show-tag : tie.Need-sub-show-tag
-sub-show-tag c = search needs
-
--- src/lib.rt:110:57
-part-show-tag-start : tie.Need-part-show-tag-start
-part-show-tag-start c = search needs
-
--- src/lib.rt:110:57
-part-show-tag-end : tie.Need-part-show-tag-end
-part-show-tag-end c = let a = c .before .before .before .before .before .before .before .before .args in judged-stands (orderOf (a .order)) (a .class) (a .depths) (now (a .room)) (a .place .0) (headBy (a .class) (a .depths) (drop (a .place .0) (now (a .room)))) (c .before .before .before .before .before .before .read-head .ensures) refl (c .before .before .before .before .header .given .1) (c .before .before .before .before .before .before .before .before .pre .0)
-
--- src/lib.rt:110:77
-array-borrow-prefix-none : tie.Need-array-borrow-prefix-none
-array-borrow-prefix-none c = search needs
-
--- src/lib.rt:110:77
-slice-aggregate-show-tag : tie.Need-slice-aggregate-show-tag
-slice-aggregate-show-tag c = search needs
-
--- src/lib.rt:110:19
-show-tag-requires : tie.Need-show-tag-requires
-show-tag-requires c κs = search needs
-
--- src/lib.rt:111:29
-enum-known-why-2 : tie.Need-enum-known-why-2
-enum-known-why-2 c = search needs
-
--- src/lib.rt:112:29
-enum-known-next : tie.Need-enum-known-next
-enum-known-next c = search needs
-
--- src/lib.rt:113:32
-add-list : tie.Need-add-list
-add-list c = let a = c .before .before .before .before .before .before .before .before .before .before .before .before .before .before .before .before .args in omega (arith, judged-fits (orderOf (a .order)) (a .class) (a .depths) (now (a .room)) (a .place .0) (headBy (a .class) (a .depths) (drop (a .place .0) (now (a .room)))) (c .before .before .before .before .before .before .before .before .before .before .before .before .before .before .read-head .ensures) _ (c .before .before .before .before .before .show-tag .result) (c .before .before .before .before .before .before .before .before .before .before .before .before .header .given .1) refl refl refl (c .before .before .before .before .before .show-tag .ensures) refl (c .before .before .before .before .before .before .before .before .before .before .before .before .before .before .before .before .pre .0) (c .before .before .next .given .1), c .before .before .before .before .before .before .before .before .before .before .before .before .before .before .before .before .pre .1)
-
--- src/lib.rt:114:21
-by-class-requires : tie.Need-by-class-requires
-by-class-requires c κs = search needs
-
--- src/lib.rt:99:1
+-- src/lib.rt:153:17
 returns : tie.Need-returns
-returns c = let a = c .before .before .before .before .before .args in judged-none (orderOf (a .order)) (a .class) (a .depths) (now (a .room)) (a .place .0) (headBy (a .class) (a .depths) (drop (a .place .0) (now (a .room)))) (c .before .before .before .read-head .ensures) (c .before .why .given .1)
+returns c = let a = c .before .before .before .before .before .before .before .before .before .before .before .before .before .args in judged-in (orderOf (a .order)) (now (a .classes)) (a .depths) (now (a .room)) (a .place .0) (c .before .before .before .before .class-numbered .ensures) ((stands-at (now (a .room)) (a .place .0) (c .before .before .before .before .before .before .before .before .before .before .raw-head .ensures .0) (c .before .before .before .before .before .before .before .before .header .given .1)) .coded) (judged-none (orderOf (a .order)) (c .before .before .before .before .class-numbered .result) (a .depths) (now (a .room)) (a .place .0) (head-fails (c .before .before .before .before .class-numbered .result) (a .depths) (now (a .room)) (a .place .0) (stands-at (now (a .room)) (a .place .0) (c .before .before .before .before .before .before .before .before .before .before .raw-head .ensures .0) (c .before .before .before .before .before .before .before .before .header .given .1)) refl (c .before .head-fault .ensures) (c .if1 .taken)))
 
--- src/lib.rt:99:1
+-- src/lib.rt:155:13
+judge-body-requires : tie.Need-judge-body-requires
+judge-body-requires c κs = let a = c .before .before .before .before .before .before .before .before .before .before .before .before .before .args in (judged-stands (orderOf (a .order)) (c .before .before .before .before .class-numbered .result) (a .depths) (now (a .room)) (a .place .0) (head-passes (c .before .before .before .before .class-numbered .result) (a .depths) (now (a .room)) (a .place .0) (stands-at (now (a .room)) (a .place .0) (c .before .before .before .before .before .before .before .before .before .before .raw-head .ensures .0) (c .before .before .before .before .before .before .before .before .header .given .1)) refl (c .before .head-fault .ensures) (c .if1 .left)) (c .before .before .before .before .before .before .before .before .before .before .before .before .before .pre .1), c .before .before .before .before .before .before .before .before .before .before .before .before .before .pre .2)
+
+-- src/lib.rt:141:1
 returns-2 : tie.Need-returns-2
-returns-2 c = let a = c .before .before .before .before .before .before .before .before .before .before .before .before .before .before .before .args in judged-faulty (orderOf (a .order)) (a .class) (a .depths) (now (a .room)) (a .place .0) (headBy (a .class) (a .depths) (drop (a .place .0) (now (a .room)))) (c .before .before .before .before .before .before .before .before .before .before .before .before .before .read-head .ensures) _ (c .before .before .before .before .show-tag .result) (c .before .before .before .before .before .before .before .before .before .before .before .header .given .1) refl refl refl (c .before .before .before .before .show-tag .ensures) (c .before .why2 .given .1)
+returns-2 c = let a = c .before .before .before .before .before .before .args in let C = classIn (now (a .classes)) (le16 (drop (a .place .0) (now (a .room))) / 64) in judged-none (orderOf (a .order)) C (a .depths) (now (a .room)) (a .place .0) (head-none (a .depths) (drop (a .place .0) (now (a .room))) C (c .before .before .before .raw-head .ensures .0) (c .before .why .given .1))
 
--- src/lib.rt:99:1
+-- src/lib.rt:141:1
 returns-3 : tie.Need-returns-3
-returns-3 c = let a = c .before .before .before .before .before .before .before .before .before .before .before .before .before .before .before .before .before .args in judged-good (orderOf (a .order)) (a .class) (a .depths) (now (a .room)) (a .place .0) (headBy (a .class) (a .depths) (drop (a .place .0) (now (a .room)))) (c .before .before .before .before .before .before .before .before .before .before .before .before .before .before .before .read-head .ensures) _ (c .before .before .before .before .before .before .show-tag .result) (c .before .before .before .before .before .before .before .before .before .before .before .before .before .header .given .1) refl refl refl (c .before .before .before .before .before .before .show-tag .ensures) (c .before .before .before .next .given .1) refl (c .by-class .ensures)
+returns-3 c = let a = c .before .before .before .before .before .before .before .before .before .before .before .before .before .before .args in judged-in (orderOf (a .order)) (now (a .classes)) (a .depths) (now (a .room)) (a .place .0) (c .before .before .before .before .before .class-numbered .ensures) ((stands-at (now (a .room)) (a .place .0) (c .before .before .before .before .before .before .before .before .before .before .before .raw-head .ensures .0) (c .before .before .before .before .before .before .before .before .before .header .given .1)) .coded) (c .judge-body .ensures ∙ ap (judgedAt (orderOf (a .order)) (c .before .before .before .before .before .class-numbered .result) (now (a .room)) (a .place .0)) (sym (head-passes (c .before .before .before .before .before .class-numbered .result) (a .depths) (now (a .room)) (a .place .0) (stands-at (now (a .room)) (a .place .0) (c .before .before .before .before .before .before .before .before .before .before .before .raw-head .ensures .0) (c .before .before .before .before .before .before .before .before .before .header .given .1)) refl (c .before .before .head-fault .ensures) (c .before .if1 .left))))
 
 pub judge-tag-spec : {M : Type 1} → statement M
 judge-tag-spec =
     tie.close
     (tie.spec
-    read-head-requires
+    raw-head-requires
     enum-known-why
     enum-known-header
+    cast-code
+    shared-slice-read-class-numbered
+    class-numbered-requires
     cast-start
     add-start
-    cast-stop
-    add-stop
-    sub-show-tag
-    part-show-tag-start
-    part-show-tag-end
-    array-borrow-prefix-none
-    slice-aggregate-show-tag
-    show-tag-requires
-    enum-known-why-2
-    enum-known-next
-    add-list
-    by-class-requires
+    sub-head-fault
+    head-fault-requires
     returns
+    judge-body-requires
     returns-2
     returns-3)

@@ -1,21 +1,24 @@
-use Rattle.bits.specs.Places.{orderOf}
 use denote.Ref.{now}
+use Rattle.bits.specs.Places.{orderOf}
 use Rattle.canvas.proofs.CallLaws.{filled-is}
 use borrow.Author.Needs.{needs}
 use Rattle.canvas.proofs.with.Statement.{statement}
 use Rattle.canvas.proofs.with.Tie as tie
 use Rattle.canvas.proofs.with.Reads as reads
 use Rattle.canvas.proofs.with.Lts as lts
-use Rattle.fixed.proofs.read_fixed.Reads as read-fixed-reads
+use Rattle.bodies.proofs.read_to_end.Reads as read-to-end-reads
 
-slice-aggregate-read-fixed : tie.Need-slice-aggregate-read-fixed
-slice-aggregate-read-fixed c = search needs
+-- src/lib.rt:254:48
+slice-aggregate-read-to-end : tie.Need-slice-aggregate-read-to-end
+slice-aggregate-read-to-end c = search needs
 
-read-fixed-requires : tie.Need-read-fixed-requires
-read-fixed-requires c κs = search needs
+-- src/lib.rt:254:5
+read-to-end-requires : tie.Need-read-to-end-requires
+read-to-end-requires c κs = search needs
 
+-- src/lib.rt:249:1
 returns : tie.Need-returns
-returns c = let a = c .before .before .before .before .args in filled-is (orderOf (a .order)) (now (a .body)) (a .headers) (c .before .read-fixed .result) (c .before .read-fixed .ensures)
+returns c = let a = c .before .before .before .before .args in filled-is (orderOf (a .order)) (now (a .body)) (a .headers) (c .before .read-to-end .result) (c .before .read-to-end .ensures)
 
 pub with-spec : {M : Type 1} → statement M
-with-spec = tie.close (tie.spec slice-aggregate-read-fixed read-fixed-requires returns)
+with-spec = tie.close (tie.spec slice-aggregate-read-to-end read-to-end-requires returns)

@@ -16,20 +16,24 @@ sub-rest : tie.Need-sub-rest
 sub-rest c = search needs
 
 returns : tie.Need-returns
-returns c = head-cut (now (c .before .before .args .room)) (c .before .before .args .at .0) _ (fits (c .before .before .pre)) (c .if1 .taken)
+returns c = (head-cut (now (c .before .before .args .room)) (c .before .before .args .at .0) _ (fits (c .before .before .pre)) (c .if1 .taken), omega arith)
 
 le16-at-requires : tie.Need-le16-at-requires
 le16-at-requires c κs = search needs
 
 returns-2 : tie.Need-returns-2
-returns-2 c =
-    head-short (now (c .before .before .before .before .args .room)) (c .before .before .before .before .args .at .0)
-    _ (fits (c .before .before .before .before .pre)) _ (c .before .before .if1 .left) (c .before .le16-at .ensures .0) _ _ refl refl (c .if2 .taken)
+returns-2 c = (
+  head-short (now (c .before .before .before .before .args .room)) (c .before .before .before .before .args .at .0)
+      _ (fits (c .before .before .before .before .pre)) _ (c .before .before .if1 .left) (c .before .le16-at .ensures .0) _ _ refl refl (c .if2 .taken),
+  omega (arith, c .before .le16-at .ensures .1),
+)
 
 returns-3 : tie.Need-returns-3
-returns-3 c =
-    head-cut-long (now (c .before .before .before .before .before .args .room)) (c .before .before .before .before .before .args .at .0)
-    _ (fits (c .before .before .before .before .before .pre)) _ (c .before .before .before .if1 .left) (c .before .before .le16-at .ensures .0) (c .before .if2 .left) (c .if3 .taken)
+returns-3 c = (
+  head-cut-long (now (c .before .before .before .before .before .args .room)) (c .before .before .before .before .before .args .at .0)
+      _ (fits (c .before .before .before .before .before .pre)) _ (c .before .before .before .if1 .left) (c .before .before .le16-at .ensures .0) (c .before .if2 .left) (c .if3 .taken),
+  omega arith,
+)
 
 add-le32-at : tie.Need-add-le32-at
 add-le32-at c = search needs
@@ -38,10 +42,12 @@ le32-at-requires : tie.Need-le32-at-requires
 le32-at-requires c κs = search needs
 
 returns-4 : tie.Need-returns-4
-returns-4 c =
-    head-long (now (c .before .before .before .before .before .before .args .room)) (c .before .before .before .before .before .before .args .at .0)
-    _ (fits (c .before .before .before .before .before .before .pre)) _ (c .before .before .before .before .if1 .left)
-    (c .before .before .before .le16-at .ensures .0) _ _ refl (c .before .if3 .left) (c .before .before .if2 .left) (c .le32-at .ensures) _ refl
+returns-4 c = (
+  head-long (now (c .before .before .before .before .before .before .args .room)) (c .before .before .before .before .before .before .args .at .0)
+      _ (fits (c .before .before .before .before .before .before .pre)) _ (c .before .before .before .before .if1 .left)
+      (c .before .before .before .le16-at .ensures .0) _ _ refl (c .before .if3 .left) (c .before .before .if2 .left) (c .le32-at .ensures) _ refl,
+  omega (arith, c .before .before .before .le16-at .ensures .1),
+)
 
 pub raw-head-spec : {M : Type 1} → statement M
 raw-head-spec =

@@ -5,9 +5,6 @@ use borrow.Author.Needs.{needs}
 use denote.Ref.{now}
 use lib.ListN.{length, drop}
 use Rattle.bits.specs.Places.{orderOf}
-use Rattle.format.specs.FileAndTags.{le16}
-use Rattle.classes.specs.Classes.{named, classBy}
-use Rattle.classes.proofs.ClassLaws.{class-at, taken-named}
 use Rattle.lists.specs.Lists.{ownerOf}
 use Rattle.lists.proofs.ListLaws.{Going, going-start, passed-table, passed-rows, passed-room, used-up, tag-sizes, tag-fault, tag-stops, tag-last, tag-next, tag-open, open-bounds, open-sizes, open-next, open-fault}
 use Prim.Native.Nat.{ℕ, _<_}
@@ -16,141 +13,101 @@ use borrow.Fn.PlainCycle.{Measures, is, falls, and}
 use Rattle.lists.proofs.read_list.Reads as read-list
 use Rattle.lists.proofs.read_list.Kinds as read-list-kinds
 use Rattle.lists.proofs.+read_list.Lts-read_list as read-list-lts
-use Rattle.classes.proofs.all.Reads as all-reads
-use Rattle.classes.proofs.at_level.Reads as at-level-reads
-use Rattle.classes.proofs.taken_as.Reads as taken-as-reads
-use Rattle.headers.proofs.code_at.Reads as code-at-reads
 use Rattle.lists.proofs.blame.Reads as blame-reads
 use Rattle.lists.proofs.last.Reads as last-reads
 use Rattle.lists.proofs.read_tag.Reads as read-tag-reads
 use Rattle.lists.proofs.+read_list.{statement}
 use Rattle.lists.proofs.+read_list.Tie.{close}
 
-abbrev μ-read-list : Measures 3 read-list-kinds.ps ℕ
-μ-read-list κs a = a .1 .1 .1 .0
+abbrev μ-read-list : Measures 4 read-list-kinds.ps ℕ
+μ-read-list κs a = a .1 .1 .0
 
-abbrev read-list-at : ℕ → In 3 read-list-kinds.ps
-read-list-at t = and 3 read-list-kinds.ps (is 3 read-list-kinds.ps μ-read-list t) read-list.Pre
+abbrev read-list-at : ℕ → In 4 read-list-kinds.ps
+read-list-at t = and 4 read-list-kinds.ps (is 4 read-list-kinds.ps μ-read-list t) read-list.Pre
 
-abbrev read-list-below : ℕ → In 3 read-list-kinds.ps
+abbrev read-list-below : ℕ → In 4 read-list-kinds.ps
 read-list-below t =
-    and 3 read-list-kinds.ps (falls 3 read-list-kinds.ps _<_ μ-read-list t) read-list.Pre
+    and 4 read-list-kinds.ps (falls 4 read-list-kinds.ps _<_ μ-read-list t) read-list.Pre
 
 -- what is asked and learnt at each call
 abbrev calls : ℕ → read-list-lts.Claims
-calls t = (all-reads.Asked, all-reads.Learnt, code-at-reads.Asked, code-at-reads.Learnt, at-level-reads.Asked, at-level-reads.Learnt, taken-as-reads.Asked, taken-as-reads.Learnt, read-tag-reads.Asked, read-tag-reads.Learnt, last-reads.Asked, last-reads.Learnt, read-list-below t, read-list.Post, blame-reads.Asked, blame-reads.Learnt)
+calls t = (read-tag-reads.Asked, read-tag-reads.Learnt, last-reads.Asked, last-reads.Learnt, read-list-below t, read-list.Post, blame-reads.Asked, blame-reads.Learnt)
 
 abbrev read-list-Inv-loop : read-list-lts.InvT-loop
-read-list-Inv-loop scope level order depths owner at room table₀ from rows₀ row classes place₀ index₀ line₀ table rows place index line =
-    Going (orderOf order) scope level depths (ownerOf owner) (at .0) room table₀ from rows₀ row table rows (place .0) index line
+read-list-Inv-loop classes order depths owner at room table₀ from rows₀ row place₀ index₀ line₀ table rows place index line =
+    Going (orderOf order) classes depths (ownerOf owner) (at .0) room table₀ from rows₀ row table rows (place .0) index line
 
 abbrev read-list-μ-loop : read-list-lts.MeasureT-loop
-read-list-μ-loop scope level order depths owner at room table₀ from rows₀ row classes place₀ index₀ line₀ table rows place index line = length room - place .0
-
--- the class that was looked up, as the walk takes it
-class-named : (t : ℕ) (c : read-list-lts.After-read-tag-arg2 (calls t) (read-list-at t) read-list.Post read-list-Inv-loop read-list-μ-loop)
-    → c .before .before .taken-as .result ≡ named (classBy (c .before .before .before .before .before .before .before .before .before .before .before .before .before .before .before .args .scope) (c .before .before .before .before .before .before .before .before .before .before .before .before .before .before .before .args .level) (le16 (drop (c .before .before .before .before .before .before .before .before .before .before .loop .place .0) (now (c .before .before .before .before .before .before .before .before .before .before .before .before .before .before .before .args .room))) / 64))
-class-named t c =
-    let a = c .before .before .before .before .before .before .before .before .before .before .before .before .before .before .before .args in
-    taken-named (a .scope) (a .level) (c .before .before .before .before .before .code-at .ensures .0)
-    (c .before .before .before .at-level .ensures ∙ class-at _ (c .before .before .before .before .before .before .before .before .before .before .before .all .ensures) (a .level) (c .before .before .before .before .before .code-at .result) _ _ _ refl refl (c .before .before .before .before .before .code-at .ensures .1))
-    (c .before .before .taken-as .ensures)
-
-read-list-all-requires : (t : ℕ) → read-list-lts.Need-all-requires (calls t) (read-list-at t) read-list.Post read-list-Inv-loop read-list-μ-loop
-read-list-all-requires t c κs = tt
+read-list-μ-loop classes order depths owner at room table₀ from rows₀ row place₀ index₀ line₀ table rows place index line = length room - place .0
 
 read-list-loop-holds : (t : ℕ) → read-list-lts.Need-loop-holds (calls t) (read-list-at t) read-list.Post read-list-Inv-loop read-list-μ-loop
-read-list-loop-holds t c = let a = c .before .before .before .before .args in going-start (orderOf (a .order)) (a .scope) (a .level) (a .depths) (ownerOf (a .owner)) (a .at .0) (now (a .room)) (now (a .table)) (a .from) (now (a .rows)) (a .row)
+read-list-loop-holds t c = let a = c .before .before .before .before .args in going-start (orderOf (a .order)) (now (a .classes)) (a .depths) (ownerOf (a .owner)) (a .at .0) (now (a .room)) (now (a .table)) (a .from) (now (a .rows)) (a .row)
 
 read-list-add-tag : (t : ℕ) → read-list-lts.Need-add-tag (calls t) (read-list-at t) read-list.Post read-list-Inv-loop read-list-μ-loop
-read-list-add-tag t c = omega (arith, c .before .before .before .before .loop .inv .inside, c .before .before .before .before .before .before .before .before .before .pre .1 .place)
+read-list-add-tag t c = omega (arith, c .before .before .before .before .loop .inv .inside, c .before .before .before .before .before .before .before .before .before .pre .1 .1 .place)
 
 read-list-add-line : (t : ℕ) → read-list-lts.Need-add-line (calls t) (read-list-at t) read-list.Post read-list-Inv-loop read-list-μ-loop
-read-list-add-line t c = let a = c .before .before .before .before .before .before .before .before .before .args in omega (arith, passed-room (orderOf (a .order)) (a .scope) (a .level) (a .depths) (ownerOf (a .owner)) (a .at .0) (now (a .room)) (now (a .table)) (a .from) (now (a .rows)) (a .row) _ (c .before .before .before .before .loop .inv .passed) .1, c .before .before .before .before .before .before .before .before .before .pre .1 .row, c .before .before .before .before .before .before .before .before .before .pre .1 .place)
-
-read-list-code-at-requires : (t : ℕ) → read-list-lts.Need-code-at-requires (calls t) (read-list-at t) read-list.Post read-list-Inv-loop read-list-μ-loop
-read-list-code-at-requires t c κs = c .before .before .if1 .taken
-
-read-list-cast-listed : (t : ℕ) → read-list-lts.Need-cast-listed (calls t) (read-list-at t) read-list.Post read-list-Inv-loop read-list-μ-loop
-read-list-cast-listed t c = search needs
-
-read-list-cast-listed-2 : (t : ℕ) → read-list-lts.Need-cast-listed-2 (calls t) (read-list-at t) read-list.Post read-list-Inv-loop read-list-μ-loop
-read-list-cast-listed-2 t c = search needs
-
-read-list-mul-listed : (t : ℕ) → read-list-lts.Need-mul-listed (calls t) (read-list-at t) read-list.Post read-list-Inv-loop read-list-μ-loop
-read-list-mul-listed t c = search needs
-
-read-list-index-1-listed : (t : ℕ) → read-list-lts.Need-index-1-listed (calls t) (read-list-at t) read-list.Post read-list-Inv-loop read-list-μ-loop
-read-list-index-1-listed t c = omega (arith, c .code-at .ensures .1)
-
-read-list-index-2-listed : (t : ℕ) → read-list-lts.Need-index-2-listed (calls t) (read-list-at t) read-list.Post read-list-Inv-loop read-list-μ-loop
-read-list-index-2-listed t c = omega arith
-
-read-list-at-level-requires : (t : ℕ) → read-list-lts.Need-at-level-requires (calls t) (read-list-at t) read-list.Post read-list-Inv-loop read-list-μ-loop
-read-list-at-level-requires t c κs = search needs
-
-read-list-taken-as-requires : (t : ℕ) → read-list-lts.Need-taken-as-requires (calls t) (read-list-at t) read-list.Post read-list-Inv-loop read-list-μ-loop
-read-list-taken-as-requires t c κs = search needs
+read-list-add-line t c = let a = c .before .before .before .before .before .before .before .before .before .args in omega (arith, passed-room (orderOf (a .order)) (now (a .classes)) (a .depths) (ownerOf (a .owner)) (a .at .0) (now (a .room)) (now (a .table)) (a .from) (now (a .rows)) (a .row) (c .before .before .before .before .before .before .before .before .before .pre .1 .0) _ (c .before .before .before .before .loop .inv .passed) .1, c .before .before .before .before .before .before .before .before .before .pre .1 .1 .row, c .before .before .before .before .before .before .before .before .before .pre .1 .1 .place)
 
 read-list-read-tag-requires : (t : ℕ) → read-list-lts.Need-read-tag-requires (calls t) (read-list-at t) read-list.Post read-list-Inv-loop read-list-μ-loop
-read-list-read-tag-requires t c κs = let a = c .before .before .before .before .before .before .before .before .before .before .before .before .before .before .before .args in (c .before .before .before .before .before .before .before .before .before .before .before .before .before .before .before .pre .1 .depth, c .before .before .before .before .before .before .before .before .before .before .loop .inv .inside, c .before .before .before .before .before .before .before .before .before .before .before .before .before .before .before .pre .1 .place, omega (arith, passed-room (orderOf (a .order)) (a .scope) (a .level) (a .depths) (ownerOf (a .owner)) (a .at .0) (now (a .room)) (now (a .table)) (a .from) (now (a .rows)) (a .row) _ (c .before .before .before .before .before .before .before .before .before .before .loop .inv .passed) .0, c .before .before .before .before .before .before .before .before .before .before .before .before .before .before .before .pre .1 .index, c .before .before .before .before .before .before .before .before .before .before .before .before .before .before .before .pre .1 .place), omega (arith, passed-room (orderOf (a .order)) (a .scope) (a .level) (a .depths) (ownerOf (a .owner)) (a .at .0) (now (a .room)) (now (a .table)) (a .from) (now (a .rows)) (a .row) _ (c .before .before .before .before .before .before .before .before .before .before .loop .inv .passed) .1, c .before .before .before .before .before .before .before .before .before .before .before .before .before .before .before .pre .1 .row, c .before .before .before .before .before .before .before .before .before .before .before .before .before .before .before .pre .1 .place))
+read-list-read-tag-requires t c κs = let a = c .before .before .before .before .before .before .before .before .before .before .before .args in (c .before .before .before .before .before .before .before .before .before .before .before .pre .1 .0 .classed .size, c .before .before .before .before .before .before .before .before .before .before .before .pre .1 .1 .depth, c .before .before .before .before .before .before .loop .inv .inside, c .before .before .before .before .before .before .before .before .before .before .before .pre .1 .1 .place, omega (arith, passed-room (orderOf (a .order)) (now (a .classes)) (a .depths) (ownerOf (a .owner)) (a .at .0) (now (a .room)) (now (a .table)) (a .from) (now (a .rows)) (a .row) (c .before .before .before .before .before .before .before .before .before .before .before .pre .1 .0) _ (c .before .before .before .before .before .before .loop .inv .passed) .0, c .before .before .before .before .before .before .before .before .before .before .before .pre .1 .1 .index, c .before .before .before .before .before .before .before .before .before .before .before .pre .1 .1 .place), omega (arith, passed-room (orderOf (a .order)) (now (a .classes)) (a .depths) (ownerOf (a .owner)) (a .at .0) (now (a .room)) (now (a .table)) (a .from) (now (a .rows)) (a .row) (c .before .before .before .before .before .before .before .before .before .before .before .pre .1 .0) _ (c .before .before .before .before .before .before .loop .inv .passed) .1, c .before .before .before .before .before .before .before .before .before .before .before .pre .1 .1 .row, c .before .before .before .before .before .before .before .before .before .before .before .pre .1 .1 .place))
 
 read-list-enum-known-why : (t : ℕ) → read-list-lts.Need-enum-known-why (calls t) (read-list-at t) read-list.Post read-list-Inv-loop read-list-μ-loop
 read-list-enum-known-why t c = search needs
 
 read-list-same-length : (t : ℕ) → read-list-lts.Need-same-length (calls t) (read-list-at t) read-list.Post read-list-Inv-loop read-list-μ-loop
-read-list-same-length t c = let a = c .before .before .before .before .before .before .before .before .before .before .before .before .before .before .before .before .before .before .before .before .before .before .before .args in tag-sizes (orderOf (a .order)) (a .scope) (a .level) (a .depths) (ownerOf (a .owner)) (a .at .0) (now (a .room)) (now (a .table)) (a .from) (now (a .rows)) (a .row) (c .before .before .before .before .before .before .before .before .before .before .before .before .before .before .before .before .before .before .loop .inv) (c .before .before .before .before .before .before .before .before .before .before .before .before .before .before .before .before .if1 .taken) (c .before .before .before .before .before .before .before .read-tag .result) (class-named t (c .before .before .before .before .before .before .before .before)) (c .before .before .before .before .before .before .before .read-tag .ensures) .0
+read-list-same-length t c = let a = c .before .before .before .before .before .before .before .before .before .before .before .before .before .before .before .before .before .before .before .args in tag-sizes (orderOf (a .order)) (now (a .classes)) (a .depths) (ownerOf (a .owner)) (a .at .0) (now (a .room)) (now (a .table)) (a .from) (now (a .rows)) (a .row) (c .before .before .before .before .before .before .before .before .before .before .before .before .before .before .loop .inv) (c .before .before .before .before .before .before .before .before .before .before .before .before .if1 .taken) (c .before .before .before .before .before .before .before .read-tag .result) refl (c .before .before .before .before .before .before .before .read-tag .ensures) .0
 
 read-list-same-length-2 : (t : ℕ) → read-list-lts.Need-same-length-2 (calls t) (read-list-at t) read-list.Post read-list-Inv-loop read-list-μ-loop
-read-list-same-length-2 t c = let a = c .before .before .before .before .before .before .before .before .before .before .before .before .before .before .before .before .before .before .before .before .before .before .before .args in tag-sizes (orderOf (a .order)) (a .scope) (a .level) (a .depths) (ownerOf (a .owner)) (a .at .0) (now (a .room)) (now (a .table)) (a .from) (now (a .rows)) (a .row) (c .before .before .before .before .before .before .before .before .before .before .before .before .before .before .before .before .before .before .loop .inv) (c .before .before .before .before .before .before .before .before .before .before .before .before .before .before .before .before .if1 .taken) (c .before .before .before .before .before .before .before .read-tag .result) (class-named t (c .before .before .before .before .before .before .before .before)) (c .before .before .before .before .before .before .before .read-tag .ensures) .1
+read-list-same-length-2 t c = let a = c .before .before .before .before .before .before .before .before .before .before .before .before .before .before .before .before .before .before .before .args in tag-sizes (orderOf (a .order)) (now (a .classes)) (a .depths) (ownerOf (a .owner)) (a .at .0) (now (a .room)) (now (a .table)) (a .from) (now (a .rows)) (a .row) (c .before .before .before .before .before .before .before .before .before .before .before .before .before .before .loop .inv) (c .before .before .before .before .before .before .before .before .before .before .before .before .if1 .taken) (c .before .before .before .before .before .before .before .read-tag .result) refl (c .before .before .before .before .before .before .before .read-tag .ensures) .1
 
 read-list-returns : (t : ℕ) → read-list-lts.Need-returns (calls t) (read-list-at t) read-list.Post read-list-Inv-loop read-list-μ-loop
-read-list-returns t c = let a = c .before .before .before .before .before .before .before .before .before .before .before .before .before .before .before .before .before .before .before .before .before .before .before .args in tag-fault (orderOf (a .order)) (a .scope) (a .level) (a .depths) (ownerOf (a .owner)) (a .at .0) (now (a .room)) (now (a .table)) (a .from) (now (a .rows)) (a .row) (c .before .before .before .before .before .before .before .before .before .before .before .before .before .before .before .before .before .before .loop .inv) (c .before .before .before .before .before .before .before .before .before .before .before .before .before .before .before .before .if1 .taken) (c .before .before .before .before .before .before .before .read-tag .result) (class-named t (c .before .before .before .before .before .before .before .before)) (c .before .before .before .before .before .before .before .read-tag .ensures) (c .before .why .given .1)
+read-list-returns t c = let a = c .before .before .before .before .before .before .before .before .before .before .before .before .before .before .before .before .before .before .before .args in tag-fault (orderOf (a .order)) (now (a .classes)) (a .depths) (ownerOf (a .owner)) (a .at .0) (now (a .room)) (now (a .table)) (a .from) (now (a .rows)) (a .row) (c .before .before .before .before .before .before .before .before .before .before .before .before .before .before .loop .inv) (c .before .before .before .before .before .before .before .before .before .before .before .before .if1 .taken) (c .before .before .before .before .before .before .before .read-tag .result) refl (c .before .before .before .before .before .before .before .read-tag .ensures) (c .before .why .given .1)
 
 read-list-enum-known-stop : (t : ℕ) → read-list-lts.Need-enum-known-stop (calls t) (read-list-at t) read-list.Post read-list-Inv-loop read-list-μ-loop
 read-list-enum-known-stop t c = search needs
 
 read-list-last-requires : (t : ℕ) → read-list-lts.Need-last-requires (calls t) (read-list-at t) read-list.Post read-list-Inv-loop read-list-μ-loop
-read-list-last-requires t c κs = let a = c .before .before .before .before .before .before .before .before .before .before .before .before .before .before .before .before .before .before .before .before .before .before .before .args in omega (arith, tag-stops (orderOf (a .order)) (a .scope) (a .level) (a .depths) (ownerOf (a .owner)) (a .at .0) (now (a .room)) (now (a .table)) (a .from) (now (a .rows)) (a .row) (c .before .before .before .before .before .before .before .before .before .before .before .before .before .before .before .before .before .before .loop .inv) (c .before .before .before .before .before .before .before .before .before .before .before .before .before .before .before .before .if1 .taken) (c .before .before .before .before .before .before .before .read-tag .result) (class-named t (c .before .before .before .before .before .before .before .before)) (c .before .before .before .before .before .before .before .read-tag .ensures) (c .before .stop .given .1), c .before .before .before .before .before .before .before .before .before .before .before .before .before .before .before .before .before .before .before .before .before .before .before .pre .1 .place)
+read-list-last-requires t c κs = let a = c .before .before .before .before .before .before .before .before .before .before .before .before .before .before .before .before .before .before .before .args in omega (arith, tag-stops (orderOf (a .order)) (now (a .classes)) (a .depths) (ownerOf (a .owner)) (a .at .0) (now (a .room)) (now (a .table)) (a .from) (now (a .rows)) (a .row) (c .before .before .before .before .before .before .before .before .before .before .before .before .before .before .loop .inv) (c .before .before .before .before .before .before .before .before .before .before .before .before .if1 .taken) (c .before .before .before .before .before .before .before .read-tag .result) refl (c .before .before .before .before .before .before .before .read-tag .ensures) (c .before .stop .given .1), c .before .before .before .before .before .before .before .before .before .before .before .before .before .before .before .before .before .before .before .pre .1 .1 .place)
 
 read-list-same-length-3 : (t : ℕ) → read-list-lts.Need-same-length-3 (calls t) (read-list-at t) read-list.Post read-list-Inv-loop read-list-μ-loop
-read-list-same-length-3 t c = let a = c .before .before .before .before .before .before .before .before .before .before .before .before .before .before .before .before .before .before .before .before .before .before .before .before .args in tag-sizes (orderOf (a .order)) (a .scope) (a .level) (a .depths) (ownerOf (a .owner)) (a .at .0) (now (a .room)) (now (a .table)) (a .from) (now (a .rows)) (a .row) (c .before .before .before .before .before .before .before .before .before .before .before .before .before .before .before .before .before .before .before .loop .inv) (c .before .before .before .before .before .before .before .before .before .before .before .before .before .before .before .before .before .if1 .taken) (c .before .before .before .before .before .before .before .before .read-tag .result) (class-named t (c .before .before .before .before .before .before .before .before .before)) (c .before .before .before .before .before .before .before .before .read-tag .ensures) .0
+read-list-same-length-3 t c = let a = c .before .before .before .before .before .before .before .before .before .before .before .before .before .before .before .before .before .before .before .before .args in tag-sizes (orderOf (a .order)) (now (a .classes)) (a .depths) (ownerOf (a .owner)) (a .at .0) (now (a .room)) (now (a .table)) (a .from) (now (a .rows)) (a .row) (c .before .before .before .before .before .before .before .before .before .before .before .before .before .before .before .loop .inv) (c .before .before .before .before .before .before .before .before .before .before .before .before .before .if1 .taken) (c .before .before .before .before .before .before .before .before .read-tag .result) refl (c .before .before .before .before .before .before .before .before .read-tag .ensures) .0
 
 read-list-same-length-4 : (t : ℕ) → read-list-lts.Need-same-length-4 (calls t) (read-list-at t) read-list.Post read-list-Inv-loop read-list-μ-loop
-read-list-same-length-4 t c = let a = c .before .before .before .before .before .before .before .before .before .before .before .before .before .before .before .before .before .before .before .before .before .before .before .before .args in tag-sizes (orderOf (a .order)) (a .scope) (a .level) (a .depths) (ownerOf (a .owner)) (a .at .0) (now (a .room)) (now (a .table)) (a .from) (now (a .rows)) (a .row) (c .before .before .before .before .before .before .before .before .before .before .before .before .before .before .before .before .before .before .before .loop .inv) (c .before .before .before .before .before .before .before .before .before .before .before .before .before .before .before .before .before .if1 .taken) (c .before .before .before .before .before .before .before .before .read-tag .result) (class-named t (c .before .before .before .before .before .before .before .before .before)) (c .before .before .before .before .before .before .before .before .read-tag .ensures) .1
+read-list-same-length-4 t c = let a = c .before .before .before .before .before .before .before .before .before .before .before .before .before .before .before .before .before .before .before .before .args in tag-sizes (orderOf (a .order)) (now (a .classes)) (a .depths) (ownerOf (a .owner)) (a .at .0) (now (a .room)) (now (a .table)) (a .from) (now (a .rows)) (a .row) (c .before .before .before .before .before .before .before .before .before .before .before .before .before .before .before .loop .inv) (c .before .before .before .before .before .before .before .before .before .before .before .before .before .if1 .taken) (c .before .before .before .before .before .before .before .before .read-tag .result) refl (c .before .before .before .before .before .before .before .before .read-tag .ensures) .1
 
 read-list-returns-2 : (t : ℕ) → read-list-lts.Need-returns-2 (calls t) (read-list-at t) read-list.Post read-list-Inv-loop read-list-μ-loop
-read-list-returns-2 t c = let a = c .before .before .before .before .before .before .before .before .before .before .before .before .before .before .before .before .before .before .before .before .before .before .before .before .args in tag-last (orderOf (a .order)) (a .scope) (a .level) (a .depths) (ownerOf (a .owner)) (a .at .0) (now (a .room)) (now (a .table)) (a .from) (now (a .rows)) (a .row) (c .before .before .before .before .before .before .before .before .before .before .before .before .before .before .before .before .before .before .before .loop .inv) (c .before .before .before .before .before .before .before .before .before .before .before .before .before .before .before .before .before .if1 .taken) (c .before .before .before .before .before .before .before .before .read-tag .result) (class-named t (c .before .before .before .before .before .before .before .before .before)) (c .before .before .before .before .before .before .before .before .read-tag .ensures) (a .owner) refl (c .before .before .stop .given .1) (c .last .ensures)
+read-list-returns-2 t c = let a = c .before .before .before .before .before .before .before .before .before .before .before .before .before .before .before .before .before .before .before .before .args in tag-last (orderOf (a .order)) (now (a .classes)) (a .depths) (ownerOf (a .owner)) (a .at .0) (now (a .room)) (now (a .table)) (a .from) (now (a .rows)) (a .row) (c .before .before .before .before .before .before .before .before .before .before .before .before .before .before .before .loop .inv) (c .before .before .before .before .before .before .before .before .before .before .before .before .before .if1 .taken) (c .before .before .before .before .before .before .before .before .read-tag .result) refl (c .before .before .before .before .before .before .before .before .read-tag .ensures) (a .owner) refl (c .before .before .stop .given .1) (c .last .ensures)
 
 read-list-enum-known-stop-2 : (t : ℕ) → read-list-lts.Need-enum-known-stop-2 (calls t) (read-list-at t) read-list.Post read-list-Inv-loop read-list-μ-loop
 read-list-enum-known-stop-2 t c = search needs
 
 read-list-loop-less : (t : ℕ) → read-list-lts.Need-loop-less (calls t) (read-list-at t) read-list.Post read-list-Inv-loop read-list-μ-loop
-read-list-loop-less t c = let a = c .before .before .before .before .before .before .before .before .before .before .before .before .before .before .before .before .before .before .before .before .before .before .before .args in omega (arith, tag-next (orderOf (a .order)) (a .scope) (a .level) (a .depths) (ownerOf (a .owner)) (a .at .0) (now (a .room)) (now (a .table)) (a .from) (now (a .rows)) (a .row) (c .before .before .before .before .before .before .before .before .before .before .before .before .before .before .before .before .before .before .loop .inv) (c .before .before .before .before .before .before .before .before .before .before .before .before .before .before .before .before .if1 .taken) (c .before .before .before .before .before .before .before .read-tag .result) (class-named t (c .before .before .before .before .before .before .before .before)) (c .before .before .before .before .before .before .before .read-tag .ensures) (c .before .stop2 .given .1) .0, tag-next (orderOf (a .order)) (a .scope) (a .level) (a .depths) (ownerOf (a .owner)) (a .at .0) (now (a .room)) (now (a .table)) (a .from) (now (a .rows)) (a .row) (c .before .before .before .before .before .before .before .before .before .before .before .before .before .before .before .before .before .before .loop .inv) (c .before .before .before .before .before .before .before .before .before .before .before .before .before .before .before .before .if1 .taken) (c .before .before .before .before .before .before .before .read-tag .result) (class-named t (c .before .before .before .before .before .before .before .before)) (c .before .before .before .before .before .before .before .read-tag .ensures) (c .before .stop2 .given .1) .1 .inside)
+read-list-loop-less t c = let a = c .before .before .before .before .before .before .before .before .before .before .before .before .before .before .before .before .before .before .before .args in omega (arith, tag-next (orderOf (a .order)) (now (a .classes)) (a .depths) (ownerOf (a .owner)) (a .at .0) (now (a .room)) (now (a .table)) (a .from) (now (a .rows)) (a .row) (c .before .before .before .before .before .before .before .before .before .before .before .before .before .before .loop .inv) (c .before .before .before .before .before .before .before .before .before .before .before .before .if1 .taken) (c .before .before .before .before .before .before .before .read-tag .result) refl (c .before .before .before .before .before .before .before .read-tag .ensures) (c .before .stop2 .given .1) .0, tag-next (orderOf (a .order)) (now (a .classes)) (a .depths) (ownerOf (a .owner)) (a .at .0) (now (a .room)) (now (a .table)) (a .from) (now (a .rows)) (a .row) (c .before .before .before .before .before .before .before .before .before .before .before .before .before .before .loop .inv) (c .before .before .before .before .before .before .before .before .before .before .before .before .if1 .taken) (c .before .before .before .before .before .before .before .read-tag .result) refl (c .before .before .before .before .before .before .before .read-tag .ensures) (c .before .stop2 .given .1) .1 .inside)
 
 read-list-loop-again : (t : ℕ) → read-list-lts.Need-loop-again (calls t) (read-list-at t) read-list.Post read-list-Inv-loop read-list-μ-loop
-read-list-loop-again t c = let a = c .before .before .before .before .before .before .before .before .before .before .before .before .before .before .before .before .before .before .before .before .before .before .before .args in tag-next (orderOf (a .order)) (a .scope) (a .level) (a .depths) (ownerOf (a .owner)) (a .at .0) (now (a .room)) (now (a .table)) (a .from) (now (a .rows)) (a .row) (c .before .before .before .before .before .before .before .before .before .before .before .before .before .before .before .before .before .before .loop .inv) (c .before .before .before .before .before .before .before .before .before .before .before .before .before .before .before .before .if1 .taken) (c .before .before .before .before .before .before .before .read-tag .result) (class-named t (c .before .before .before .before .before .before .before .before)) (c .before .before .before .before .before .before .before .read-tag .ensures) (c .before .stop2 .given .1) .1
+read-list-loop-again t c = let a = c .before .before .before .before .before .before .before .before .before .before .before .before .before .before .before .before .before .before .before .args in tag-next (orderOf (a .order)) (now (a .classes)) (a .depths) (ownerOf (a .owner)) (a .at .0) (now (a .room)) (now (a .table)) (a .from) (now (a .rows)) (a .row) (c .before .before .before .before .before .before .before .before .before .before .before .before .before .before .loop .inv) (c .before .before .before .before .before .before .before .before .before .before .before .before .if1 .taken) (c .before .before .before .before .before .before .before .read-tag .result) refl (c .before .before .before .before .before .before .before .read-tag .ensures) (c .before .stop2 .given .1) .1
 
 read-list-enum-known-opened : (t : ℕ) → read-list-lts.Need-enum-known-opened (calls t) (read-list-at t) read-list.Post read-list-Inv-loop read-list-μ-loop
 read-list-enum-known-opened t c = search needs
 
 read-list-sub-part : (t : ℕ) → read-list-lts.Need-sub-part (calls t) (read-list-at t) read-list.Post read-list-Inv-loop read-list-μ-loop
-read-list-sub-part t c = let a = c .before .before .before .before .before .before .before .before .before .before .before .before .before .before .before .before .before .before .before .before .before .before .before .before .args in tag-open (orderOf (a .order)) (a .scope) (a .level) (a .depths) (ownerOf (a .owner)) (a .at .0) (now (a .room)) (now (a .table)) (a .from) (now (a .rows)) (a .row) (c .before .before .before .before .before .before .before .before .before .before .before .before .before .before .before .before .before .before .before .loop .inv) (c .before .before .before .before .before .before .before .before .before .before .before .before .before .before .before .before .before .if1 .taken) (c .before .before .before .before .before .before .before .before .read-tag .result) (class-named t (c .before .before .before .before .before .before .before .before .before)) (c .before .before .before .before .before .before .before .before .read-tag .ensures) _ (c .before .before .opened .given .1) .order
+read-list-sub-part t c = let a = c .before .before .before .before .before .before .before .before .before .before .before .before .before .before .before .before .before .before .before .before .args in tag-open (orderOf (a .order)) (now (a .classes)) (a .depths) (ownerOf (a .owner)) (a .at .0) (now (a .room)) (now (a .table)) (a .from) (now (a .rows)) (a .row) (c .before .before .before .before .before .before .before .before .before .before .before .before .before .before .before .loop .inv) (c .before .before .before .before .before .before .before .before .before .before .before .before .before .if1 .taken) (c .before .before .before .before .before .before .before .before .read-tag .result) refl (c .before .before .before .before .before .before .before .before .read-tag .ensures) _ (c .before .before .opened .given .1) .order
 
 read-list-part-part-start : (t : ℕ) → read-list-lts.Need-part-part-start (calls t) (read-list-at t) read-list.Post read-list-Inv-loop read-list-μ-loop
-read-list-part-part-start t c = let a = c .before .before .before .before .before .before .before .before .before .before .before .before .before .before .before .before .before .before .before .before .before .before .before .before .args in tag-open (orderOf (a .order)) (a .scope) (a .level) (a .depths) (ownerOf (a .owner)) (a .at .0) (now (a .room)) (now (a .table)) (a .from) (now (a .rows)) (a .row) (c .before .before .before .before .before .before .before .before .before .before .before .before .before .before .before .before .before .before .before .loop .inv) (c .before .before .before .before .before .before .before .before .before .before .before .before .before .before .before .before .before .if1 .taken) (c .before .before .before .before .before .before .before .before .read-tag .result) (class-named t (c .before .before .before .before .before .before .before .before .before)) (c .before .before .before .before .before .before .before .before .read-tag .ensures) _ (c .before .before .opened .given .1) .order
+read-list-part-part-start t c = let a = c .before .before .before .before .before .before .before .before .before .before .before .before .before .before .before .before .before .before .before .before .args in tag-open (orderOf (a .order)) (now (a .classes)) (a .depths) (ownerOf (a .owner)) (a .at .0) (now (a .room)) (now (a .table)) (a .from) (now (a .rows)) (a .row) (c .before .before .before .before .before .before .before .before .before .before .before .before .before .before .before .loop .inv) (c .before .before .before .before .before .before .before .before .before .before .before .before .before .if1 .taken) (c .before .before .before .before .before .before .before .before .read-tag .result) refl (c .before .before .before .before .before .before .before .before .read-tag .ensures) _ (c .before .before .opened .given .1) .order
 
 read-list-part-part-end : (t : ℕ) → read-list-lts.Need-part-part-end (calls t) (read-list-at t) read-list.Post read-list-Inv-loop read-list-μ-loop
-read-list-part-part-end t c = let a = c .before .before .before .before .before .before .before .before .before .before .before .before .before .before .before .before .before .before .before .before .before .before .before .before .args in tag-open (orderOf (a .order)) (a .scope) (a .level) (a .depths) (ownerOf (a .owner)) (a .at .0) (now (a .room)) (now (a .table)) (a .from) (now (a .rows)) (a .row) (c .before .before .before .before .before .before .before .before .before .before .before .before .before .before .before .before .before .before .before .loop .inv) (c .before .before .before .before .before .before .before .before .before .before .before .before .before .before .before .before .before .if1 .taken) (c .before .before .before .before .before .before .before .before .read-tag .result) (class-named t (c .before .before .before .before .before .before .before .before .before)) (c .before .before .before .before .before .before .before .before .read-tag .ensures) _ (c .before .before .opened .given .1) .inside
+read-list-part-part-end t c = let a = c .before .before .before .before .before .before .before .before .before .before .before .before .before .before .before .before .before .before .before .before .args in tag-open (orderOf (a .order)) (now (a .classes)) (a .depths) (ownerOf (a .owner)) (a .at .0) (now (a .room)) (now (a .table)) (a .from) (now (a .rows)) (a .row) (c .before .before .before .before .before .before .before .before .before .before .before .before .before .before .before .loop .inv) (c .before .before .before .before .before .before .before .before .before .before .before .before .before .if1 .taken) (c .before .before .before .before .before .before .before .before .read-tag .result) refl (c .before .before .before .before .before .before .before .before .read-tag .ensures) _ (c .before .before .opened .given .1) .inside
 
 read-list-sub-less : (t : ℕ) → read-list-lts.Need-sub-less (calls t) (read-list-at t) read-list.Post read-list-Inv-loop read-list-μ-loop
-read-list-sub-less t c = let a = c .before .before .before .before .before .before .before .before .before .before .before .before .before .before .before .before .before .before .before .before .before .before .before .args in tag-open (orderOf (a .order)) (a .scope) (a .level) (a .depths) (ownerOf (a .owner)) (a .at .0) (now (a .room)) (now (a .table)) (a .from) (now (a .rows)) (a .row) (c .before .before .before .before .before .before .before .before .before .before .before .before .before .before .before .before .before .before .loop .inv) (c .before .before .before .before .before .before .before .before .before .before .before .before .before .before .before .before .if1 .taken) (c .before .before .before .before .before .before .before .read-tag .result) (class-named t (c .before .before .before .before .before .before .before .before)) (c .before .before .before .before .before .before .before .read-tag .ensures) _ (c .before .opened .given .1) .deep
+read-list-sub-less t c = let a = c .before .before .before .before .before .before .before .before .before .before .before .before .before .before .before .before .before .before .before .args in tag-open (orderOf (a .order)) (now (a .classes)) (a .depths) (ownerOf (a .owner)) (a .at .0) (now (a .room)) (now (a .table)) (a .from) (now (a .rows)) (a .row) (c .before .before .before .before .before .before .before .before .before .before .before .before .before .before .loop .inv) (c .before .before .before .before .before .before .before .before .before .before .before .before .if1 .taken) (c .before .before .before .before .before .before .before .read-tag .result) refl (c .before .before .before .before .before .before .before .read-tag .ensures) _ (c .before .opened .given .1) .deep
 
 read-list-add-start : (t : ℕ) → read-list-lts.Need-add-start (calls t) (read-list-at t) read-list.Post read-list-Inv-loop read-list-μ-loop
-read-list-add-start t c = let a = c .before .before .before .before .before .before .before .before .before .before .before .before .before .before .before .before .before .before .before .before .before .before .before .before .args in omega (arith, tag-open (orderOf (a .order)) (a .scope) (a .level) (a .depths) (ownerOf (a .owner)) (a .at .0) (now (a .room)) (now (a .table)) (a .from) (now (a .rows)) (a .row) (c .before .before .before .before .before .before .before .before .before .before .before .before .before .before .before .before .before .before .before .loop .inv) (c .before .before .before .before .before .before .before .before .before .before .before .before .before .before .before .before .before .if1 .taken) (c .before .before .before .before .before .before .before .before .read-tag .result) (class-named t (c .before .before .before .before .before .before .before .before .before)) (c .before .before .before .before .before .before .before .before .read-tag .ensures) _ (c .before .before .opened .given .1) .order, tag-open (orderOf (a .order)) (a .scope) (a .level) (a .depths) (ownerOf (a .owner)) (a .at .0) (now (a .room)) (now (a .table)) (a .from) (now (a .rows)) (a .row) (c .before .before .before .before .before .before .before .before .before .before .before .before .before .before .before .before .before .before .before .loop .inv) (c .before .before .before .before .before .before .before .before .before .before .before .before .before .before .before .before .before .if1 .taken) (c .before .before .before .before .before .before .before .before .read-tag .result) (class-named t (c .before .before .before .before .before .before .before .before .before)) (c .before .before .before .before .before .before .before .before .read-tag .ensures) _ (c .before .before .opened .given .1) .inside, c .before .before .before .before .before .before .before .before .before .before .before .before .before .before .before .before .before .before .before .before .before .before .before .before .pre .1 .place)
+read-list-add-start t c = let a = c .before .before .before .before .before .before .before .before .before .before .before .before .before .before .before .before .before .before .before .before .args in omega (arith, tag-open (orderOf (a .order)) (now (a .classes)) (a .depths) (ownerOf (a .owner)) (a .at .0) (now (a .room)) (now (a .table)) (a .from) (now (a .rows)) (a .row) (c .before .before .before .before .before .before .before .before .before .before .before .before .before .before .before .loop .inv) (c .before .before .before .before .before .before .before .before .before .before .before .before .before .if1 .taken) (c .before .before .before .before .before .before .before .before .read-tag .result) refl (c .before .before .before .before .before .before .before .before .read-tag .ensures) _ (c .before .before .opened .given .1) .order, tag-open (orderOf (a .order)) (now (a .classes)) (a .depths) (ownerOf (a .owner)) (a .at .0) (now (a .room)) (now (a .table)) (a .from) (now (a .rows)) (a .row) (c .before .before .before .before .before .before .before .before .before .before .before .before .before .before .before .loop .inv) (c .before .before .before .before .before .before .before .before .before .before .before .before .before .if1 .taken) (c .before .before .before .before .before .before .before .before .read-tag .result) refl (c .before .before .before .before .before .before .before .before .read-tag .ensures) _ (c .before .before .opened .given .1) .inside, c .before .before .before .before .before .before .before .before .before .before .before .before .before .before .before .before .before .before .before .before .pre .1 .1 .place)
 
 read-list-read-list-requires : (t : ℕ) → read-list-lts.Need-read-list-requires (calls t) (read-list-at t) read-list.Post read-list-Inv-loop read-list-μ-loop
-read-list-read-list-requires t c κs = let a = c .before .before .before .before .before .before .before .before .before .before .before .before .before .before .before .before .before .before .before .before .before .before .before .before .before .before .before .args in (omega (arith, c .before .before .before .before .before .before .before .before .before .before .before .before .before .before .before .before .before .before .before .before .before .before .before .before .before .before .before .pre .0, tag-open (orderOf (a .order)) (a .scope) (a .level) (a .depths) (ownerOf (a .owner)) (a .at .0) (now (a .room)) (now (a .table)) (a .from) (now (a .rows)) (a .row) (c .before .before .before .before .before .before .before .before .before .before .before .before .before .before .before .before .before .before .before .before .before .before .loop .inv) (c .before .before .before .before .before .before .before .before .before .before .before .before .before .before .before .before .before .before .before .before .if1 .taken) (c .before .before .before .before .before .before .before .before .before .before .before .read-tag .result) (class-named t (c .before .before .before .before .before .before .before .before .before .before .before .before)) (c .before .before .before .before .before .before .before .before .before .before .before .read-tag .ensures) _ (c .before .before .before .before .before .opened .given .1) .deep), open-bounds (orderOf (a .order)) (a .scope) (a .level) (a .depths) (ownerOf (a .owner)) (a .at .0) (now (a .room)) (now (a .table)) (a .from) (now (a .rows)) (a .row) (c .before .before .before .before .before .before .before .before .before .before .before .before .before .before .before .before .before .before .before .before .before .before .loop .inv) (c .before .before .before .before .before .before .before .before .before .before .before .before .before .before .before .before .before .before .before .before .if1 .taken) (c .before .before .before .before .before .before .before .before .before .before .before .read-tag .result) (class-named t (c .before .before .before .before .before .before .before .before .before .before .before .before)) (c .before .before .before .before .before .before .before .before .before .before .before .read-tag .ensures) _ (c .before .before .before .before .before .opened .given .1) (c .before .before .before .before .before .before .before .before .before .before .before .before .before .before .before .before .before .before .before .before .before .before .before .before .before .before .before .pre .1))
+read-list-read-list-requires t c κs = let a = c .before .before .before .before .before .before .before .before .before .before .before .before .before .before .before .before .before .before .before .before .before .before .before .args in (omega (arith, c .before .before .before .before .before .before .before .before .before .before .before .before .before .before .before .before .before .before .before .before .before .before .before .pre .0, tag-open (orderOf (a .order)) (now (a .classes)) (a .depths) (ownerOf (a .owner)) (a .at .0) (now (a .room)) (now (a .table)) (a .from) (now (a .rows)) (a .row) (c .before .before .before .before .before .before .before .before .before .before .before .before .before .before .before .before .before .before .loop .inv) (c .before .before .before .before .before .before .before .before .before .before .before .before .before .before .before .before .if1 .taken) (c .before .before .before .before .before .before .before .before .before .before .before .read-tag .result) refl (c .before .before .before .before .before .before .before .before .before .before .before .read-tag .ensures) _ (c .before .before .before .before .before .opened .given .1) .deep), (c .before .before .before .before .before .before .before .before .before .before .before .before .before .before .before .before .before .before .before .before .before .before .before .pre .1 .0, open-bounds (orderOf (a .order)) (now (a .classes)) (a .depths) (ownerOf (a .owner)) (a .at .0) (now (a .room)) (now (a .table)) (a .from) (now (a .rows)) (a .row) (c .before .before .before .before .before .before .before .before .before .before .before .before .before .before .before .before .before .before .loop .inv) (c .before .before .before .before .before .before .before .before .before .before .before .before .before .before .before .before .if1 .taken) (c .before .before .before .before .before .before .before .before .before .before .before .read-tag .result) refl (c .before .before .before .before .before .before .before .before .before .before .before .read-tag .ensures) _ (c .before .before .before .before .before .opened .given .1) (c .before .before .before .before .before .before .before .before .before .before .before .before .before .before .before .before .before .before .before .before .before .before .before .pre .1 .0) (c .before .before .before .before .before .before .before .before .before .before .before .before .before .before .before .before .before .before .before .before .before .before .before .pre .1 .1)))
 
 read-list-enum-known-x : (t : ℕ) → read-list-lts.Need-enum-known-x (calls t) (read-list-at t) read-list.Post read-list-Inv-loop read-list-μ-loop
 read-list-enum-known-x t c = search needs
@@ -159,34 +116,34 @@ read-list-enum-told : (t : ℕ) → read-list-lts.Need-enum-told (calls t) (read
 read-list-enum-told t c = search needs
 
 read-list-same-length-5 : (t : ℕ) → read-list-lts.Need-same-length-5 (calls t) (read-list-at t) read-list.Post read-list-Inv-loop read-list-μ-loop
-read-list-same-length-5 t c = let a = c .before .before .before .before .before .before .before .before .before .before .before .before .before .before .before .before .before .before .before .before .before .before .before .before .before .before .before .before .before .before .before .before .before .before .args in open-sizes (orderOf (a .order)) (a .scope) (a .level) (a .depths) (ownerOf (a .owner)) (a .at .0) (now (a .room)) (now (a .table)) (a .from) (now (a .rows)) (a .row) (c .before .before .before .before .before .before .before .before .before .before .before .before .before .before .before .before .before .before .before .before .before .before .before .before .before .before .before .before .before .loop .inv) (c .before .before .before .before .before .before .before .before .before .before .before .before .before .before .before .before .before .before .before .before .before .before .before .before .before .before .before .if1 .taken) (c .before .before .before .before .before .before .before .before .before .before .before .before .before .before .before .before .before .before .read-tag .result) (class-named t (c .before .before .before .before .before .before .before .before .before .before .before .before .before .before .before .before .before .before .before)) (c .before .before .before .before .before .before .before .before .before .before .before .before .before .before .before .before .before .before .read-tag .ensures) _ (c .before .before .before .before .before .before .before .before .before .before .before .before .opened .given .1) (c .before .before .before .before .before .before .read-list .result) (c .before .before .before .before .before .before .read-list .ensures) .0
+read-list-same-length-5 t c = let a = c .before .before .before .before .before .before .before .before .before .before .before .before .before .before .before .before .before .before .before .before .before .before .before .before .before .before .before .before .before .before .args in open-sizes (orderOf (a .order)) (now (a .classes)) (a .depths) (ownerOf (a .owner)) (a .at .0) (now (a .room)) (now (a .table)) (a .from) (now (a .rows)) (a .row) (c .before .before .before .before .before .before .before .before .before .before .before .before .before .before .before .before .before .before .before .before .before .before .before .before .before .loop .inv) (c .before .before .before .before .before .before .before .before .before .before .before .before .before .before .before .before .before .before .before .before .before .before .before .if1 .taken) (c .before .before .before .before .before .before .before .before .before .before .before .before .before .before .before .before .before .before .read-tag .result) refl (c .before .before .before .before .before .before .before .before .before .before .before .before .before .before .before .before .before .before .read-tag .ensures) _ (c .before .before .before .before .before .before .before .before .before .before .before .before .opened .given .1) (c .before .before .before .before .before .before .read-list .result) (c .before .before .before .before .before .before .read-list .ensures) .0
 
 read-list-same-length-6 : (t : ℕ) → read-list-lts.Need-same-length-6 (calls t) (read-list-at t) read-list.Post read-list-Inv-loop read-list-μ-loop
-read-list-same-length-6 t c = let a = c .before .before .before .before .before .before .before .before .before .before .before .before .before .before .before .before .before .before .before .before .before .before .before .before .before .before .before .before .before .before .before .before .before .before .args in open-sizes (orderOf (a .order)) (a .scope) (a .level) (a .depths) (ownerOf (a .owner)) (a .at .0) (now (a .room)) (now (a .table)) (a .from) (now (a .rows)) (a .row) (c .before .before .before .before .before .before .before .before .before .before .before .before .before .before .before .before .before .before .before .before .before .before .before .before .before .before .before .before .before .loop .inv) (c .before .before .before .before .before .before .before .before .before .before .before .before .before .before .before .before .before .before .before .before .before .before .before .before .before .before .before .if1 .taken) (c .before .before .before .before .before .before .before .before .before .before .before .before .before .before .before .before .before .before .read-tag .result) (class-named t (c .before .before .before .before .before .before .before .before .before .before .before .before .before .before .before .before .before .before .before)) (c .before .before .before .before .before .before .before .before .before .before .before .before .before .before .before .before .before .before .read-tag .ensures) _ (c .before .before .before .before .before .before .before .before .before .before .before .before .opened .given .1) (c .before .before .before .before .before .before .read-list .result) (c .before .before .before .before .before .before .read-list .ensures) .1
+read-list-same-length-6 t c = let a = c .before .before .before .before .before .before .before .before .before .before .before .before .before .before .before .before .before .before .before .before .before .before .before .before .before .before .before .before .before .before .args in open-sizes (orderOf (a .order)) (now (a .classes)) (a .depths) (ownerOf (a .owner)) (a .at .0) (now (a .room)) (now (a .table)) (a .from) (now (a .rows)) (a .row) (c .before .before .before .before .before .before .before .before .before .before .before .before .before .before .before .before .before .before .before .before .before .before .before .before .before .loop .inv) (c .before .before .before .before .before .before .before .before .before .before .before .before .before .before .before .before .before .before .before .before .before .before .before .if1 .taken) (c .before .before .before .before .before .before .before .before .before .before .before .before .before .before .before .before .before .before .read-tag .result) refl (c .before .before .before .before .before .before .before .before .before .before .before .before .before .before .before .before .before .before .read-tag .ensures) _ (c .before .before .before .before .before .before .before .before .before .before .before .before .opened .given .1) (c .before .before .before .before .before .before .read-list .result) (c .before .before .before .before .before .before .read-list .ensures) .1
 
 read-list-returns-3 : (t : ℕ) → read-list-lts.Need-returns-3 (calls t) (read-list-at t) read-list.Post read-list-Inv-loop read-list-μ-loop
-read-list-returns-3 t c = let a = c .before .before .before .before .before .before .before .before .before .before .before .before .before .before .before .before .before .before .before .before .before .before .before .before .before .before .before .before .before .before .before .before .before .before .args in open-fault (orderOf (a .order)) (a .scope) (a .level) (a .depths) (ownerOf (a .owner)) (a .at .0) (now (a .room)) (now (a .table)) (a .from) (now (a .rows)) (a .row) (c .before .before .before .before .before .before .before .before .before .before .before .before .before .before .before .before .before .before .before .before .before .before .before .before .before .before .before .before .before .loop .inv) (c .before .before .before .before .before .before .before .before .before .before .before .before .before .before .before .before .before .before .before .before .before .before .before .before .before .before .before .if1 .taken) (c .before .before .before .before .before .before .before .before .before .before .before .before .before .before .before .before .before .before .read-tag .result) (class-named t (c .before .before .before .before .before .before .before .before .before .before .before .before .before .before .before .before .before .before .before)) (c .before .before .before .before .before .before .before .before .before .before .before .before .before .before .before .before .before .before .read-tag .ensures) _ (c .before .before .before .before .before .before .before .before .before .before .before .before .opened .given .1) (c .before .before .before .before .before .before .read-list .result) (c .before .before .before .before .before .before .read-list .ensures) (c .enum-told .given .1)
+read-list-returns-3 t c = let a = c .before .before .before .before .before .before .before .before .before .before .before .before .before .before .before .before .before .before .before .before .before .before .before .before .before .before .before .before .before .before .args in open-fault (orderOf (a .order)) (now (a .classes)) (a .depths) (ownerOf (a .owner)) (a .at .0) (now (a .room)) (now (a .table)) (a .from) (now (a .rows)) (a .row) (c .before .before .before .before .before .before .before .before .before .before .before .before .before .before .before .before .before .before .before .before .before .before .before .before .before .loop .inv) (c .before .before .before .before .before .before .before .before .before .before .before .before .before .before .before .before .before .before .before .before .before .before .before .if1 .taken) (c .before .before .before .before .before .before .before .before .before .before .before .before .before .before .before .before .before .before .read-tag .result) refl (c .before .before .before .before .before .before .before .before .before .before .before .before .before .before .before .before .before .before .read-tag .ensures) _ (c .before .before .before .before .before .before .before .before .before .before .before .before .opened .given .1) (c .before .before .before .before .before .before .read-list .result) (c .before .before .before .before .before .before .read-list .ensures) (c .enum-told .given .1)
 
 read-list-loop-less-2 : (t : ℕ) → read-list-lts.Need-loop-less-2 (calls t) (read-list-at t) read-list.Post read-list-Inv-loop read-list-μ-loop
-read-list-loop-less-2 t c = let a = c .before .before .before .before .before .before .before .before .before .before .before .before .before .before .before .before .before .before .before .before .before .before .before .before .before .before .before .before .before .before .before .before .before .before .before .before .args in omega (arith, tag-open (orderOf (a .order)) (a .scope) (a .level) (a .depths) (ownerOf (a .owner)) (a .at .0) (now (a .room)) (now (a .table)) (a .from) (now (a .rows)) (a .row) (c .before .before .before .before .before .before .before .before .before .before .before .before .before .before .before .before .before .before .before .before .before .before .before .before .before .before .before .before .before .before .before .loop .inv) (c .before .before .before .before .before .before .before .before .before .before .before .before .before .before .before .before .before .before .before .before .before .before .before .before .before .before .before .before .before .if1 .taken) (c .before .before .before .before .before .before .before .before .before .before .before .before .before .before .before .before .before .before .before .before .read-tag .result) (class-named t (c .before .before .before .before .before .before .before .before .before .before .before .before .before .before .before .before .before .before .before .before .before)) (c .before .before .before .before .before .before .before .before .before .before .before .before .before .before .before .before .before .before .before .before .read-tag .ensures) _ (c .before .before .before .before .before .before .before .before .before .before .before .before .before .before .opened .given .1) .ahead, tag-open (orderOf (a .order)) (a .scope) (a .level) (a .depths) (ownerOf (a .owner)) (a .at .0) (now (a .room)) (now (a .table)) (a .from) (now (a .rows)) (a .row) (c .before .before .before .before .before .before .before .before .before .before .before .before .before .before .before .before .before .before .before .before .before .before .before .before .before .before .before .before .before .before .before .loop .inv) (c .before .before .before .before .before .before .before .before .before .before .before .before .before .before .before .before .before .before .before .before .before .before .before .before .before .before .before .before .before .if1 .taken) (c .before .before .before .before .before .before .before .before .before .before .before .before .before .before .before .before .before .before .before .before .read-tag .result) (class-named t (c .before .before .before .before .before .before .before .before .before .before .before .before .before .before .before .before .before .before .before .before .before)) (c .before .before .before .before .before .before .before .before .before .before .before .before .before .before .before .before .before .before .before .before .read-tag .ensures) _ (c .before .before .before .before .before .before .before .before .before .before .before .before .before .before .opened .given .1) .inside)
+read-list-loop-less-2 t c = let a = c .before .before .before .before .before .before .before .before .before .before .before .before .before .before .before .before .before .before .before .before .before .before .before .before .before .before .before .before .before .before .before .before .args in omega (arith, tag-open (orderOf (a .order)) (now (a .classes)) (a .depths) (ownerOf (a .owner)) (a .at .0) (now (a .room)) (now (a .table)) (a .from) (now (a .rows)) (a .row) (c .before .before .before .before .before .before .before .before .before .before .before .before .before .before .before .before .before .before .before .before .before .before .before .before .before .before .before .loop .inv) (c .before .before .before .before .before .before .before .before .before .before .before .before .before .before .before .before .before .before .before .before .before .before .before .before .before .if1 .taken) (c .before .before .before .before .before .before .before .before .before .before .before .before .before .before .before .before .before .before .before .before .read-tag .result) refl (c .before .before .before .before .before .before .before .before .before .before .before .before .before .before .before .before .before .before .before .before .read-tag .ensures) _ (c .before .before .before .before .before .before .before .before .before .before .before .before .before .before .opened .given .1) .ahead, tag-open (orderOf (a .order)) (now (a .classes)) (a .depths) (ownerOf (a .owner)) (a .at .0) (now (a .room)) (now (a .table)) (a .from) (now (a .rows)) (a .row) (c .before .before .before .before .before .before .before .before .before .before .before .before .before .before .before .before .before .before .before .before .before .before .before .before .before .before .before .loop .inv) (c .before .before .before .before .before .before .before .before .before .before .before .before .before .before .before .before .before .before .before .before .before .before .before .before .before .if1 .taken) (c .before .before .before .before .before .before .before .before .before .before .before .before .before .before .before .before .before .before .before .before .read-tag .result) refl (c .before .before .before .before .before .before .before .before .before .before .before .before .before .before .before .before .before .before .before .before .read-tag .ensures) _ (c .before .before .before .before .before .before .before .before .before .before .before .before .before .before .opened .given .1) .inside)
 
 read-list-loop-again-2 : (t : ℕ) → read-list-lts.Need-loop-again-2 (calls t) (read-list-at t) read-list.Post read-list-Inv-loop read-list-μ-loop
-read-list-loop-again-2 t c = let a = c .before .before .before .before .before .before .before .before .before .before .before .before .before .before .before .before .before .before .before .before .before .before .before .before .before .before .before .before .before .before .before .before .before .before .before .before .args in open-next (orderOf (a .order)) (a .scope) (a .level) (a .depths) (ownerOf (a .owner)) (a .at .0) (now (a .room)) (now (a .table)) (a .from) (now (a .rows)) (a .row) (c .before .before .before .before .before .before .before .before .before .before .before .before .before .before .before .before .before .before .before .before .before .before .before .before .before .before .before .before .before .before .before .loop .inv) (c .before .before .before .before .before .before .before .before .before .before .before .before .before .before .before .before .before .before .before .before .before .before .before .before .before .before .before .before .before .if1 .taken) (c .before .before .before .before .before .before .before .before .before .before .before .before .before .before .before .before .before .before .before .before .read-tag .result) (class-named t (c .before .before .before .before .before .before .before .before .before .before .before .before .before .before .before .before .before .before .before .before .before)) (c .before .before .before .before .before .before .before .before .before .before .before .before .before .before .before .before .before .before .before .before .read-tag .ensures) _ (c .before .before .before .before .before .before .before .before .before .before .before .before .before .before .opened .given .1) (c .before .before .before .before .before .before .before .before .read-list .result) (c .before .before .before .before .before .before .before .before .read-list .ensures) (c .before .before .x .given .1) .1
+read-list-loop-again-2 t c = let a = c .before .before .before .before .before .before .before .before .before .before .before .before .before .before .before .before .before .before .before .before .before .before .before .before .before .before .before .before .before .before .before .before .args in open-next (orderOf (a .order)) (now (a .classes)) (a .depths) (ownerOf (a .owner)) (a .at .0) (now (a .room)) (now (a .table)) (a .from) (now (a .rows)) (a .row) (c .before .before .before .before .before .before .before .before .before .before .before .before .before .before .before .before .before .before .before .before .before .before .before .before .before .before .before .loop .inv) (c .before .before .before .before .before .before .before .before .before .before .before .before .before .before .before .before .before .before .before .before .before .before .before .before .before .if1 .taken) (c .before .before .before .before .before .before .before .before .before .before .before .before .before .before .before .before .before .before .before .before .read-tag .result) refl (c .before .before .before .before .before .before .before .before .before .before .before .before .before .before .before .before .before .before .before .before .read-tag .ensures) _ (c .before .before .before .before .before .before .before .before .before .before .before .before .before .before .opened .given .1) (c .before .before .before .before .before .before .before .before .read-list .result) (c .before .before .before .before .before .before .before .before .read-list .ensures) (c .before .before .x .given .1) .1
 
 read-list-add-over : (t : ℕ) → read-list-lts.Need-add-over (calls t) (read-list-at t) read-list.Post read-list-Inv-loop read-list-μ-loop
-read-list-add-over t c = omega (arith, c .before .before .before .before .before .before .before .before .pre .1 .place)
+read-list-add-over t c = omega (arith, c .before .before .before .before .before .before .before .before .pre .1 .1 .place)
 
 read-list-blame-requires : (t : ℕ) → read-list-lts.Need-blame-requires (calls t) (read-list-at t) read-list.Post read-list-Inv-loop read-list-μ-loop
 read-list-blame-requires t c κs = search needs
 
 read-list-same-length-7 : (t : ℕ) → read-list-lts.Need-same-length-7 (calls t) (read-list-at t) read-list.Post read-list-Inv-loop read-list-μ-loop
-read-list-same-length-7 t c = let a = c .before .before .before .before .before .before .before .before .before .args in passed-table (orderOf (a .order)) (a .scope) (a .level) (a .depths) (ownerOf (a .owner)) (a .at .0) (now (a .room)) (now (a .table)) (a .from) (now (a .rows)) (a .row) _ (c .before .before .before .before .loop .inv .passed)
+read-list-same-length-7 t c = let a = c .before .before .before .before .before .before .before .before .before .args in passed-table (orderOf (a .order)) (now (a .classes)) (a .depths) (ownerOf (a .owner)) (a .at .0) (now (a .room)) (now (a .table)) (a .from) (now (a .rows)) (a .row) _ (c .before .before .before .before .loop .inv .passed)
 
 read-list-same-length-8 : (t : ℕ) → read-list-lts.Need-same-length-8 (calls t) (read-list-at t) read-list.Post read-list-Inv-loop read-list-μ-loop
-read-list-same-length-8 t c = let a = c .before .before .before .before .before .before .before .before .before .args in passed-rows (orderOf (a .order)) (a .scope) (a .level) (a .depths) (ownerOf (a .owner)) (a .at .0) (now (a .room)) (now (a .table)) (a .from) (now (a .rows)) (a .row) _ (c .before .before .before .before .loop .inv .passed)
+read-list-same-length-8 t c = let a = c .before .before .before .before .before .before .before .before .before .args in passed-rows (orderOf (a .order)) (now (a .classes)) (a .depths) (ownerOf (a .owner)) (a .at .0) (now (a .room)) (now (a .table)) (a .from) (now (a .rows)) (a .row) _ (c .before .before .before .before .loop .inv .passed)
 
 read-list-returns-4 : (t : ℕ) → read-list-lts.Need-returns-4 (calls t) (read-list-at t) read-list.Post read-list-Inv-loop read-list-μ-loop
-read-list-returns-4 t c = let a = c .before .before .before .before .before .before .before .before .before .args in used-up (orderOf (a .order)) (a .scope) (a .level) (a .depths) (ownerOf (a .owner)) (a .at .0) (now (a .room)) (now (a .table)) (a .from) (now (a .rows)) (a .row) (c .before .before .before .before .loop .inv) (c .before .before .if1 .left) (c .blame .ensures)
+read-list-returns-4 t c = let a = c .before .before .before .before .before .before .before .before .before .args in used-up (orderOf (a .order)) (now (a .classes)) (a .depths) (ownerOf (a .owner)) (a .at .0) (now (a .room)) (now (a .table)) (a .from) (now (a .rows)) (a .row) (c .before .before .before .before .loop .inv) (c .before .before .if1 .left) (c .blame .ensures)
 
 pub +read-list-spec : {M : Type 1} → statement M
 +read-list-spec = close μ-read-list λ t. read-list-lts.spec (calls t)
@@ -194,18 +151,9 @@ pub +read-list-spec : {M : Type 1} → statement M
     read-list.Post
     read-list-Inv-loop
     read-list-μ-loop
-    (read-list-all-requires t)
     (read-list-loop-holds t)
     (read-list-add-tag t)
     (read-list-add-line t)
-    (read-list-code-at-requires t)
-    (read-list-cast-listed t)
-    (read-list-cast-listed-2 t)
-    (read-list-mul-listed t)
-    (read-list-index-1-listed t)
-    (read-list-index-2-listed t)
-    (read-list-at-level-requires t)
-    (read-list-taken-as-requires t)
     (read-list-read-tag-requires t)
     (read-list-enum-known-why t)
     (read-list-same-length t)

@@ -1,24 +1,20 @@
+-- `lists::read_tag` meets its contract: the header as it stands, the class of its code, and whether it passes.
+use Prim.Native.Nat.{_/_}
 use denote.Ref.{now}
-use mathlib.Core.Path.{refl}
+use mathlib.Core.Path.{refl, sym, ap, _∙_}
 use native.Mathlib.Omega.{arith}
 use lib.ListN.{drop}
 use Rattle.bits.specs.Places.{orderOf}
-use Rattle.headers.specs.Heads.{headBy}
-use Rattle.lists.proofs.StepLaws.{tag-none, tag-stands, tag-stop, tag-shown, list-fits}
+use Rattle.format.specs.FileAndTags.{le16}
+use Rattle.headers.proofs.HeadLaws.{coded-fits, stands-at, head-none, head-passes, head-fails}
+use Rattle.lists.specs.Lists.{tagAt, classIn}
+use Rattle.lists.proofs.StepLaws.{tag-none, tag-stands, tag-in}
 use borrow.Author.Needs.{needs}
 use Rattle.lists.proofs.read_tag.Statement.{statement}
 use Rattle.lists.proofs.read_tag.Tie as tie
-use Rattle.lists.proofs.read_tag.Reads as reads
-use Rattle.lists.proofs.read_tag.Lts as lts
-use Rattle.headers.proofs.read_head.Reads as read-head-reads
-use Rattle.lists.proofs.next_step.Reads as next-step-reads
-use Rattle.tags.proofs.show_row.Reads as show-row-reads
-use Rattle.tags.proofs.long_on_short.Reads as long-on-short-reads
-use Rattle.tags.proofs.state.Reads as state-reads
-use Rattle.tags.proofs.show_tag.Reads as show-tag-reads
 
-read-head-requires : tie.Need-read-head-requires
-read-head-requires c κs = search needs
+raw-head-requires : tie.Need-raw-head-requires
+raw-head-requires c κs = search needs
 
 enum-known-why : tie.Need-enum-known-why
 enum-known-why c = search needs
@@ -26,61 +22,35 @@ enum-known-why c = search needs
 enum-known-header : tie.Need-enum-known-header
 enum-known-header c = search needs
 
+cast-code : tie.Need-cast-code
+cast-code c = search needs
+
+shared-slice-read-class-numbered : tie.Need-shared-slice-read-class-numbered
+shared-slice-read-class-numbered c = omega (arith, coded-fits (c .before .before .before .before .before .raw-head .ensures .1) (c .before .before .before .header .given .1), c .before .before .before .before .before .before .before .before .before .before .pre .0)
+
+class-numbered-requires : tie.Need-class-numbered-requires
+class-numbered-requires c κs = search needs
+
 cast-start : tie.Need-cast-start
 cast-start c = search needs
 
 add-start : tie.Need-add-start
-add-start c = search needs
+add-start c = let a = c .before .before .before .before .before .before .before .before .before .before .before .before .before .args in omega (arith, (stands-at (now (a .room)) (a .place .0) (c .before .before .before .before .before .before .before .before .raw-head .ensures .0) (c .before .before .before .before .before .before .header .given .1)) .inside, c .before .before .before .before .before .before .before .before .before .before .before .before .before .pre .2, c .before .before .before .before .before .before .before .before .before .before .before .before .before .pre .3)
 
-cast-stop : tie.Need-cast-stop
-cast-stop c = search needs
+sub-head-fault : tie.Need-sub-head-fault
+sub-head-fault c = let a = c .before .before .before .before .before .before .before .before .before .before .before .before .before .args in omega (arith, (stands-at (now (a .room)) (a .place .0) (c .before .before .before .before .before .before .before .before .raw-head .ensures .0) (c .before .before .before .before .before .before .header .given .1)) .inside, c .before .before .before .before .before .before .before .before .before .before .before .before .before .pre .2)
 
-add-stop : tie.Need-add-stop
-add-stop c = search needs
-
-add-tag : tie.Need-add-tag
-add-tag c = search needs
-
-sub-show-row : tie.Need-sub-show-row
-sub-show-row c = search needs
-
-show-row-requires : tie.Need-show-row-requires
-show-row-requires c κs = search needs
-
-long-on-short-requires : tie.Need-long-on-short-requires
-long-on-short-requires c κs = search needs
-
-state-requires : tie.Need-state-requires
-state-requires c κs = search needs
-
-sub-show-tag : tie.Need-sub-show-tag
-sub-show-tag c = search needs
-
-part-show-tag-start : tie.Need-part-show-tag-start
-part-show-tag-start c = search needs
-
-part-show-tag-end : tie.Need-part-show-tag-end
-part-show-tag-end c = let a = c .before .before .before .before .before .before .before .before .before .before .before .before .before .before .before .before .args in tag-stands (orderOf (a .order)) (a .class) (a .depths) (a .at .0) (now (a .room)) (a .place .0) (now (a .table)) (a .from) (now (a .rows)) (a .row) (headBy (a .class) (a .depths) (drop (a .place .0) (now (a .room)))) (c .before .before .before .before .before .before .before .before .before .before .before .before .read-head .ensures) refl (c .before .before .before .before .before .before .before .before .before .before .header .given .1) (c .before .before .before .before .before .before .before .before .before .before .before .before .before .before .before .before .pre .1)
-
-show-tag-requires : tie.Need-show-tag-requires
-show-tag-requires c κs = search needs
-
-enum-known-why-2 : tie.Need-enum-known-why-2
-enum-known-why-2 c = search needs
-
-enum-known-next : tie.Need-enum-known-next
-enum-known-next c = search needs
-
-add-list : tie.Need-add-list
-add-list c =
-    let a = c .before .before .before .before .before .before .before .before .before .before .before .before .before .before .before .before .before .before .before .before .before .before .before .before .before .args in
-    omega (arith, list-fits (orderOf (a .order)) (a .class) (a .depths) (a .at .0) (now (a .room)) (a .place .0) (now (a .table)) (a .from) (now (a .rows)) (a .row) (headBy (a .class) (a .depths) (drop (a .place .0) (now (a .room)))) (c .before .before .before .before .before .before .before .before .before .before .before .before .before .before .before .before .before .before .before .before .before .read-head .ensures) (c .before .before .before .before .before .before .show-tag .result) (c .before .before .before .before .before .before .before .before .before .before .before .before .before .before .before .before .before .before .before .header .given .1) refl refl refl (c .before .before .before .before .before .before .before .before .before .before .before .before .before .show-row .ensures) (c .before .before .before .before .before .before .before .before .before .before .long-on-short .ensures) (c .before .before .before .before .before .before .before .before .before .state .ensures) (c .before .before .before .before .before .before .show-tag .ensures) refl (c .before .before .before .before .before .before .before .before .before .before .before .before .before .before .before .before .before .before .before .before .before .before .before .before .before .pre .1) (c .before .before .next .given .1), c .before .before .before .before .before .before .before .before .before .before .before .before .before .before .before .before .before .before .before .before .before .before .before .before .before .pre .2)
-
-next-step-requires : tie.Need-next-step-requires
-next-step-requires c κs = search needs
+head-fault-requires : tie.Need-head-fault-requires
+head-fault-requires c κs = search needs
 
 returns : tie.Need-returns
-returns c = let a = c .before .before .before .before .before .before .before .args in tag-none (orderOf (a .order)) (a .class) (a .depths) (a .at .0) (now (a .room)) (a .place .0) (now (a .table)) (a .from) (now (a .rows)) (a .row) (headBy (a .class) (a .depths) (drop (a .place .0) (now (a .room)))) (c .before .before .before .read-head .ensures) (c .before .why .given .1)
+returns c = let a = c .before .before .before .before .before .before .before .before .before .before .before .before .before .before .before .args in tag-in (orderOf (a .order)) (now (a .classes)) (a .depths) (a .at .0) (now (a .room)) (a .place .0) (now (a .table)) (a .from) (now (a .rows)) (a .row) (c .before .before .before .before .class-numbered .ensures) ((stands-at (now (a .room)) (a .place .0) (c .before .before .before .before .before .before .before .before .before .before .raw-head .ensures .0) (c .before .before .before .before .before .before .before .before .header .given .1)) .coded) (tag-none (orderOf (a .order)) (c .before .before .before .before .class-numbered .result) (a .depths) (a .at .0) (now (a .room)) (a .place .0) (now (a .table)) (a .from) (now (a .rows)) (a .row) (head-fails (c .before .before .before .before .class-numbered .result) (a .depths) (now (a .room)) (a .place .0) (stands-at (now (a .room)) (a .place .0) (c .before .before .before .before .before .before .before .before .before .before .raw-head .ensures .0) (c .before .before .before .before .before .before .before .before .header .given .1)) refl (c .before .head-fault .ensures) (c .if1 .taken)))
+
+returns-2 : tie.Need-returns-2
+returns-2 c = let a = c .before .before .before .before .before .before .before .before .args in let C = classIn (now (a .classes)) (le16 (drop (a .place .0) (now (a .room))) / 64) in tag-none (orderOf (a .order)) C (a .depths) (a .at .0) (now (a .room)) (a .place .0) (now (a .table)) (a .from) (now (a .rows)) (a .row) (head-none (a .depths) (drop (a .place .0) (now (a .room))) C (c .before .before .before .raw-head .ensures .0) (c .before .why .given .1))
+
+show-tag-requires : tie.Need-show-tag-requires
+show-tag-requires c κs = let a = c .before .before .before .before .before .before .before .before .before .before .before .before .before .before .before .before .before .args in (c .before .before .before .before .before .before .before .before .before .before .before .before .before .before .before .before .before .pre .1, tag-stands (orderOf (a .order)) (c .before .before .before .before .before .before .class-numbered .result) (a .depths) (a .at .0) (now (a .room)) (a .place .0) (now (a .table)) (a .from) (now (a .rows)) (a .row) (head-passes (c .before .before .before .before .before .before .class-numbered .result) (a .depths) (now (a .room)) (a .place .0) (stands-at (now (a .room)) (a .place .0) (c .before .before .before .before .before .before .before .before .before .before .before .before .raw-head .ensures .0) (c .before .before .before .before .before .before .before .before .before .before .header .given .1)) refl (c .before .before .before .head-fault .ensures) (c .before .before .if1 .left)) (c .before .before .before .before .before .before .before .before .before .before .before .before .before .before .before .before .before .pre .2), c .before .before .before .before .before .before .before .before .before .before .before .before .before .before .before .before .before .pre .3, c .before .before .before .before .before .before .before .before .before .before .before .before .before .before .before .before .before .pre .4, c .before .before .before .before .before .before .before .before .before .before .before .before .before .before .before .before .before .pre .5)
 
 same-length : tie.Need-same-length
 same-length c = search needs
@@ -88,46 +58,26 @@ same-length c = search needs
 same-length-2 : tie.Need-same-length-2
 same-length-2 c = search needs
 
-returns-2 : tie.Need-returns-2
-returns-2 c = let a = c .before .before .before .before .before .before .before .before .before .before .before .before .before .before .before .before .before .before .before .before .before .before .before .before .args in tag-stop (orderOf (a .order)) (a .class) (a .depths) (a .at .0) (now (a .room)) (a .place .0) (now (a .table)) (a .from) (now (a .rows)) (a .row) (headBy (a .class) (a .depths) (drop (a .place .0) (now (a .room)))) (c .before .before .before .before .before .before .before .before .before .before .before .before .before .before .before .before .before .before .before .before .read-head .ensures) (c .before .before .before .before .before .show-tag .result) (c .before .before .before .before .before .before .before .before .before .before .before .before .before .before .before .before .before .before .header .given .1) refl refl refl (c .before .before .before .before .before .before .before .before .before .before .before .before .show-row .ensures) (c .before .before .before .before .before .before .before .before .before .long-on-short .ensures) (c .before .before .before .before .before .before .before .before .state .ensures) (c .before .before .before .before .before .show-tag .ensures) (c .before .why2 .given .1)
-
-same-length-3 : tie.Need-same-length-3
-same-length-3 c = search needs
-
-same-length-4 : tie.Need-same-length-4
-same-length-4 c = search needs
-
 returns-3 : tie.Need-returns-3
-returns-3 c = let a = c .before .before .before .before .before .before .before .before .before .before .before .before .before .before .before .before .before .before .before .before .before .before .before .before .before .before .args in tag-shown (orderOf (a .order)) (a .class) (a .depths) (a .at .0) (now (a .room)) (a .place .0) (now (a .table)) (a .from) (now (a .rows)) (a .row) (headBy (a .class) (a .depths) (drop (a .place .0) (now (a .room)))) (c .before .before .before .before .before .before .before .before .before .before .before .before .before .before .before .before .before .before .before .before .before .before .read-head .ensures) (c .before .before .before .before .before .before .before .show-tag .result) (c .before .before .before .before .before .before .before .before .before .before .before .before .before .before .before .before .before .before .before .before .header .given .1) refl refl refl (c .before .before .before .before .before .before .before .before .before .before .before .before .before .before .show-row .ensures) (c .before .before .before .before .before .before .before .before .before .before .before .long-on-short .ensures) (c .before .before .before .before .before .before .before .before .before .before .state .ensures) (c .before .before .before .before .before .before .before .show-tag .ensures) (c .before .before .before .next .given .1) (c .next-step .ensures)
+returns-3 c = let a = c .before .before .before .before .before .before .before .before .before .before .before .before .before .before .before .before .before .before .before .before .before .before .args in tag-in (orderOf (a .order)) (now (a .classes)) (a .depths) (a .at .0) (now (a .room)) (a .place .0) (now (a .table)) (a .from) (now (a .rows)) (a .row) (c .before .before .before .before .before .before .before .before .before .before .before .class-numbered .ensures) ((stands-at (now (a .room)) (a .place .0) (c .before .before .before .before .before .before .before .before .before .before .before .before .before .before .before .before .before .raw-head .ensures .0) (c .before .before .before .before .before .before .before .before .before .before .before .before .before .before .before .header .given .1)) .coded) (c .before .before .before .before .show-tag .ensures ∙ ap (tagAt (orderOf (a .order)) (c .before .before .before .before .before .before .before .before .before .before .before .class-numbered .result) (a .depths) (a .at .0) (now (a .room)) (a .place .0) (now (a .table)) (a .from) (now (a .rows)) (a .row)) (sym (head-passes (c .before .before .before .before .before .before .before .before .before .before .before .class-numbered .result) (a .depths) (now (a .room)) (a .place .0) (stands-at (now (a .room)) (a .place .0) (c .before .before .before .before .before .before .before .before .before .before .before .before .before .before .before .before .before .raw-head .ensures .0) (c .before .before .before .before .before .before .before .before .before .before .before .before .before .before .before .header .given .1)) refl (c .before .before .before .before .before .before .before .before .head-fault .ensures) (c .before .before .before .before .before .before .before .if1 .left))))
 
 pub read-tag-spec : {M : Type 1} → statement M
 read-tag-spec =
     tie.close
     (tie.spec
-    read-head-requires
+    raw-head-requires
     enum-known-why
     enum-known-header
+    cast-code
+    shared-slice-read-class-numbered
+    class-numbered-requires
     cast-start
     add-start
-    cast-stop
-    add-stop
-    add-tag
-    sub-show-row
-    show-row-requires
-    long-on-short-requires
-    state-requires
-    sub-show-tag
-    part-show-tag-start
-    part-show-tag-end
-    show-tag-requires
-    enum-known-why-2
-    enum-known-next
-    add-list
-    next-step-requires
+    sub-head-fault
+    head-fault-requires
     returns
+    show-tag-requires
+    returns-2
     same-length
     same-length-2
-    returns-2
-    same-length-3
-    same-length-4
     returns-3)

@@ -1,8 +1,9 @@
 use denote.Ref.{now}
-use mathlib.Core.Path.{refl}
+use mathlib.Core.Path.{refl, ap, _∙_}
+use Rattle.table.specs.State.{shownOver}
 use Rattle.bits.specs.Places.{orderOf}
 use Rattle.classes.specs.declared.Class.the-variants.{Opaque, End, Container, Fixed, Attributes}
-use Rattle.tags.proofs.TagLaws.{none-left, values-of}
+use Rattle.tags.proofs.TagLaws.{none-left, front-is, values-of}
 use borrow.Author.Needs.{needs}
 use Rattle.tags.proofs.read_tag_values.Statement.{statement}
 use Rattle.tags.proofs.read_tag_values.Tie as tie
@@ -10,7 +11,7 @@ use Rattle.tags.proofs.read_tag_values.Reads as reads
 use Rattle.tags.proofs.read_tag_values.Lts as lts
 use Rattle.bodies.proofs.read_body.Reads as read-body-reads
 use Rattle.tags.proofs.pack_bytes.Reads as pack-bytes-reads
-use Rattle.tags.proofs.read_front.Reads as read-front-reads
+use Rattle.bodies.proofs.read_to_end.Reads as read-to-end-reads
 
 enum-told : tie.Need-enum-told
 enum-told c = search needs
@@ -24,8 +25,8 @@ enum-told-2 c = search needs
 enum-told-3 : tie.Need-enum-told-3
 enum-told-3 c = search needs
 
-read-front-requires : tie.Need-read-front-requires
-read-front-requires c κs = search needs
+read-to-end-requires : tie.Need-read-to-end-requires
+read-to-end-requires c κs = search needs
 
 enum-told-4 : tie.Need-enum-told-4
 enum-told-4 c = search needs
@@ -52,7 +53,7 @@ same-length-2 : tie.Need-same-length-2
 same-length-2 c = search needs
 
 returns-3 : tie.Need-returns-3
-returns-3 c = let a = c .before .before .before .before .before .before .before .before .args in values-of (orderOf (a .order)) (now (a .body)) (now (a .table)) (a .from) (a .code) Container (c .before .before .before .before .enum-told3 .given .1) (c .before .before .read-front .ensures)
+returns-3 c = let a = c .before .before .before .before .before .before .before .before .args in values-of (orderOf (a .order)) (now (a .body)) (now (a .table)) (a .from) (a .code) Container (c .before .before .before .before .enum-told3 .given .1) (c .before .before .read-to-end .ensures ∙ ap (shownOver (now (a .table)) (a .from)) (front-is (orderOf (a .order)) (now (a .body)) (a .code)))
 
 same-length-3 : tie.Need-same-length-3
 same-length-3 c = search needs
@@ -74,7 +75,7 @@ read-tag-values-spec =
     pack-bytes-requires
     enum-told-2
     enum-told-3
-    read-front-requires
+    read-to-end-requires
     enum-told-4
     read-body-requires
     enum-told-5

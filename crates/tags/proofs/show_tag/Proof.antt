@@ -1,8 +1,13 @@
 use Prim.Native.Nat.{ℕ, _+_, _-_}
 use Rattle.bits.specs.Places.{orderOf}
 use denote.Ref.{now}
-use mathlib.Core.Path.{ap}
+use mathlib.Core.Path.{ap, _∙_}
+use mathlib.Core.Bool.{Bool}
 use native.Mathlib.Omega.{arith}
+use lib.ListN.{length}
+use Rattle.format.specs.Tests.{pick}
+use Rattle.format.specs.FileAndTags.{isRead, stateOf}
+use Rattle.classes.specs.Classes.{bare}
 use Rattle.tags.specs.Shown.{valuesOf}
 use Rattle.tags.proofs.TagLaws.{index-le, headed-stored, headed-out}
 use borrow.Author.Needs.{needs}
@@ -13,6 +18,8 @@ use Rattle.tags.proofs.show_tag.Lts as lts
 use Rattle.table.proofs.put.Reads as put-reads
 use Rattle.tags.proofs.index_behind.Reads as index-behind-reads
 use Rattle.tags.proofs.read_tag_values.Reads as read-tag-values-reads
+use Rattle.tags.proofs.long_on_short.Reads as long-on-short-reads
+use Rattle.tags.proofs.state.Reads as state-reads
 
 add-read-tag-values : tie.Need-add-read-tag-values
 add-read-tag-values c = search needs
@@ -25,7 +32,16 @@ same-length c = search needs
 
 returns : tie.Need-returns
 returns c = let a = c .before .before .before .before .before .before .before .args in
-    headed-out (now (a .table)) (a .from) (a .code) (a .state) (valuesOf (orderOf (a .order)) (a .class) (a .code) (now (a .body))) (c .before .before .before .read-tag-values .result) (c .before .before .before .read-tag-values .ensures) (c .if1 .taken)
+    headed-out (now (a .table)) (a .from) (a .code) (stateOf (bare (a .class)) (a .size) (length (now (a .body)))) (valuesOf (orderOf (a .order)) (a .class) (a .code) (now (a .body))) (c .before .before .before .read-tag-values .result) (c .before .before .before .read-tag-values .ensures) (c .if1 .taken)
+
+cast-long-on-short : tie.Need-cast-long-on-short
+cast-long-on-short c = search needs
+
+long-on-short-requires : tie.Need-long-on-short-requires
+long-on-short-requires c κs = search needs
+
+state-requires : tie.Need-state-requires
+state-requires c κs = search needs
 
 put-requires : tie.Need-put-requires
 put-requires c κs = search needs
@@ -47,8 +63,8 @@ add-put-3 c = search needs
 
 sub-put : tie.Need-sub-put
 sub-put c =
-    let a = c .before .before .before .before .before .before .before .before .before .before .before .before .before .before .before .before .before .args in
-    let shown = c .before .before .before .before .before .before .before .before .before .before .before .before .before .read-tag-values in
+    let a = c .before .before .before .before .before .before .before .before .before .before .before .before .before .before .before .before .before .before .before .args in
+    let shown = c .before .before .before .before .before .before .before .before .before .before .before .before .before .before .before .read-tag-values in
     omega (arith, c .index-behind .ensures, index-le (now (a .table)) (a .from + 3) (valuesOf (orderOf (a .order)) (a .class) (a .code) (now (a .body))) (shown .result) (shown .ensures))
 
 put-requires-3 : tie.Need-put-requires-3
@@ -59,10 +75,10 @@ same-length-2 c = search needs
 
 returns-2 : tie.Need-returns-2
 returns-2 c =
-    let a = c .before .before .before .before .before .before .before .before .before .before .before .before .before .before .before .before .before .before .before .before .args in
-    let shown = c .before .before .before .before .before .before .before .before .before .before .before .before .before .before .before .before .read-tag-values in
-    headed-stored (now (a .table)) (a .from) (a .code) (a .state) (valuesOf (orderOf (a .order)) (a .class) (a .code) (now (a .body))) (shown .result) (shown .ensures)
-    (c .before .before .before .before .before .before .before .before .before .before .before .put .ensures) (c .before .before .before .before .before .before .before .put2 .ensures) (ap (λ (z : ℕ). z - (a .from + 3)) (c .before .before .before .index-behind .ensures)) (c .before .before .put3 .ensures)
+    let a = c .before .before .before .before .before .before .before .before .before .before .before .before .before .before .before .before .before .before .before .before .before .before .args in
+    let shown = c .before .before .before .before .before .before .before .before .before .before .before .before .before .before .before .before .before .before .read-tag-values in
+    headed-stored (now (a .table)) (a .from) (a .code) (stateOf (bare (a .class)) (a .size) (length (now (a .body)))) (valuesOf (orderOf (a .order)) (a .class) (a .code) (now (a .body))) (shown .result) (shown .ensures)
+    (c .before .before .before .before .before .before .before .before .before .before .before .put .ensures) (c .before .before .before .before .before .before .before .before .before .before .before .before .before .state .ensures ∙ ap (λ (g : Bool). isRead (bare (a .class)) + pick g 2 0) (c .before .before .before .before .before .before .before .before .before .before .before .before .before .before .long-on-short .ensures)) (c .before .before .before .before .before .before .before .put2 .ensures) (ap (λ (z : ℕ). z - (a .from + 3)) (c .before .before .before .index-behind .ensures)) (c .before .before .put3 .ensures)
 
 pub show-tag-spec : {M : Type 1} → statement M
 show-tag-spec =
@@ -72,6 +88,9 @@ show-tag-spec =
     read-tag-values-requires
     same-length
     returns
+    cast-long-on-short
+    long-on-short-requires
+    state-requires
     put-requires
     add-put
     put-requires-2

@@ -34,7 +34,7 @@ abbrev μ-loop : tie.MeasureT-loop
 at-tag : (c : tie.After-known-told Inv-loop μ-loop) → Found (c .before .before .before .before .before .before .before .before .before .before .args .order) (c .before .before .before .before .before .before .before .before .before .before .args .level) (now (c .before .before .before .before .before .before .before .before .before .before .args .file)) (c .before .before .before .before .before .before .before .before .before .before .args .tally .counts) (c .before .before .before .before .before .loop .counts) (c .before .before .before .before .before .loop .place) (c .before .header .given .0 .0)
 at-tag c =
     let a = c .before .before .before .before .before .before .before .before .before .before .args in
-    found (a .order) (a .level) (now (a .file)) (a .tally .counts) (c .before .before .before .before .before .loop .inv) (c .before .before .before .before .loop-test .taken) _ (c .before .before .before .raw-head .ensures) (c .before .before .before .before .before .before .before .before .before .before .pre .1) (c .before .header .given .1)
+    found (a .order) (a .level) (now (a .file)) (a .tally .counts) (c .before .before .before .before .before .loop .inv) (c .before .before .before .before .loop-test .taken) _ (c .before .before .before .raw-head .ensures .0) (c .before .before .before .before .before .before .before .before .before .before .pre .1) (c .before .header .given .1)
 
 -- and the next one's place
 next-is : (c : tie.After-next-place Inv-loop μ-loop) → c .next-place .result ≡ nextBy (orderNamed (c .before .before .before .before .before .before .before .before .before .before .before .before .before .args .order)) (classAt (c .before .before .before .before .before .before .before .before .before .before .before .before .before .args .level) (c .before .before .before .before .header .given .0 .0 .code)) (c .before .before .before .before .header .given .0 .0 .code) (c .before .before .before .before .header .given .0 .0 .length) (c .before .before .before .before .before .before .before .before .loop .place + c .before .before .before .before .header .given .0 .0 .size) (now (c .before .before .before .before .before .before .before .before .before .before .before .before .before .args .file))
@@ -75,7 +75,7 @@ enum-told c = search needs
 returns : tie.Need-returns Inv-loop μ-loop
 returns c =
     let a = c .before .before .before .before .before .before .before .before .before .args in
-    absurd (never-cut (a .order) (a .level) (now (a .file)) (a .tally .counts) (c .before .before .before .before .loop .inv) (c .before .before .before .loop-test .taken) _ (c .before .before .raw-head .ensures) (c .enum-told .given .1))
+    absurd (never-cut (a .order) (a .level) (now (a .file)) (a .tally .counts) (c .before .before .before .before .loop .inv) (c .before .before .before .loop-test .taken) _ (c .before .before .raw-head .ensures .0) (c .enum-told .given .1))
 
 -- src/lib.rt:103:30
 cast-listed : tie.Need-cast-listed Inv-loop μ-loop

@@ -19,13 +19,24 @@ returns c =
     let a = c .before .before .args in
     ub-past (orderOf (a .order)) (now (a .bytes)) (a .at .0) (a .width) (omega arith)
 
-field-requires : tie.Need-field-requires
-field-requires c κs = (omega arith, c .before .before .pre .0 .1, c .before .before .pre .1, c .before .before .pre .2)
+add-if2 : tie.Need-add-if2
+add-if2 c = search needs
+
+field-in-byte-requires : tie.Need-field-in-byte-requires
+field-in-byte-requires c κs = search needs
 
 returns-2 : tie.Need-returns-2
 returns-2 c =
-    let a = c .before .before .before .args in
+    let a = c .before .before .before .before .args in
+    ub-in (orderOf (a .order)) (now (a .bytes)) (a .at .0) (a .width) (omega arith) (sym (c .field-in-byte .ensures))
+
+field-requires : tie.Need-field-requires
+field-requires c κs = search needs
+
+returns-3 : tie.Need-returns-3
+returns-3 c =
+    let a = c .before .before .before .before .args in
     ub-in (orderOf (a .order)) (now (a .bytes)) (a .at .0) (a .width) (omega arith) (sym (c .field .ensures .0))
 
 pub read-ub-spec : {M : Type 1} → statement M
-read-ub-spec = tie.close (tie.spec add-next mul-if1 returns field-requires returns-2)
+read-ub-spec = tie.close (tie.spec add-next mul-if1 returns add-if2 field-in-byte-requires returns-2 field-requires returns-3)
