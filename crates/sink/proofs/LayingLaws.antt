@@ -8,8 +8,8 @@ use native.Mathlib.Omega.{arith}
 use lib.ListN.{length, set, drop, length-drop, take-append-drop, drop-of-length-le}
 use lib.Seq.{sets}
 use lib.Pow.{pow-pos, pow-lt, pow-add, shr-lt}
-use lib.Dec.{eqb}
-use borrow.Author.Tests.{eq-eqb, ne-eqb, eqb-true, eqb-false}
+use lib.Dec.{eqb, ltb}
+use borrow.Author.Tests.{eq-eqb, ne-eqb, eqb-true, eqb-false, lt-ltb, le-ltb, ltb-true, ltb-false}
 use Rattle.bits.proofs.StoreLaws.{sets-out}
 use Rattle.format.specs.Bits.{Order, high, low, join}
 use Rattle.format.specs.Items.{skipped}
@@ -50,14 +50,38 @@ pub lay-none : (o : Order) (st : State) → lay o st [] ≡ st
 unfolding lay
 lay-none o st = refl
 
--- ---- a bit that fills its byte, and one that does not
-push-in : (o : Order) (u : List ℕ) (p a : ℕ) (b : Bool) → (p % 8 ≡ 7 → ⊥) → push o (mk u p a) b ≡ mk u (p + 1) (glue o (p % 8) 1 a (bit b))
+-- ---- a bit that fills its byte, and one that does not, with room for it and past the end
+push-in : (o : Order) (u : List ℕ) (p a : ℕ) (b : Bool) → p / 8 < length u → (p % 8 ≡ 7 → ⊥) → push o (mk u p a) b ≡ mk u (p + 1) (glue o (p % 8) 1 a (bit b))
 unfolding push
-push-in o u p a b h = rw (ne-eqb _ _ h)
+push-in o u p a b r h = rw (ne-eqb _ _ h, lt-ltb (p / 8) (length u) r)
 
 push-full : (o : Order) (u : List ℕ) (p a : ℕ) (b : Bool) → p % 8 ≡ 7 → push o (mk u p a) b ≡ mk (set u (p / 8) (glue o (p % 8) 1 a (bit b))) (p + 1) 0
 unfolding push
 push-full o u p a b h = rw (eq-eqb _ _ h)
+
+push-dropped : (o : Order) (u : List ℕ) (p a : ℕ) (b : Bool) → length u ≤ p / 8 → (p % 8 ≡ 7 → ⊥) → push o (mk u p a) b ≡ mk u (p + 1) 0
+unfolding push
+push-dropped o u p a b r h = rw (ne-eqb _ _ h, le-ltb (p / 8) (length u) r)
+
+push-past : (o : Order) (u : List ℕ) (p a : ℕ) (b : Bool) → length u ≤ p / 8 → push o (mk u p a) b ≡ mk u (p + 1) 0
+push-past o u p a b r = go (eqb (p % 8) 7) refl
+  where
+    go : (c : Bool) → eqb (p % 8) 7 ≡ c → push o (mk u p a) b ≡ mk u (p + 1) 0
+    go true e = push-full o u p a b (eqb-true (p % 8) 7 e) ∙ mk-eq (sets-out u (p / 8) (glue o (p % 8) 1 a (bit b) ∷ []) r) refl refl
+    go false e = push-dropped o u p a b r (eqb-false (p % 8) 7 e)
+
+-- past the end bits are dropped, and nothing waits
+lay-past : (o : Order) (u : List ℕ) (p : ℕ) (bs : List Bool) → length u ≤ p / 8 → lay o (mk u p 0) bs ≡ mk u (p + length bs) 0
+unfolding lay
+lay-past o u p [] r = mk-eq refl (sym (add-zero p)) refl
+lay-past o u p (b ∷ bs) r =
+    ap (λ (st : State). lay o st bs) (push-past o u p 0 b r) ∙ lay-past o u (p + 1) bs (omega arith) ∙ mk-eq refl (omega arith) refl
+
+pub lay-some-past : (o : Order) (u : List ℕ) (p a : ℕ) (bs : List Bool) → length u ≤ p / 8 → 0 < length bs → lay o (mk u p a) bs ≡ mk u (p + length bs) 0
+unfolding lay
+lay-some-past o u p a [] r h = absurd (omega arith)
+lay-some-past o u p a (b ∷ bs) r h =
+    ap (λ (st : State). lay o st bs) (push-past o u p a b r) ∙ lay-past o u (p + 1) bs (omega arith) ∙ mk-eq refl (omega arith) refl
 
 -- ---- what does not fill a byte waits; what does is stored
 first-bit : (o : Order) (n v : ℕ) → v < 2 ^ suc n → bit (eqb (first o n v) 1) ≡ first o n v
@@ -69,34 +93,46 @@ glue-first o p n a v h =
     let m : (p + 1) % 8 ≡ p % 8 + 1 = omega arith in
     rw m (glue-bit o (p % 8) n a (first o n v) (rest o n v)) ∙ ap (glue o (p % 8) (suc n) a) (join-rest o n v)
 
-pub lay-few : (o : Order) (u : List ℕ) (n p a v : ℕ) → p % 8 + n < 8 → v < 2 ^ n → lay o (mk u p a) (dig o n v) ≡ mk u (p + n) (glue o (p % 8) n a v)
+lay-few : (o : Order) (u : List ℕ) (n p a v : ℕ) → p / 8 < length u → p % 8 + n < 8 → v < 2 ^ n → lay o (mk u p a) (dig o n v) ≡ mk u (p + n) (glue o (p % 8) n a v)
 unfolding lay dig
-lay-few o u zero p a v h l = mk-eq refl (sym (add-zero p)) (let z : v ≡ 0 = omega (arith, rw pow-zero at l) in rw z (sym (glue-none o (p % 8) a)))
-lay-few o u (suc n) p a v h l =
-    ap (λ (st : State). lay o st (dig o n (rest o n v))) (push-in o u p a (eqb (first o n v) 1) (λ e. omega arith) ∙ mk-eq refl refl (ap (glue o (p % 8) 1 a) (first-bit o n v l)))
-    ∙ (lay-few o u n (p + 1) (glue o (p % 8) 1 a (first o n v)) (rest o n v) (omega arith) (rest-lt o n v l)
+lay-few o u zero p a v r h l = mk-eq refl (sym (add-zero p)) (let z : v ≡ 0 = omega (arith, rw pow-zero at l) in rw z (sym (glue-none o (p % 8) a)))
+lay-few o u (suc n) p a v r h l =
+    ap (λ (st : State). lay o st (dig o n (rest o n v))) (push-in o u p a (eqb (first o n v) 1) r (λ e. omega arith) ∙ mk-eq refl refl (ap (glue o (p % 8) 1 a) (first-bit o n v l)))
+    ∙ (lay-few o u n (p + 1) (glue o (p % 8) 1 a (first o n v)) (rest o n v) (omega arith) (omega arith) (rest-lt o n v l)
     ∙ mk-eq refl (omega arith) (glue-first o p n a v (omega arith)))
 
-pub lay-full : (o : Order) (u : List ℕ) (n p a v : ℕ) → p % 8 + suc n ≡ 8 → v < 2 ^ suc n → lay o (mk u p a) (dig o (suc n) v) ≡ mk (set u (p / 8) (glue o (p % 8) (suc n) a v)) (p + suc n) 0
+lay-filled : (o : Order) (u : List ℕ) (n p a v : ℕ) → p / 8 < length u → p % 8 + suc n ≡ 8 → v < 2 ^ suc n → lay o (mk u p a) (dig o (suc n) v) ≡ mk (set u (p / 8) (glue o (p % 8) (suc n) a v)) (p + suc n) 0
 unfolding lay dig
-lay-full o u zero p a v h l =
+lay-filled o u zero p a v r h l =
     push-full o u p a (eqb (first o 0 v) 1) (omega arith) ∙ mk-eq (ap (λ (x : ℕ). set u (p / 8) (glue o (p % 8) 1 a x)) (first-bit o 0 v l ∙ first-only o v l)) refl refl
   where
     first-only : (o : Order) (v : ℕ) → v < 2 ^ 1 → first o 0 v ≡ v
     first-only high v l = omega arith
     first-only low v l = omega arith
-lay-full o u (suc n) p a v h l =
+lay-filled o u (suc n) p a v r h l =
     let q : (p + 1) / 8 ≡ p / 8 = omega arith in
-    ap (λ (st : State). lay o st (dig o (suc n) (rest o (suc n) v))) (push-in o u p a (eqb (first o (suc n) v) 1) (λ e. omega arith) ∙ mk-eq refl refl (ap (glue o (p % 8) 1 a) (first-bit o (suc n) v l)))
-    ∙ (lay-full o u n (p + 1) (glue o (p % 8) 1 a (first o (suc n) v)) (rest o (suc n) v) (omega arith) (rest-lt o (suc n) v l)
+    ap (λ (st : State). lay o st (dig o (suc n) (rest o (suc n) v))) (push-in o u p a (eqb (first o (suc n) v) 1) r (λ e. omega arith) ∙ mk-eq refl refl (ap (glue o (p % 8) 1 a) (first-bit o (suc n) v l)))
+    ∙ (lay-filled o u n (p + 1) (glue o (p % 8) 1 a (first o (suc n) v)) (rest o (suc n) v) (omega arith) (omega arith) (rest-lt o (suc n) v l)
     ∙ mk-eq (ap₂ (set u) q (glue-first o p (suc n) a v (omega arith))) (omega arith) refl)
 
+-- a byte that is full, with room for it or past the end
+lay-full : (o : Order) (u : List ℕ) (n p a v : ℕ) → p % 8 + suc n ≡ 8 → v < 2 ^ suc n → lay o (mk u p a) (dig o (suc n) v) ≡ mk (set u (p / 8) (glue o (p % 8) (suc n) a v)) (p + suc n) 0
+lay-full o u n p a v h l = go (ltb (p / 8) (length u)) refl
+  where
+    go : (c : Bool) → ltb (p / 8) (length u) ≡ c → lay o (mk u p a) (dig o (suc n) v) ≡ mk (set u (p / 8) (glue o (p % 8) (suc n) a v)) (p + suc n) 0
+    go true e = lay-filled o u n p a v (ltb-true (p / 8) (length u) e) h l
+    go false e =
+        let r : length u ≤ p / 8 = ltb-false (p / 8) (length u) e in
+        lay-some-past o u p a (dig o (suc n) v) r (omega (arith, length-dig o (suc n) v))
+        ∙ mk-eq (sym (sets-out u (p / 8) (glue o (p % 8) (suc n) a v ∷ []) r)) (ap (λ (m : ℕ). p + m) (length-dig o (suc n) v)) refl
+
 -- ---- n bits x that wait from a whole byte on: what code that gathers bits does
-flow-start : (o : Order) (u : List ℕ) (p a w v : ℕ) → Holds p a → v < 2 ^ w → lay o (mk u p a) (dig o w v) ≡ lay o (mk u (p / 8 * 8) 0) (dig o (p % 8 + w) (glue o (p % 8) w a v))
-flow-start o u p a w v h l =
+flow-start : (o : Order) (u : List ℕ) (p a w v : ℕ) → p / 8 < length u → Holds p a → v < 2 ^ w → lay o (mk u p a) (dig o w v) ≡ lay o (mk u (p / 8 * 8) 0) (dig o (p % 8 + w) (glue o (p % 8) w a v))
+flow-start o u p a w v r h l =
     let z : p / 8 * 8 % 8 ≡ 0 = omega arith in
     let k : p / 8 * 8 % 8 + p % 8 < 8 = omega arith in
-    rw (dig-append o (p % 8) w a v h l, lay-append, lay-few o u (p % 8) (p / 8 * 8) 0 a k h)
+    let m : p / 8 * 8 / 8 < length u = omega arith in
+    rw (dig-append o (p % 8) w a v h l, lay-append, lay-few o u (p % 8) (p / 8 * 8) 0 a m k h)
     (ap (λ (st : State). lay o st (dig o w v)) (mk-eq refl (omega arith) (sym (rw z (glue-alone o (p % 8) a)))))
 
 -- a whole byte x of them is stored, and the others are the field y
@@ -110,10 +146,14 @@ flow-byte o u i n v x y s =
     (lay-full o u 7 (i * 8) 0 x (omega arith) (s .first)
     ∙ mk-eq (ap₂ (set u) (omega arith) (rw z (glue-alone o 8 x))) (omega arith) refl)
 
-pub flow-few : (o : Order) (u : List ℕ) (i n x : ℕ) {q : ℕ} → n < 8 → x < 2 ^ n → i * 8 + n ≡ q → lay o (mk u (i * 8) 0) (dig o n x) ≡ mk u q x
-flow-few o u i n x h l e =
+pub flow-few : (o : Order) (u : List ℕ) (i n x : ℕ) {q : ℕ} → i < length u → n < 8 → x < 2 ^ n → i * 8 + n ≡ q → lay o (mk u (i * 8) 0) (dig o n x) ≡ mk u q x
+flow-few o u i n x r h l e =
     let z : i * 8 % 8 ≡ 0 = omega arith in
-    lay-few o u n (i * 8) 0 x (omega arith) l ∙ mk-eq refl e (rw z (glue-alone o n x))
+    lay-few o u n (i * 8) 0 x (omega arith) (omega arith) l ∙ mk-eq refl e (rw z (glue-alone o n x))
+
+-- past the end
+pub flow-past : (o : Order) (u : List ℕ) (i n x : ℕ) {q : ℕ} → length u ≤ i → i * 8 + n ≡ q → lay o (mk u (i * 8) 0) (dig o n x) ≡ mk u q 0
+flow-past o u i n x r e = lay-past o u (i * 8) (dig o n x) (omega arith) ∙ mk-eq refl (ap (λ (m : ℕ). i * 8 + m) (length-dig o n x) ∙ e) refl
 
 -- ---- what stays true
 pub lay-place : (o : Order) (st : State) (bs : List Bool) → lay o st bs .place ≡ st .place + length bs
@@ -121,7 +161,9 @@ unfolding lay push
 lay-place o st [] = sym (add-zero _)
 lay-place o st (b ∷ bs) = lay-place o (push o st b) bs ∙ rw (one (eqb (st .place % 8) 7)) (omega arith)
   where
-    one : (c : Bool) → pick c (mk (set (st .bytes) (st .place / 8) (glue o (st .place % 8) 1 (st .part) (bit b))) (st .place + 1) 0) (mk (st .bytes) (st .place + 1) (glue o (st .place % 8) 1 (st .part) (bit b))) .place ≡ st .place + 1
+    one : (c : Bool)
+        → pick c (mk (set (st .bytes) (st .place / 8) (glue o (st .place % 8) 1 (st .part) (bit b))) (st .place + 1) 0)
+        (mk (st .bytes) (st .place + 1) (pick (ltb (st .place / 8) (length (st .bytes))) (glue o (st .place % 8) 1 (st .part) (bit b)) 0)) .place ≡ st .place + 1
     one true = refl
     one false = refl
 
@@ -130,15 +172,14 @@ bit-lt2 true = omega arith
 bit-lt2 false = omega arith
 
 push-ok : (o : Order) (u : List ℕ) (p a : ℕ) (b : Bool) → Holds p a → Holds (push o (mk u p a) b .place) (push o (mk u p a) b .part)
-push-ok o u p a b h = go (eqb (p % 8) 7) refl
+push-ok o u p a b h = go (eqb (p % 8) 7) refl (ltb (p / 8) (length u)) refl
   where
-    go : (c : Bool) → eqb (p % 8) 7 ≡ c → Holds (push o (mk u p a) b .place) (push o (mk u p a) b .part)
-    go true e =
-        let z : (p + 1) % 8 ≡ 0 = omega (arith, eqb-true (p % 8) 7 e) in
-        rw (push-full o u p a b (eqb-true (p % 8) 7 e), z, pow-zero) (omega arith)
-    go false e =
+    go : (c : Bool) → eqb (p % 8) 7 ≡ c → (r : Bool) → ltb (p / 8) (length u) ≡ r → Holds (push o (mk u p a) b .place) (push o (mk u p a) b .part)
+    go true e r f = rw (push-full o u p a b (eqb-true (p % 8) 7 e)) (pow-pos ((p + 1) % 8))
+    go false e true f =
         let z : (p + 1) % 8 ≡ p % 8 + 1 = omega (arith, eqb-false (p % 8) 7 e) in
-        rw (push-in o u p a b (eqb-false (p % 8) 7 e), z) (glue-lt o (p % 8) 1 a (bit b) h (bit-lt2 b))
+        rw (push-in o u p a b (ltb-true (p / 8) (length u) f) (eqb-false (p % 8) 7 e), z) (glue-lt o (p % 8) 1 a (bit b) h (bit-lt2 b))
+    go false e false f = rw (push-past o u p a b (ltb-false (p / 8) (length u) f)) (pow-pos ((p + 1) % 8))
 
 pub lay-ok : (o : Order) (st : State) (bs : List Bool) → Holds (st .place) (st .part) → Holds (lay o st bs .place) (lay o st bs .part)
 unfolding lay
@@ -166,8 +207,8 @@ flow-next o u i n v x y h s d =
     let c : n ≡ 8 + (n - 8) = omega arith in
     rw d (ap (λ (j : ℕ). lay o (mk u (i * 8) 0) (dig o j v)) c ∙ flow-byte o u i (n - 8) v x y s)
 
-pub flow-done : (o : Order) (u : List ℕ) (p a w v x : ℕ) {st : State} → Holds p a → v < 2 ^ w → x ≡ glue o (p % 8) w a v → lay o (mk u (p / 8 * 8) 0) (dig o (p % 8 + w) x) ≡ st → st ≡ lay o (mk u p a) (dig o w v)
-flow-done o u p a w v x h l e d = sym (flow-start o u p a w v h l ∙ rw (← e) d)
+pub flow-done : (o : Order) (u : List ℕ) (p a w v x : ℕ) {st : State} → p / 8 < length u → Holds p a → v < 2 ^ w → x ≡ glue o (p % 8) w a v → lay o (mk u (p / 8 * 8) 0) (dig o (p % 8 + w) x) ≡ st → st ≡ lay o (mk u p a) (dig o w v)
+flow-done o u p a w v x r h l e d = sym (flow-start o u p a w v r h l ∙ rw (← e) d)
 
 -- ---- the skip to a whole byte: none is skipped; or some are
 module _ (o : Order) (u : List ℕ) (p a : ℕ) {i q : ℕ} (h : Holds p a) (at : q ≡ p + skipped p) (whole : q ≡ 8 * i) where
@@ -207,19 +248,12 @@ lay-bytes-of o u i (suc k) bs h =
     ∙ lay-bytes-of o (set u i v) (suc i) k (drop 8 bs) (rw length-drop (omega arith))
     ∙ mk-eq refl (omega arith) refl
 
--- ---- past the end of the output
--- whole bytes are dropped, and what does not fill one waits
-pub flow-out : (o : Order) (u : List ℕ) (i n v x y : ℕ) {q : ℕ} → length u ≤ i → Split o (n / 8 * 8) (n % 8) v x y → i * 8 + n ≡ q → lay o (mk u (i * 8) 0) (dig o n v) ≡ mk u q y
-flow-out o u i n v x y h s d =
-    let c : n ≡ n / 8 * 8 + n % 8 = omega arith in
-    let bs : List Bool = dig o (n / 8 * 8) x in
-    let f : i * 8 ≡ 8 * i = omega arith in
-    let g : 8 * (i + n / 8) ≡ (i + n / 8) * 8 = omega arith in
-    let whole : lay o (mk u (i * 8) 0) bs ≡ mk u ((i + n / 8) * 8) 0 =
-    ap (λ (z : ℕ). lay o (mk u z 0) bs) f ∙ lay-bytes-of o u i (n / 8) bs (length-dig o (n / 8 * 8) x ∙ mul-comm (n / 8) 8)
-    ∙ mk-eq (sets-out u i (bytesOf o (n / 8) bs) h) g refl in
-    ap₂ (λ (j z : ℕ). lay o (mk u (i * 8) 0) (dig o j z)) c (s .glued)
-    ∙ ap (lay o (mk u (i * 8) 0)) (dig-append o (n / 8 * 8) (n % 8) x y (s .first) (s .last))
-    ∙ lay-append o (mk u (i * 8) 0) bs (dig o (n % 8) y)
-    ∙ ap (λ (st : State). lay o st (dig o (n % 8) y)) whole
-    ∙ flow-few o u (i + n / 8) (n % 8) y (omega arith) (s .last) (omega arith)
+-- ---- a field past the end of the output; and one of no bits
+pub field-past : (o : Order) (u : List ℕ) (p a w v : ℕ) {q : ℕ} → length u ≤ p / 8 → (w ≡ 0 → ⊥) → p + w ≡ q → mk u q 0 ≡ lay o (mk u p a) (dig o w v)
+field-past o u p a w v r n e =
+    let s : 0 < length (dig o w v) = omega (arith, length-dig o w v, n) in
+    sym (lay-some-past o u p a (dig o w v) r s ∙ mk-eq refl (ap (λ (m : ℕ). p + m) (length-dig o w v) ∙ e) refl)
+
+pub field-none : (o : Order) (st : State) (w v : ℕ) → w ≡ 0 → st ≡ lay o st (dig o w v)
+unfolding lay dig
+field-none o st w v e = rw e

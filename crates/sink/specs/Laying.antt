@@ -3,8 +3,8 @@ use Prim.Native.Nat.{ℕ, _+_, _*_, _/_, _%_, _^_, _<_}
 use mathlib.Core.Path.{_≡_}
 use mathlib.Core.List.{List, [], _∷_}
 use mathlib.Core.Bool.{Bool}
-use lib.ListN.{set}
-use lib.Dec.{eqb}
+use lib.ListN.{length, set}
+use lib.Dec.{eqb, ltb}
 use Rattle.format.specs.Tests.{pick}
 use Rattle.format.specs.Bits.{Order}
 use Rattle.format.specs.Items.{skipped}
@@ -25,12 +25,12 @@ mk u p a = record { bytes = u; place = p; part = a }
 abbrev pub at : List ℕ → Sink → State
 at u s = mk u (s .place .0) (s .part)
 
--- one bit more, behind those of the part; a byte that is full is stored, where there is room for it
+-- one bit more, behind those of the part; a byte that is full is stored, where there is room for it; past the end nothing waits
 unfoldable pub push : Order → State → Bool → State
 push o st b =
     pick (eqb (st .place % 8) 7)
     (mk (set (st .bytes) (st .place / 8) (glue o (st .place % 8) 1 (st .part) (bit b))) (st .place + 1) 0)
-    (mk (st .bytes) (st .place + 1) (glue o (st .place % 8) 1 (st .part) (bit b)))
+    (mk (st .bytes) (st .place + 1) (pick (ltb (st .place / 8) (length (st .bytes))) (glue o (st .place % 8) 1 (st .part) (bit b)) 0))
 
 unfoldable pub lay : Order → State → List Bool → State
 lay o st [] = st

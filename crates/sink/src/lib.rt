@@ -85,25 +85,29 @@ pub fn put_bits(order: Order, out: &mut [u8], sink: Sink, value: u64, width: usi
     requires { ⌜ Holds (sink .place .0) (sink .part) × (sink .place .0 ≤ 2 ^ 60) × (width ≤ 32) × (value < 2 ^ width) ⌝ }
     ensures { λ r. ⌜ under (now (out .exit)) r ≡ lay (orderOf order) (under (now (out .entry)) sink) (dig (orderOf order) width value) ⌝ }
 {
+    if width == 0 {
+        return sink;
+    }
     let at = sink.place.0;
+    let place = BitPlace(at + width);
+    // Past the end no byte is stored, and no bits wait for one: so the run that measures puts nothing together.
+    if out.len() <= at / 8 {
+        return Sink { place, part: 0 };
+    }
+    let mut i = at / 8;
     let begun = sink.part;
     let used = at % 8;
-    let mut i = at / 8;
     let mut count = used + width;
     let mut waiting = glue(order, begun, used, value, width);
-    let place = BitPlace(at + width);
-    // Past the end no byte is stored: only the bits that wait are left to know.
-    if out.len() <= i {
-        let rest = split(order, waiting, count / 8 * 8, count % 8);
-        let part = rest.last;
-        return Sink { place, part };
-    }
     while 8 <= count {
         count -= 8;
         let rest = split(order, waiting, 8, count);
         put_byte(out, i, rest.first);
         waiting = rest.last;
         i += 1;
+    }
+    if out.len() <= i {
+        return Sink { place, part: 0 };
     }
     Sink {
         place,

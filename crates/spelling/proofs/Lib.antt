@@ -6,3 +6,4 @@ pub mod ShiftLaws
 pub mod AlikeLaws
 pub mod EndLaws
 pub mod OneLaws
+pub mod ByteLaws

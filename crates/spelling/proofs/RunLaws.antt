@@ -27,7 +27,7 @@ use Rattle.sink.proofs.LayingLaws.{lay-append, lay-none, lay-place, lay-ok}
 use Rattle.spelling.specs.declared.Put.{Put}
 use Rattle.spelling.specs.declared.Put.the-variants.{Done, Impossible}
 use Rattle.spelling.specs.declared.Spelt.{Spelt}
-use Rattle.spelling.specs.declared.Spelt.the-variants.{In, No}
+use Rattle.spelling.specs.declared.Spelt.the-variants.{In}
 use Rattle.spelling.specs.Writing.{bitsOver, got, Seen, here, seen, ends, writtenOver, ran, limit, Fine, finish, OnByte}
 
 -- ---- where a format ends
@@ -164,6 +164,10 @@ module _ {o : Order} {t out : List ℕ} {s : Sink} {k : ℕ} {f : Format} {u : L
   going-over e = sym (going .rest ∙ ap (ran o t (at u cur) j) e ∙ ran-nothing o t (at u cur) j (going .fine .1))
 
 -- ---- one number: g p v are the bits of v from place p on
+abbrev pub bitsEnd : ℕ → Possible State → Possible Seen
+bitsEnd k (this st) = ends st k
+bitsEnd k cannot = cannot
+
 too-few : (o : Order) (f : Format) (g : ℕ → ℕ → Possible (List Bool)) → ((ns : List ℕ) (p : ℕ) → unrun o f ns p ≡ single (g p) ns) → (n : ℕ) (ns : List ℕ) (p : ℕ) → length ns < n → unrun o (times n f) ns p ≡ cannot
 unfolding unrun times
 too-few o f g is zero ns p h = absurd (omega arith)
@@ -219,6 +223,15 @@ module _ (o : Order) (f : Format) (g : ℕ → ℕ → Possible (List Bool)) (is
   unfolding ran writtenOver
   times-few n h = ap (writtenOver o st k) (too-few o f g is n (drop k t) (st .place) (rw length-drop h))
 
+  -- by the state after its bits
+  pub one-bits : {x : Possible State} → k < length t → x ≡ bitsOver o st (g (st .place) (getD t k 0)) → ran o t st k f ≡ bitsEnd (k + 1) x
+  unfolding writtenOver
+  one-bits {x} h e = one-some h ∙ go (g (st .place) (getD t k 0)) e
+    where
+      go : (b : Possible (List Bool)) → x ≡ bitsOver o st b → writtenOver o st k (put (getD t k 0 ∷ []) b (drop (suc k) t)) ≡ bitsEnd (k + 1) x
+      go (this bs) q = ap (bitsEnd (k + 1)) (sym q)
+      go cannot q = ap (bitsEnd (k + 1)) (sym q)
+
   pub one-in : (u : List ℕ) (R : Spelt) → k < length t → got u R ≡ bitsOver o st (g (st .place) (getD t k 0)) → (s : Sink) → R ≡ In s → ran o t st k f ≡ ends (at u s) (k + 1)
   unfolding writtenOver
   one-in u R h e s d = one-some h ∙ go (g (st .place) (getD t k 0)) (ap (got u) (sym d) ∙ e)
@@ -226,14 +239,6 @@ module _ (o : Order) (f : Format) (g : ℕ → ℕ → Possible (List Bool)) (is
       go : (b : Possible (List Bool)) → this (at u s) ≡ bitsOver o st b → writtenOver o st k (put (getD t k 0 ∷ []) b (drop (suc k) t)) ≡ ends (at u s) (k + 1)
       go (this bs) q = let z : lay o st bs ≡ at u s = cc in ap (λ (x : State). ends x (k + 1)) z
       go cannot q = clash cc
-
-  pub one-no : (u : List ℕ) (R : Spelt) → k < length t → got u R ≡ bitsOver o st (g (st .place) (getD t k 0)) → R ≡ No → ran o t st k f ≡ cannot
-  unfolding writtenOver
-  one-no u R h e d = one-some h ∙ go (g (st .place) (getD t k 0)) (ap (got u) (sym d) ∙ e)
-    where
-      go : (b : Possible (List Bool)) → cannot ≡ bitsOver o st b → writtenOver o st k (put (getD t k 0 ∷ []) b (drop (suc k) t)) ≡ cannot
-      go (this bs) q = clash cc
-      go cannot q = refl
 
   -- it used up one number, which has a spelling
   pub record OneDone (j : ℕ) : Type 0 where

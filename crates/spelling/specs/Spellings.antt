@@ -3,12 +3,16 @@ use Prim.Native.Nat.{ℕ, _*_, _-_, _≤_}
 use mathlib.Core.Path.{_≡_}
 use mathlib.Core.List.{List}
 use mathlib.Core.Bool.{Bool}
+use lib.Dec.{eqb}
 use lib.ListN.{take, drop}
+use Rattle.format.specs.Tests.{pick}
 use Rattle.format.specs.Bits.{Order}
-use Rattle.format.specs.Possible.{Possible}
+use Rattle.format.specs.Possible.{Possible, this, cannot}
 use Rattle.format.specs.WritingItems.{spellUB, spellVar, spellI32, spellLE}
 use Rattle.items.specs.declared.Item.{Item}
 use Rattle.items.specs.declared.Item.the-variants.{U32, I32, Time, Float, Byte, Enum, BlendMode, Count}
+use Rattle.sink.specs.Laying.{State, mk}
+use Rattle.spelling.specs.Writing.{Seen, here}
 use Rattle.table.specs.Fields.{announced}
 use Rattle.table.specs.declared.fields.Field.{Field}
 use Rattle.spelling.specs.declared.Put.{Put}
@@ -23,6 +27,14 @@ spellingOf o Byte v = spellUB o 8 v
 spellingOf o (Enum top) v = spellUB o 8 v
 spellingOf o BlendMode v = spellUB o 8 v
 spellingOf o (Count lo) v = spellVar o 15 v 4
+
+-- a number was put, and the byte place behind it is p; where p is 0 it has no spelling
+abbrev pub spelledTo : List ℕ → ℕ → Possible State
+spelledTo u p = pick (eqb p 0) cannot (this (mk u (8 * p) 0))
+
+-- so an item was put, and the index of the next value is k; where p is 0 no file has it
+abbrev pub writtenTo : List ℕ → ℕ → ℕ → Possible Seen
+writtenTo u p k = pick (eqb p 0) cannot (this (here (mk u (8 * p) 0) k))
 
 -- a run of n fields from index k of the values t announces m signed fields; nothing is said where no file has the run
 abbrev pub Announces : Field → List ℕ → ℕ → ℕ → Put → ℕ → Type 0

@@ -1,18 +1,21 @@
 // The values of a tag, written as the items of a body: each function goes on from a sink and an index, and says that no file has the values where they cannot be written.
 ghost use mathlib.Core.Path.{_≡_};
+ghost use Prim.Native.Nat.{_+_, _*_, _≤_};
 ghost use Rattle.items.specs.Kinds.{formatOf};
 ghost use Rattle.format.specs.Items.{skipped};
 ghost use Rattle.format.specs.WritingItems.{dig};
-ghost use Rattle.bits.specs.Places.{orderOf};
+ghost use Rattle.bits.specs.Places.{InEither, orderOf};
 ghost use Rattle.sink.specs.Lain.{lainAs};
-ghost use Rattle.sink.specs.Laying.{at as under, lay};
+ghost use Rattle.sink.specs.Laying.{mk, at as under, lay};
 ghost use Rattle.spelling.specs.Ends.{concluded, FineAfter};
+ghost use Rattle.spelling.specs.Spellings.{writtenTo};
 ghost use Rattle.spelling.specs.Writing.{seen, ran, finish, Fine};
 
 pub mod fields;
 mod numbers;
 pub mod text;
 
+use bits::BytePlace;
 use bits::Order;
 use items::Item;
 use sink::Body;
@@ -42,6 +45,26 @@ pub(crate) fn ended(sink: Sink, behind: usize) -> Put
     }
 }
 
+// One item in its range, from a whole byte on: the byte place behind it, or 0 where no file has it (see `numbers`).
+pub fn spell_next(kind: Item, out: &mut [u8], at: usize, values: &[u64], from: usize) -> usize
+    requires { ⌜ at ≤ 16777216 ⌝ }
+    ensures { λ r. ⌜ InEither (λ o. writtenTo (now (out .exit)) r (from + 1) ≡ ran o (now (values .entry)) (mk (now (out .entry)) (8 * at) 0) from (formatOf kind)) × (r ≤ 16777216) ⌝ }
+{
+    if values.len() <= from {
+        return 0;
+    }
+    let value = values[from];
+    if items::out_of_range(kind, value) != 0 {
+        return 0;
+    }
+    let next = numbers::spell_item(kind, out, at, value);
+    // No file is longer.
+    if 16777216 < next {
+        return 0;
+    }
+    next
+}
+
 // One item: in its range, on a whole byte.
 pub fn write_one(
     order: Order,
@@ -54,19 +77,13 @@ pub fn write_one(
     requires { ⌜ Fine sink ⌝ }
     ensures { λ r. ⌜ seen (now (out .exit)) r ≡ ran (orderOf order) (now (values .entry)) (under (now (out .entry)) sink) from (formatOf kind) ⌝ }
 {
-    if values.len() <= from {
-        return Put::Impossible;
-    }
-    let value = values[from];
-    if items::out_of_range(kind, value) != 0 {
-        return Put::Impossible;
-    }
     let start = sink::align(order, out, sink);
-    let r = numbers::spell_item(kind, out, start, value);
-    match r {
-        Spelt::In(next) => ended(next, from + 1),
-        Spelt::No => Put::Impossible,
+    let next = spell_next(kind, out, start.byte.0, values, from);
+    if next == 0 {
+        return Put::Impossible;
     }
+    let place = bits::first_bit(BytePlace(next));
+    Put::Done(Sink { place, part: 0 }, from + 1)
 }
 
 // Zero bits up to the next whole byte.

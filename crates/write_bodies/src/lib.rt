@@ -11,7 +11,6 @@ ghost use Rattle.sink.specs.Lain.{lies, lainAs};
 use bits::BytePlace;
 use bits::Order;
 use sink::Body;
-use sink::Sink;
 
 // What stands before a container's list, from a byte place on. No file is longer than 16,777,216 bytes.
 pub fn write_front(order: Order, code: u32, values: &[u64], out: &mut [u8], at: BytePlace) -> Body
@@ -21,9 +20,7 @@ pub fn write_front(order: Order, code: u32, values: &[u64], out: &mut [u8], at: 
     if 16777216 < at.0 {
         return Body::No;
     }
-    let place = bits::first_bit(at);
-    let sink = Sink { place, part: 0 };
-    let r = write_fixed::write_fixed(order, code, out, sink, values, 0);
+    let r = write_fixed::write_fixed(order, code, out, at, values, 0);
     spelling::conclude(order, r, values.len(), out)
 }
 

@@ -1,51 +1,48 @@
 // Bodies that are no attribute blocks, written: the constant rows of their items, walked by one writer; and font tables.
 ghost use mathlib.Core.Path.{_≡_};
-ghost use Prim.Native.Nat.{_≤_};
+ghost use Prim.Native.Nat.{_*_, _≤_};
 ghost use Rattle.format.specs.Formats.{times};
 ghost use Rattle.format.specs.Items.{string};
 ghost use Rattle.format.specs.Bodies.{fontTables};
 ghost use Rattle.fixed.specs.Fixed.{inOrder, itemsFrom, fixedOf};
-ghost use Rattle.bits.specs.Places.{orderOf};
-ghost use Rattle.sink.specs.Laying.{at as under};
+ghost use Rattle.bits.specs.Places.{InEither, orderOf};
+ghost use Rattle.sink.specs.Lain.{longest};
+ghost use Rattle.sink.specs.Laying.{mk, at as under};
 ghost use Rattle.spelling.specs.Writing.{seen, ran, Fine};
-use bits::BitPlace;
+use bits::BytePlace;
 use bits::Order;
 use items::Item;
 use sink::Sink;
 use spelling::Put;
 
-// The items from row start on, up to row end.
+// The items from row start on, up to row end: whole bytes, from a byte place on.
 fn write_items(
-    order: Order,
     start: usize,
     end: usize,
     out: &mut [u8],
-    sink: Sink,
+    at: BytePlace,
     values: &[u64],
     from: usize,
 ) -> Put
-    requires { ⌜ (start ≤ end) × (end ≤ 18) × Fine sink ⌝ }
-    ensures { λ r. ⌜ seen (now (out .exit)) r ≡ ran (orderOf order) (now (values .entry)) (under (now (out .entry)) sink) from (inOrder (itemsFrom start end)) ⌝ }
+    requires { ⌜ (start ≤ end) × (end ≤ 18) × (at .0 ≤ longest) ⌝ }
+    ensures { λ r. ⌜ InEither (λ o. seen (now (out .exit)) r ≡ ran o (now (values .entry)) (mk (now (out .entry)) (8 * at .0) 0) from (inOrder (itemsFrom start end))) ⌝ }
 {
     let rows = fixed::ITEMS;
-    let mut cur = sink;
+    let mut byte = at.0;
     let mut index = from;
     let mut row = start;
     while row < end {
         let kind = rows[row];
-        let r = spelling::write_one(order, kind, out, cur, values, index);
-        let Put::Done(next, behind) = r else {
+        let next = spelling::spell_next(kind, out, byte, values, index);
+        if next == 0 {
             return Put::Impossible;
-        };
-        // By its numbers, not whole: see `write_blocks::write_contents`.
-        cur = Sink {
-            place: BitPlace(next.place.0),
-            part: next.part,
-        };
-        index = behind;
+        }
+        byte = next;
+        index += 1;
         row += 1;
     }
-    Put::Done(cur, index)
+    let place = bits::first_bit(BytePlace(byte));
+    Put::Done(Sink { place, part: 0 }, index)
 }
 
 // n Strings.
@@ -94,21 +91,22 @@ fn write_fonts(order: Order, out: &mut [u8], sink: Sink, values: &[u64], from: u
     )
 }
 
-// The items of a tag that is no attribute block; of a container those before its list.
+// The items of a tag that is no attribute block, from a byte place on; of a container those before its list.
 pub fn write_fixed(
     order: Order,
     code: u32,
     out: &mut [u8],
-    sink: Sink,
+    at: BytePlace,
     values: &[u64],
     from: usize,
 ) -> Put
-    requires { ⌜ Fine sink ⌝ }
-    ensures { λ r. ⌜ seen (now (out .exit)) r ≡ ran (orderOf order) (now (values .entry)) (under (now (out .entry)) sink) from (fixedOf code) ⌝ }
+    requires { ⌜ at .0 ≤ longest ⌝ }
+    ensures { λ r. ⌜ seen (now (out .exit)) r ≡ ran (orderOf order) (now (values .entry)) (mk (now (out .entry)) (8 * at .0) 0) from (fixedOf code) ⌝ }
 {
     if code == 1 {
-        return write_fonts(order, out, sink, values, from);
+        let place = bits::first_bit(at);
+        return write_fonts(order, out, Sink { place, part: 0 }, values, from);
     }
     let rows = fixed::rows_of(code);
-    write_items(order, rows.start, rows.end, out, sink, values, from)
+    write_items(rows.start, rows.end, out, at, values, from)
 }

@@ -1,4 +1,6 @@
 -- `write_bodies::write_front` meets its contract.
+use Prim.Native.Nat.{_*_}
+use mathlib.Core.Path.{refl}
 use denote.Ref.{now}
 use Rattle.bits.specs.Places.{orderOf}
 use Rattle.fixed.specs.Fixed.{fixedOf}
@@ -10,22 +12,18 @@ use Rattle.write_bodies.proofs.write_front.Tie as tie
 returns : tie.Need-returns
 returns c = let a = c .before .before .before .before .args in lies-over (now (a .out)) (a .at .0) _ (c .if1 .taken)
 
-first-bit-requires : tie.Need-first-bit-requires
-first-bit-requires c κs = search needs
-
 write-fixed-requires : tie.Need-write-fixed-requires
-write-fixed-requires c κs = start-fine (c .before .before .before .before .before .before .args .at .0) _ (c .before .first-bit .ensures) (c .before .before .if1 .left)
+write-fixed-requires c κs = c .before .if1 .left
 
 conclude-requires : tie.Need-conclude-requires
-conclude-requires c κs = let a = c .before .before .before .before .before .before .before .before .before .before .args in front-fine (orderOf (a .order)) (now (a .values)) (now (a .out)) (record { place = c .before .before .before .before .before .first-bit .result; part = 0 }) (fixedOf (a .code)) (c .before .before .before .write-fixed .last .1 .1 .0) (c .before .before .before .write-fixed .result) (start-fine (a .at .0) _ (c .before .before .before .before .before .first-bit .ensures) (c .before .before .before .before .before .before .if1 .left)) (c .before .before .before .write-fixed .ensures)
+conclude-requires c κs = let a = c .before .before .before .before .before .before .before .before .before .args in front-fine (orderOf (a .order)) (now (a .values)) (now (a .out)) (record { place = record { 0 = 8 * a .at .0 }; part = 0 }) (fixedOf (a .code)) (c .before .before .before .write-fixed .last .1 .1 .0) (c .before .before .before .write-fixed .result) (start-fine (a .at .0) _ refl (c .before .before .before .before .before .if1 .left)) (c .before .before .before .write-fixed .ensures)
 
 same-length : tie.Need-same-length
 same-length c = search needs
 
 returns-2 : tie.Need-returns-2
-returns-2 c = let a = c .before .before .before .before .before .before .before .before .before .before .before .before .before .args in front-done (orderOf (a .order)) (fixedOf (a .code)) (now (a .values)) (now (a .out)) (a .at .0) (c .before .before .before .before .before .before .before .before .first-bit .ensures) (c .before .before .conclude .ensures) (c .before .before .before .before .before .before .write-fixed .ensures)
+returns-2 c = let a = c .before .before .before .before .before .before .before .before .before .before .before .before .args in front-done (orderOf (a .order)) (fixedOf (a .code)) (now (a .values)) (now (a .out)) (a .at .0) refl (c .before .before .conclude .ensures) (c .before .before .before .before .before .before .write-fixed .ensures)
 
 pub write-front-spec : {M : Type 1} → statement M
 write-front-spec =
-    tie.close
-    (tie.spec returns first-bit-requires write-fixed-requires conclude-requires same-length returns-2)
+    tie.close (tie.spec returns write-fixed-requires conclude-requires same-length returns-2)

@@ -1,8 +1,10 @@
 -- `spelling::numbers::spell_i32` meets its contract.
-use mathlib.Core.Path.{sym, ap, _∙_}
-use native.Mathlib.Omega.{arith}
 use denote.Ref.{now}
+use native.Mathlib.Omega.{arith}
+use Prim.Native.Nat.{_+_, _*_, _≤_}
+use mathlib.Core.Path.{_≡_, refl, sym, ap, _∙_}
 use Rattle.sink.specs.Laying.{mk}
+use Rattle.spelling.proofs.ByteLaws.{spelled}
 use Rattle.spelling.specs.Writing.{bitsOver}
 use Rattle.spelling.proofs.RunLaws.{laid-no}
 use Rattle.spelling.proofs.NumberLaws.{i32-plus, i32-minus, i32-none}
@@ -20,13 +22,13 @@ same-length : tie.Need-same-length
 same-length c = search needs
 
 returns : tie.Need-returns
-returns c = λ o. c .before .before .spell-var .ensures o ∙ ap (bitsOver o (mk (now (c .before .before .before .before .before .before .args .out)) (c .before .before .before .before .before .before .args .at .bit .0) 0)) (sym (i32-plus o (c .before .before .before .before .before .before .args .value) (c .before .before .before .before .if1 .taken)))
+returns c = λ o. c .before .before .spell-var .ensures o ∙ ap (bitsOver o (mk (now (c .before .before .before .before .before .before .args .out)) (8 * c .before .before .before .before .before .before .args .at) 0)) (sym (i32-plus o (c .before .before .before .before .before .before .args .value) (c .before .before .before .before .if1 .taken)))
 
 wrapping-sub-u64-requires : tie.Need-wrapping-sub-u64-requires
 wrapping-sub-u64-requires c κs = search needs
 
 returns-2 : tie.Need-returns-2
-returns-2 c = λ o. laid-no o (mk (now (c .before .before .before .before .args .out)) (c .before .before .before .before .args .at .bit .0) 0) _ (i32-none o (c .before .before .before .before .args .value) (c .before .wrapping-sub-u64 .result) (search needs) (c .before .before .if1 .left) (omega (arith, c .before .wrapping-sub-u64 .ensures)) (c .if2 .taken))
+returns-2 c = λ o. laid-no o (mk (now (c .before .before .before .before .args .out)) (8 * c .before .before .before .before .args .at) 0) _ (i32-none o (c .before .before .before .before .args .value) (c .before .wrapping-sub-u64 .result) (search needs) (c .before .before .if1 .left) (omega (arith, c .before .wrapping-sub-u64 .ensures)) (c .if2 .taken))
 
 mul-spell-var-2 : tie.Need-mul-spell-var-2
 mul-spell-var-2 c = search needs
@@ -41,7 +43,7 @@ same-length-2 : tie.Need-same-length-2
 same-length-2 c = search needs
 
 returns-3 : tie.Need-returns-3
-returns-3 c = λ o. c .before .before .spell-var2 .ensures o ∙ ap (bitsOver o (mk (now (c .before .before .before .before .before .before .before .before .args .out)) (c .before .before .before .before .before .before .before .before .args .at .bit .0) 0)) (sym (i32-minus o (c .before .before .before .before .before .before .before .before .args .value) (c .before .before .before .before .before .wrapping-sub-u64 .result) (search needs) (c .before .before .before .before .before .before .if1 .left) (omega (arith, c .before .before .before .before .before .wrapping-sub-u64 .ensures))))
+returns-3 c = λ o. c .before .before .spell-var2 .ensures o ∙ ap (bitsOver o (mk (now (c .before .before .before .before .before .before .before .before .args .out)) (8 * c .before .before .before .before .before .before .before .before .args .at) 0)) (sym (i32-minus o (c .before .before .before .before .before .before .before .before .args .value) (c .before .before .before .before .before .wrapping-sub-u64 .result) (search needs) (c .before .before .before .before .before .before .if1 .left) (omega (arith, c .before .before .before .before .before .wrapping-sub-u64 .ensures))))
 
 pub spell-i32-spec : {M : Type 1} → statement M
 spell-i32-spec =
