@@ -4,7 +4,7 @@ use mathlib.Core.Bool.{Bool, true, false}
 use mathlib.Core.List.{List, [], _∷_, _++_, map}
 use mathlib.Core.Path.{_≡_, refl, ap, ap₂, sym, _∙_}
 use native.Mathlib.Omega.{arith}
-use lib.ListN.{length, getD, take, drop, length-take}
+use lib.ListN.{length, getD, take, drop}
 use lib.Dec.{leb}
 use borrow.Author.Tests.{le-ltb, lt-ltb}
 use Rattle.format.specs.Tests.{pick}
@@ -34,9 +34,6 @@ pub tables-of : (f m g : List ℕ) {l h : List ℕ} {r s : answers.Answer} {k j 
     → TablesOf f (take (k - 0) (drop 0 l)) (take (j - 0) (drop 0 h))
 tables-of f m g {l} {h} {k = k} {j = j} a b c d =
     (filled m (readFile 0 1023 f) a (ap answerOf b) .shows ∙ ap gives (sym (part-is l k)), filled g (readTags 0 1023 f) c (ap answerOf d) .shows ∙ ap gives (sym (part-is h j)))
-
-pub part-few : (l : List ℕ) (k : ℕ) {n : ℕ} → length l ≡ n → n < 4294967296 → length (take (k - 0) (drop 0 l)) < 4294967296
-part-few l k e h = omega (arith, ap length (part-is l k), length-take k l)
 
 -- ---- what is left in the memory m: the table T in place of P, which is as long. Where there was no room for P there is none for T
 module _ (m P T : List ℕ) (same : length T ≡ length P) where

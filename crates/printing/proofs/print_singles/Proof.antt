@@ -1,4 +1,4 @@
-use Rattle.printing.proofs.SinglesLaws.{tables-of, part-few, left-refused, left-steps, left-singles}
+use Rattle.printing.proofs.SinglesLaws.{tables-of, left-refused, left-steps, left-singles}
 use Rattle.printing.proofs.Counts.{count-fits}
 use Rattle.format.specs.Reasons.{Left, readFile, readTags}
 use mathlib.Core.Path.{refl, ap}
@@ -57,7 +57,7 @@ part-print-converted-end-2 : tie.Need-part-print-converted-end-2
 part-print-converted-end-2 c = omega (arith, count-fits (now (c .before .before .before .before .before .before .before .before .before .before .before .before .before .before .before .before .before .before .before .args .rows)) (readTags 0 1023 (now (c .before .before .before .before .before .before .before .before .before .before .before .before .before .before .before .before .before .before .before .args .file))) (c .before .before .before .before .before .before .before .before .before .before .before .before .before .before .tags .ensures) (c .before .before .before .tagged2 .given .1), c .before .before .before .before .before .before .before .before .before .before .before .before .before .before .tags .kept .1 .1 .1 .0)
 
 print-converted-requires : tie.Need-print-converted-requires
-print-converted-requires c κs = (tables-of (now (c .before .before .before .before .before .before .before .before .before .before .before .before .before .before .before .before .before .before .before .before .args .file)) (now (c .before .before .before .before .before .before .before .before .before .before .before .before .before .before .before .before .before .before .before .before .args .table)) (now (c .before .before .before .before .before .before .before .before .before .before .before .before .before .before .before .before .before .before .before .before .args .rows)) (c .before .before .before .before .before .before .before .before .before .before .before .read .ensures) (c .before .before .before .before .before .before .before .count .given .1) (c .before .before .before .before .before .before .before .before .before .before .before .before .before .before .before .tags .ensures) (c .before .before .before .before .tagged2 .given .1), c .before .before .before .before .before .before .before .before .before .before .before .before .before .before .before .before .before .before .before .before .pre .0, part-few (c .before .before .before .before .before .before .before .before .before .before .before .read .last .1 .1 .1 .0) (c .before .before .before .before .before .before .before .count .given .0 .0) (c .before .before .before .before .before .before .before .before .before .before .before .read .kept .1 .1 .1 .0) (c .before .before .before .before .before .before .before .before .before .before .before .before .before .before .before .before .before .before .before .before .pre .1))
+print-converted-requires c κs = tables-of (now (c .before .before .before .before .before .before .before .before .before .before .before .before .before .before .before .before .before .before .before .before .args .file)) (now (c .before .before .before .before .before .before .before .before .before .before .before .before .before .before .before .before .before .before .before .before .args .table)) (now (c .before .before .before .before .before .before .before .before .before .before .before .before .before .before .before .before .before .before .before .before .args .rows)) (c .before .before .before .before .before .before .before .before .before .before .before .read .ensures) (c .before .before .before .before .before .before .before .count .given .1) (c .before .before .before .before .before .before .before .before .before .before .before .before .before .before .before .tags .ensures) (c .before .before .before .before .tagged2 .given .1)
 
 same-length : tie.Need-same-length
 same-length c = search needs
