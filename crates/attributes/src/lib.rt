@@ -1,4 +1,4 @@
-// The attribute lists of tags 6, 9, 10, 13 and 14 as constant rows of kind and data type, their flags, and what their kinds and data types tell.
+// The attribute lists of tags 6, 9, 10 and 13 to 27 as constant rows of kind and data type, their flags, and what their kinds and data types tell.
 ghost use mathlib.Core.Path.{_≡_};
 ghost use Prim.Native.Nat.{_≤_};
 ghost use Rattle.format.specs.Formats.{item};
@@ -7,7 +7,7 @@ ghost use Rattle.format.specs.Bodies.{flagsOf, allFlags, dimensions as dimensio
 ghost use Rattle.bits.specs.Places.{PlaceIn, numOf, orderOf};
 ghost use Rattle.table.specs.State.{shownOver};
 ghost use Rattle.table.specs.Run.{runLeaves};
-ghost use Rattle.attributes.specs.Rows.{kindOf, typeOf, rowsAt, rowsFrom, AreRows};
+ghost use Rattle.attributes.specs.Rows.{kindOf, typeOf, attributesOf, rowsFrom, Attributes};
 ghost use Rattle.attributes.specs.Contents.{animatableBy, contentBy, interpolated, pointsBy, layoutBy};
 use bits::BitPlace;
 use bits::Got;
@@ -22,8 +22,10 @@ pub enum Kind {
     Discrete,
     MultiDimension,
     Spatial,
+    Custom,
 }
 
+// An Enum goes from 0 to its top.
 pub enum DataType {
     U32,
     Time,
@@ -32,11 +34,13 @@ pub enum DataType {
     Bool,
     Byte,
     BlendMode,
-    TrackMatteType,
-    MaskMode,
     Path,
     Point,
-    AnchorPointGrouping,
+    Color,
+    GradientColor,
+    Enum(u8),
+    Dashes,
+    TagBlock,
 }
 
 pub struct Attribute {
@@ -44,151 +48,542 @@ pub struct Attribute {
     pub data_type: DataType,
 }
 
-// Rows of the table: the first, and the one after the last.
-pub struct Rows {
-    pub start: usize,
-    pub end: usize,
+// The attributes of a block, in order: the first `count` of twelve rows. A walk takes these alone into its local, and not the rows of all tags.
+pub struct Block {
+    pub rows: [Attribute; 12],
+    pub count: usize,
 }
 
-pub const ATTRIBUTES: [Attribute; 30] = [
-    // 6: isActive, autoOrientation, parent, stretch, startTime, blendMode, trackMatteType, timeRemap, duration
-    Attribute {
-        kind: Kind::BitFlag,
-        data_type: DataType::Bool,
-    },
-    Attribute {
-        kind: Kind::BitFlag,
-        data_type: DataType::Bool,
-    },
-    Attribute {
-        kind: Kind::Value,
-        data_type: DataType::U32,
-    },
-    Attribute {
-        kind: Kind::Value,
-        data_type: DataType::Ratio,
-    },
-    Attribute {
-        kind: Kind::Value,
-        data_type: DataType::Time,
-    },
-    Attribute {
-        kind: Kind::Value,
-        data_type: DataType::BlendMode,
-    },
-    Attribute {
-        kind: Kind::Value,
-        data_type: DataType::TrackMatteType,
-    },
-    Attribute {
-        kind: Kind::Simple,
-        data_type: DataType::Float,
-    },
-    Attribute {
-        kind: Kind::Fixed,
-        data_type: DataType::Time,
-    },
-    // 9: path, reversed, perpendicular, forceAlignment, firstMargin, lastMargin
-    Attribute {
-        kind: Kind::Value,
-        data_type: DataType::U32,
-    },
-    Attribute {
-        kind: Kind::Discrete,
-        data_type: DataType::Bool,
-    },
-    Attribute {
-        kind: Kind::Discrete,
-        data_type: DataType::Bool,
-    },
-    Attribute {
-        kind: Kind::Discrete,
-        data_type: DataType::Bool,
-    },
-    Attribute {
-        kind: Kind::Simple,
-        data_type: DataType::Float,
-    },
-    Attribute {
-        kind: Kind::Simple,
-        data_type: DataType::Float,
-    },
-    // 10: anchorPointGrouping, groupingAlignment
-    Attribute {
-        kind: Kind::Value,
-        data_type: DataType::AnchorPointGrouping,
-    },
-    Attribute {
-        kind: Kind::MultiDimension,
-        data_type: DataType::Point,
-    },
-    // 13: anchorPoint, position, xPosition, yPosition, scale, rotation, opacity
-    Attribute {
-        kind: Kind::Value,
-        data_type: DataType::Point,
-    },
-    Attribute {
-        kind: Kind::Value,
-        data_type: DataType::Point,
-    },
-    Attribute {
-        kind: Kind::Value,
-        data_type: DataType::Float,
-    },
-    Attribute {
-        kind: Kind::Value,
-        data_type: DataType::Float,
-    },
-    Attribute {
-        kind: Kind::Value,
-        data_type: DataType::Point,
-    },
-    Attribute {
-        kind: Kind::Value,
-        data_type: DataType::Float,
-    },
-    Attribute {
-        kind: Kind::Value,
-        data_type: DataType::Byte,
-    },
-    // 14: id, inverted, maskMode, path, opacity, expansion
-    Attribute {
-        kind: Kind::Fixed,
-        data_type: DataType::U32,
-    },
-    Attribute {
-        kind: Kind::BitFlag,
-        data_type: DataType::Bool,
-    },
-    Attribute {
-        kind: Kind::Value,
-        data_type: DataType::MaskMode,
-    },
-    Attribute {
-        kind: Kind::Simple,
-        data_type: DataType::Path,
-    },
-    Attribute {
-        kind: Kind::Simple,
-        data_type: DataType::Byte,
-    },
-    Attribute {
-        kind: Kind::Simple,
-        data_type: DataType::Float,
-    },
+// What fills up the rows of a block: nobody reads it.
+const NONE: Attribute = Attribute {
+    kind: Kind::Value,
+    data_type: DataType::U32,
+};
+
+const BIT: Attribute = Attribute {
+    kind: Kind::BitFlag,
+    data_type: DataType::Bool,
+};
+
+const ID: Attribute = Attribute {
+    kind: Kind::Value,
+    data_type: DataType::U32,
+};
+
+const RATIO: Attribute = Attribute {
+    kind: Kind::Value,
+    data_type: DataType::Ratio,
+};
+
+const TIME: Attribute = Attribute {
+    kind: Kind::Value,
+    data_type: DataType::Time,
+};
+
+const POINT: Attribute = Attribute {
+    kind: Kind::Value,
+    data_type: DataType::Point,
+};
+
+const FLOAT: Attribute = Attribute {
+    kind: Kind::Value,
+    data_type: DataType::Float,
+};
+
+const BYTE: Attribute = Attribute {
+    kind: Kind::Value,
+    data_type: DataType::Byte,
+};
+
+const BLEND_MODE: Attribute = Attribute {
+    kind: Kind::Value,
+    data_type: DataType::BlendMode,
+};
+
+const TRACK_MATTE_TYPE: Attribute = Attribute {
+    kind: Kind::Value,
+    data_type: DataType::Enum(4),
+};
+
+const MASK_MODE: Attribute = Attribute {
+    kind: Kind::Value,
+    data_type: DataType::Enum(7),
+};
+
+const ANCHOR_POINT_GROUPING: Attribute = Attribute {
+    kind: Kind::Value,
+    data_type: DataType::Enum(6),
+};
+
+const POLY_STAR_TYPE: Attribute = Attribute {
+    kind: Kind::Value,
+    data_type: DataType::Enum(1),
+};
+
+const COMPOSITE_ORDER: Attribute = Attribute {
+    kind: Kind::Value,
+    data_type: DataType::Enum(1),
+};
+
+const FILL_RULE: Attribute = Attribute {
+    kind: Kind::Value,
+    data_type: DataType::Enum(1),
+};
+
+const LINE_CAP: Attribute = Attribute {
+    kind: Kind::Value,
+    data_type: DataType::Enum(2),
+};
+
+const LINE_JOIN: Attribute = Attribute {
+    kind: Kind::Value,
+    data_type: DataType::Enum(2),
+};
+
+const GRADIENT_FILL_TYPE: Attribute = Attribute {
+    kind: Kind::Value,
+    data_type: DataType::Enum(1),
+};
+
+const MERGE_PATHS_MODE: Attribute = Attribute {
+    kind: Kind::Value,
+    data_type: DataType::Enum(4),
+};
+
+const TRIM_PATHS_TYPE: Attribute = Attribute {
+    kind: Kind::Value,
+    data_type: DataType::Enum(1),
+};
+
+const FIXED_ID: Attribute = Attribute {
+    kind: Kind::Fixed,
+    data_type: DataType::U32,
+};
+
+const FIXED_TIME: Attribute = Attribute {
+    kind: Kind::Fixed,
+    data_type: DataType::Time,
+};
+
+const DISCRETE_BOOL: Attribute = Attribute {
+    kind: Kind::Discrete,
+    data_type: DataType::Bool,
+};
+
+const SIMPLE_FLOAT: Attribute = Attribute {
+    kind: Kind::Simple,
+    data_type: DataType::Float,
+};
+
+const SIMPLE_BYTE: Attribute = Attribute {
+    kind: Kind::Simple,
+    data_type: DataType::Byte,
+};
+
+const SIMPLE_PATH: Attribute = Attribute {
+    kind: Kind::Simple,
+    data_type: DataType::Path,
+};
+
+const SIMPLE_COLOR: Attribute = Attribute {
+    kind: Kind::Simple,
+    data_type: DataType::Color,
+};
+
+const SIMPLE_GRADIENT: Attribute = Attribute {
+    kind: Kind::Simple,
+    data_type: DataType::GradientColor,
+};
+
+const SIZED_POINT: Attribute = Attribute {
+    kind: Kind::MultiDimension,
+    data_type: DataType::Point,
+};
+
+const SPATIAL_POINT: Attribute = Attribute {
+    kind: Kind::Spatial,
+    data_type: DataType::Point,
+};
+
+const DASHES: Attribute = Attribute {
+    kind: Kind::Custom,
+    data_type: DataType::Dashes,
+};
+
+const TAG_BLOCK: Attribute = Attribute {
+    kind: Kind::Custom,
+    data_type: DataType::TagBlock,
+};
+
+// 6: isActive, autoOrientation, parent, stretch, startTime, blendMode, trackMatteType, timeRemap, duration
+const LAYER_ATTRIBUTES: [Attribute; 12] = [
+    BIT,
+    BIT,
+    ID,
+    RATIO,
+    TIME,
+    BLEND_MODE,
+    TRACK_MATTE_TYPE,
+    SIMPLE_FLOAT,
+    FIXED_TIME,
+    NONE,
+    NONE,
+    NONE,
 ];
 
-// The rows of a tag that is an attribute block; the others have none.
-pub fn rows_of(code: u32) -> Rows
-    ensures { λ r. ⌜ r ≡ rowsAt code ⌝ }
+// 9: path, reversed, perpendicular, forceAlignment, firstMargin, lastMargin
+const TEXT_PATH_OPTION: [Attribute; 12] = [
+    ID,
+    DISCRETE_BOOL,
+    DISCRETE_BOOL,
+    DISCRETE_BOOL,
+    SIMPLE_FLOAT,
+    SIMPLE_FLOAT,
+    NONE,
+    NONE,
+    NONE,
+    NONE,
+    NONE,
+    NONE,
+];
+
+// 10: anchorPointGrouping, groupingAlignment
+const TEXT_MORE_OPTION: [Attribute; 12] = [
+    ANCHOR_POINT_GROUPING,
+    SIZED_POINT,
+    NONE,
+    NONE,
+    NONE,
+    NONE,
+    NONE,
+    NONE,
+    NONE,
+    NONE,
+    NONE,
+    NONE,
+];
+
+// 13: anchorPoint, position, xPosition, yPosition, scale, rotation, opacity
+const TRANSFORM_2D: [Attribute; 12] = [
+    POINT,
+    POINT,
+    FLOAT,
+    FLOAT,
+    POINT,
+    FLOAT,
+    BYTE,
+    NONE,
+    NONE,
+    NONE,
+    NONE,
+    NONE,
+];
+
+// 14: id, inverted, maskMode, path, opacity, expansion
+const MASK_BLOCK: [Attribute; 12] = [
+    FIXED_ID,
+    BIT,
+    MASK_MODE,
+    SIMPLE_PATH,
+    SIMPLE_BYTE,
+    SIMPLE_FLOAT,
+    NONE,
+    NONE,
+    NONE,
+    NONE,
+    NONE,
+    NONE,
+];
+
+// 15: blendMode, anchorPoint, position, scale, skew, skewAxis, rotation, opacity, TagBlock
+const SHAPE_GROUP: [Attribute; 12] = [
+    BLEND_MODE,
+    SPATIAL_POINT,
+    SPATIAL_POINT,
+    SIZED_POINT,
+    SIMPLE_FLOAT,
+    SIMPLE_FLOAT,
+    SIMPLE_FLOAT,
+    SIMPLE_BYTE,
+    TAG_BLOCK,
+    NONE,
+    NONE,
+    NONE,
+];
+
+// 16: reversed, size, position, roundness
+const RECTANGLE: [Attribute; 12] = [
+    BIT,
+    SIZED_POINT,
+    SPATIAL_POINT,
+    SIMPLE_FLOAT,
+    NONE,
+    NONE,
+    NONE,
+    NONE,
+    NONE,
+    NONE,
+    NONE,
+    NONE,
+];
+
+// 17: reversed, size, position
+const ELLIPSE: [Attribute; 12] = [
+    BIT,
+    SIZED_POINT,
+    SPATIAL_POINT,
+    NONE,
+    NONE,
+    NONE,
+    NONE,
+    NONE,
+    NONE,
+    NONE,
+    NONE,
+    NONE,
+];
+
+// 18: reversed, polyType, points, position, rotation, innerRadius, outerRadius, innerRoundness, outerRoundness
+const POLY_STAR: [Attribute; 12] = [
+    BIT,
+    POLY_STAR_TYPE,
+    SIMPLE_FLOAT,
+    SPATIAL_POINT,
+    SIMPLE_FLOAT,
+    SIMPLE_FLOAT,
+    SIMPLE_FLOAT,
+    SIMPLE_FLOAT,
+    SIMPLE_FLOAT,
+    NONE,
+    NONE,
+    NONE,
+];
+
+// 19: shapePath
+const SHAPE_PATH: [Attribute; 12] = [
+    SIMPLE_PATH,
+    NONE,
+    NONE,
+    NONE,
+    NONE,
+    NONE,
+    NONE,
+    NONE,
+    NONE,
+    NONE,
+    NONE,
+    NONE,
+];
+
+// 20: blendMode, composite, fillRule, color, opacity
+const FILL: [Attribute; 12] = [
+    BLEND_MODE,
+    COMPOSITE_ORDER,
+    FILL_RULE,
+    SIMPLE_COLOR,
+    SIMPLE_BYTE,
+    NONE,
+    NONE,
+    NONE,
+    NONE,
+    NONE,
+    NONE,
+    NONE,
+];
+
+// 21: blendMode, composite, lineCap, lineJoin, miterLimit, color, opacity, strokeWidth
+const STROKE: [Attribute; 12] = [
+    BLEND_MODE,
+    COMPOSITE_ORDER,
+    LINE_CAP,
+    LINE_JOIN,
+    SIMPLE_FLOAT,
+    SIMPLE_COLOR,
+    SIMPLE_BYTE,
+    SIMPLE_FLOAT,
+    NONE,
+    NONE,
+    NONE,
+    NONE,
+];
+
+// 22: blendMode, composite, fillRule, fillType, startPoint, endPoint, colors, opacity
+const GRADIENT_FILL: [Attribute; 12] = [
+    BLEND_MODE,
+    COMPOSITE_ORDER,
+    FILL_RULE,
+    GRADIENT_FILL_TYPE,
+    SPATIAL_POINT,
+    SPATIAL_POINT,
+    SIMPLE_GRADIENT,
+    SIMPLE_BYTE,
+    NONE,
+    NONE,
+    NONE,
+    NONE,
+];
+
+// 23: blendMode, composite, fillType, startPoint, endPoint, color, opacity, strokeWidth, lineCap, lineJoin, miterLimit, dashes
+const GRADIENT_STROKE: [Attribute; 12] = [
+    BLEND_MODE,
+    COMPOSITE_ORDER,
+    GRADIENT_FILL_TYPE,
+    SPATIAL_POINT,
+    SPATIAL_POINT,
+    SIMPLE_COLOR,
+    SIMPLE_BYTE,
+    SIMPLE_FLOAT,
+    LINE_CAP,
+    LINE_JOIN,
+    SIMPLE_FLOAT,
+    DASHES,
+];
+
+// 24: mode
+const MERGE_PATHS: [Attribute; 12] = [
+    MERGE_PATHS_MODE,
+    NONE,
+    NONE,
+    NONE,
+    NONE,
+    NONE,
+    NONE,
+    NONE,
+    NONE,
+    NONE,
+    NONE,
+    NONE,
+];
+
+// 25: start, end, offset, trimType
+const TRIM_PATHS: [Attribute; 12] = [
+    SIMPLE_FLOAT,
+    SIMPLE_FLOAT,
+    SIMPLE_FLOAT,
+    TRIM_PATHS_TYPE,
+    NONE,
+    NONE,
+    NONE,
+    NONE,
+    NONE,
+    NONE,
+    NONE,
+    NONE,
+];
+
+// 26: composite, copies, offset, anchorPoint, position, scale, rotation, startOpacity, endOpacity
+const REPEATER: [Attribute; 12] = [
+    COMPOSITE_ORDER,
+    SIMPLE_FLOAT,
+    SIMPLE_FLOAT,
+    SPATIAL_POINT,
+    SPATIAL_POINT,
+    SIZED_POINT,
+    SIMPLE_FLOAT,
+    SIMPLE_BYTE,
+    SIMPLE_BYTE,
+    NONE,
+    NONE,
+    NONE,
+];
+
+// 27: radius
+const ROUND_CORNERS: [Attribute; 12] = [
+    SIMPLE_FLOAT,
+    NONE,
+    NONE,
+    NONE,
+    NONE,
+    NONE,
+    NONE,
+    NONE,
+    NONE,
+    NONE,
+    NONE,
+    NONE,
+];
+
+// The attributes of a tag that is an attribute block; the others have none.
+pub fn block_of(code: u32) -> Block
+    ensures { λ r. ⌜ Attributes (r .rows) (r .count) (attributesOf code) ⌝ }
 {
     match code {
-        6 => Rows { start: 0, end: 9 },
-        9 => Rows { start: 9, end: 15 },
-        10 => Rows { start: 15, end: 17 },
-        13 => Rows { start: 17, end: 24 },
-        14 => Rows { start: 24, end: 30 },
-        _ => Rows { start: 0, end: 0 },
+        6 => Block {
+            rows: LAYER_ATTRIBUTES,
+            count: 9,
+        },
+        9 => Block {
+            rows: TEXT_PATH_OPTION,
+            count: 6,
+        },
+        10 => Block {
+            rows: TEXT_MORE_OPTION,
+            count: 2,
+        },
+        13 => Block {
+            rows: TRANSFORM_2D,
+            count: 7,
+        },
+        14 => Block {
+            rows: MASK_BLOCK,
+            count: 6,
+        },
+        15 => Block {
+            rows: SHAPE_GROUP,
+            count: 9,
+        },
+        16 => Block {
+            rows: RECTANGLE,
+            count: 4,
+        },
+        17 => Block {
+            rows: ELLIPSE,
+            count: 3,
+        },
+        18 => Block {
+            rows: POLY_STAR,
+            count: 9,
+        },
+        19 => Block {
+            rows: SHAPE_PATH,
+            count: 1,
+        },
+        20 => Block {
+            rows: FILL,
+            count: 5,
+        },
+        21 => Block {
+            rows: STROKE,
+            count: 8,
+        },
+        22 => Block {
+            rows: GRADIENT_FILL,
+            count: 8,
+        },
+        23 => Block {
+            rows: GRADIENT_STROKE,
+            count: 12,
+        },
+        24 => Block {
+            rows: MERGE_PATHS,
+            count: 1,
+        },
+        25 => Block {
+            rows: TRIM_PATHS,
+            count: 4,
+        },
+        26 => Block {
+            rows: REPEATER,
+            count: 9,
+        },
+        27 => Block {
+            rows: ROUND_CORNERS,
+            count: 1,
+        },
+        _ => Block {
+            rows: [NONE; 12],
+            count: 0,
+        },
     }
 }
 
@@ -243,21 +638,21 @@ fn read_flag(order: Order, kind: Kind, body: &[u8], at: BitPlace) -> Got
         Kind::Discrete => read_two_flags(order, body, at),
         Kind::MultiDimension => read_two_flags(order, body, at),
         Kind::Spatial => read_three_flags(order, body, at),
+        Kind::Custom => bits::fields::read_ub(order, body, at, 1),
     }
 }
 
-// The flags of all rows, in order.
-pub fn read_flags(order: Order, rows: Rows, body: &[u8], at: BitPlace, flags: &mut [u64]) -> Run
-    requires { ⌜ AreRows (rows .start) (rows .end) × PlaceIn (now body) (at .0) ⌝ }
-    ensures { λ r. ⌜ runLeaves (now (flags .exit)) r ≡ shownOver (now (flags .entry)) 0 (run (orderOf order) (now (body .entry)) (allFlags (rowsFrom (rows .start) (rows .end))) (at .0)) ⌝ }
+// The flags of all attributes of a block, in order.
+pub fn read_flags(order: Order, block: Block, body: &[u8], at: BitPlace, flags: &mut [u64]) -> Run
+    requires { ⌜ (block .count ≤ 12) × PlaceIn (now body) (at .0) ⌝ }
+    ensures { λ r. ⌜ runLeaves (now (flags .exit)) r ≡ shownOver (now (flags .entry)) 0 (run (orderOf order) (now (body .entry)) (allFlags (rowsFrom (block .rows) 0 (block .count))) (at .0)) ⌝ }
 {
-    let attributes = ATTRIBUTES;
-    let end = rows.end;
+    let rows = block.rows;
+    let count = block.count;
     let mut place = at;
-    let mut row = rows.start;
     let mut index = 0;
-    while row < end {
-        let attribute = attributes[row];
+    while index < count {
+        let attribute = rows[index];
         let kind = attribute.kind;
         let r = read_flag(order, kind, body, place);
         match r {
@@ -269,7 +664,6 @@ pub fn read_flags(order: Order, rows: Rows, body: &[u8], at: BitPlace, flags: &m
                 return Run::Stop(why, index);
             }
         }
-        row += 1;
         index += 1;
     }
     Run::Done(place, index)
@@ -295,7 +689,7 @@ fn animatable(flag: u64) -> Content
     Content::Frames
 }
 
-// By its flag number: a Value has one if its bit is set, a Fixed always, a BitFlag never.
+// By its flag number: a Value or a Custom one has one if its bit is set, a Fixed always, a BitFlag never.
 pub fn content_of(kind: Kind, flag: u64) -> Content
     ensures { λ r. ⌜ r ≡ contentBy (kindOf kind) flag ⌝ }
 {
@@ -311,6 +705,11 @@ pub fn content_of(kind: Kind, flag: u64) -> Content
         Kind::Discrete => animatable(flag),
         Kind::MultiDimension => animatable(flag),
         Kind::Spatial => animatable(flag),
+        Kind::Custom => if flag == 0 {
+            Content::Nothing
+        } else {
+            Content::One
+        },
     }
 }
 
@@ -326,6 +725,7 @@ pub fn has_interpolations(kind: Kind) -> bool
         Kind::Discrete => false,
         Kind::MultiDimension => true,
         Kind::Spatial => true,
+        Kind::Custom => false,
     }
 }
 
@@ -349,6 +749,7 @@ fn points_layout(kind: Kind) -> Layout
         Kind::Discrete => Layout::InTurn,
         Kind::MultiDimension => Layout::InTurn,
         Kind::Spatial => Layout::PointFields,
+        Kind::Custom => Layout::InTurn,
     }
 }
 
@@ -364,11 +765,13 @@ pub fn layout_of(kind: Kind, what: DataType) -> Layout
         DataType::Bool => Layout::Bits,
         DataType::Byte => Layout::ByteFields,
         DataType::BlendMode => Layout::InTurn,
-        DataType::TrackMatteType => Layout::InTurn,
-        DataType::MaskMode => Layout::InTurn,
         DataType::Path => Layout::InTurn,
         DataType::Point => points_layout(kind),
-        DataType::AnchorPointGrouping => Layout::InTurn,
+        DataType::Color => Layout::InTurn,
+        DataType::GradientColor => Layout::InTurn,
+        DataType::Enum(_) => Layout::InTurn,
+        DataType::Dashes => Layout::InTurn,
+        DataType::TagBlock => Layout::InTurn,
     }
 }
 
@@ -384,11 +787,13 @@ fn dimensions(what: DataType) -> usize
         DataType::Bool => 1,
         DataType::Byte => 1,
         DataType::BlendMode => 1,
-        DataType::TrackMatteType => 1,
-        DataType::MaskMode => 1,
         DataType::Path => 1,
         DataType::Point => 2,
-        DataType::AnchorPointGrouping => 1,
+        DataType::Color => 1,
+        DataType::GradientColor => 1,
+        DataType::Enum(_) => 1,
+        DataType::Dashes => 1,
+        DataType::TagBlock => 1,
     }
 }
 
@@ -404,5 +809,6 @@ pub fn curves(kind: Kind, what: DataType) -> usize
         Kind::Discrete => 1,
         Kind::MultiDimension => dimensions(what),
         Kind::Spatial => 1,
+        Kind::Custom => 1,
     }
 }

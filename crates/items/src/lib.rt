@@ -19,6 +19,7 @@ pub enum Item {
     I32,
     Time,
     Float,
+    Uint16,
     Byte,
     Enum(u64),
     BlendMode,
@@ -56,6 +57,20 @@ fn read_float(body: &[u8], byte: BytePlace, bit: BitPlace) -> Got
     )
 }
 
+// Two bytes, lowest first.
+fn read_uint16(body: &[u8], byte: BytePlace, bit: BitPlace) -> Got
+    requires { ⌜ PlaceIn (now body) (bit .0) × (bit .0 ≡ 8 * byte .0) ⌝ }
+    ensures { λ r. ⌜ InEither (λ o. numOf r ≡ readLE o (now (body .entry)) (bit .0) 2) ⌝ }
+{
+    let i = byte.0;
+    if body.len() - i < 2 {
+        return Got::Fault(13);
+    }
+    let b0 = bits::byte_at(body, i);
+    let b1 = bits::byte_at(body, i + 1);
+    Got::Value(b0 + 256 * b1, BitPlace(bit.0 + 16))
+}
+
 // An item's bytes (13) and their spelling (14), from a whole byte on.
 fn read_spelling(kind: Item, body: &[u8], byte: BytePlace, bit: BitPlace) -> Got
     requires { ⌜ PlaceIn (now body) (bit .0) × (bit .0 ≡ 8 * byte .0) ⌝ }
@@ -67,6 +82,7 @@ fn read_spelling(kind: Item, body: &[u8], byte: BytePlace, bit: BitPlace) -> Got
         Item::I32 => var::read_i32(body, byte, bit),
         Item::Time => var::read_u64(body, byte, bit),
         Item::Float => read_float(body, byte, bit),
+        Item::Uint16 => read_uint16(body, byte, bit),
         Item::Byte => read_byte(body, byte, bit),
         Item::Enum(_) => read_byte(body, byte, bit),
         Item::BlendMode => read_byte(body, byte, bit),
@@ -98,6 +114,7 @@ pub fn out_of_range(kind: Item, value: u64) -> u32
         Item::I32 => 0,
         Item::Time => 0,
         Item::Float => 0,
+        Item::Uint16 => 0,
         Item::Byte => 0,
     }
 }

@@ -1,31 +1,31 @@
 -- Values and keyframed content: the formats of their parts, and what a `match` tells.
-use Prim.Native.Nat.{ℕ, suc, _+_, _*_, _≤_}
+use Prim.Native.Nat.{ℕ, zero, suc, _+_, _*_, _≤_}
 use mathlib.Core.Bool.{true, false}
-use mathlib.Core.List.{List, []}
-use mathlib.Core.Path.{_≡_, ap, ap₂, sym, _∙_}
+use mathlib.Core.List.{List, [], _++_}
+use mathlib.Core.Path.{_≡_, refl, ap, ap₂, sym, _∙_}
 use native.Mathlib.Nat.{mul-le-mul}
 use native.Mathlib.Numerals.{add-one}
 use native.Mathlib.Omega.{arith}
 use borrow.Author.Tests.{eq-eqb, ne-eqb}
 use Rattle.format.specs.Tests.{pick}
 use Rattle.format.specs.Bits.{Order}
-use Rattle.format.specs.Reading.{At, Fault, shows, stop}
-use Rattle.format.specs.Formats.{Item, Format, nothing, item, _▹_, _▸_, times}
-use Rattle.format.specs.Items.{run, time, scaled, coordinates}
+use Rattle.format.specs.Reading.{Ending, At, Fault, Reading, shows, stop, follow}
+use Rattle.format.specs.Formats.{Item, Format, nothing, item, _▹_, _▸_, times, the}
+use Rattle.format.specs.Items.{run, byte, uint16, time, color, count, scaled, coordinates, alphaStop, colorStop}
 use Rattle.format.specs.Bodies as bodies
 use Rattle.format.specs.Bodies.{value, values, interpolations, howMany, curves, aligned, spatial, hasSpatial}
 use Rattle.format.proofs.SizeLaws.{Fair, fair-times, fair-aligned, fair-value, fair-values, fair-interpolations}
 use Rattle.table.specs.State.{State, shownOver}
 use Rattle.table.specs.Fields.{fieldOf, announced}
 use Rattle.table.specs.declared.fields.Field.the-variants.{Verb, Interpolation, SpatialFlag}
-use Rattle.table.proofs.EngineLaws.{Alike, state, after-none, none-then, never-then, then-never, alike-assoc, alike-after}
+use Rattle.table.proofs.EngineLaws.{Alike, state, after-none, none-then, never-then, then-never, alike-nothing, alike-assoc, alike-after}
 use Rattle.table.proofs.FieldLaws.{announced-verbs, announced-frames, announced-points}
 use Rattle.attributes.specs.Contents.{interpolated, layoutBy, valuesBy}
 use Rattle.attributes.specs.Rows.{typeOf}
 use Rattle.attributes.specs.declared.DataType.{DataType}
 use Rattle.attributes.specs.declared.Layout.{Layout}
 use Rattle.attributes.proofs.ContentLaws.{interpolations-some, interpolations-none, values-told}
-use Rattle.values.specs.Parts.{announcing, framesOf}
+use Rattle.values.specs.Parts.{announcing, framesOf, stopOf, stopsOf, afterAlphas}
 
 -- ---- what a `match` tells
 pub value-of : (o : Order) (b t : List ℕ) (k p : ℕ) {what : DataType} {x : State} (told : DataType) → what ≡ told → x ≡ shownOver t k (run o b (value (typeOf told)) p)
@@ -115,3 +115,39 @@ easing-of o kind d φ b t k n q e f g h = h ∙ ap (λ (z : ℕ). shownOver t k 
 -- the easing numbers of n frames are few
 pub easing-small : {m c : ℕ} (n : ℕ) → m ≤ 6 * n → c ≤ 2 → n ≤ 4096 → m * c ≤ 49152
 easing-small {m} {c} n h l e = let f : m * c ≤ 24576 * 2 = mul-le-mul {n₂ = 24576} (omega arith) l in omega (arith, f)
+
+-- ---- GradientColors: a stop as the code reads it is one of the paper's
+alike-stop : (n : ℕ) (f : Format) → Alike (times n byte) f → Alike (stopOf n) (uint16 ▸ uint16 ▸ f)
+alike-stop n f h o b p = alike-assoc uint16 uint16 (times n byte) o b p ∙ alike-after uint16 _ _ (alike-after uint16 _ _ h) o b p
+
+alike-alpha : Alike (stopOf 1) alphaStop
+unfolding times
+alike-alpha = alike-stop 1 byte (alike-nothing byte)
+
+alike-color : Alike (stopOf 3) colorStop
+alike-color = alike-stop 3 color (λ o b p. refl)
+
+-- what follows is alike, whatever was shown
+alike-each : (f : Format) (g h : List ℕ → Format) → ((xs : List ℕ) → Alike (g xs) (h xs)) → Alike (f ▹ g) (f ▹ h)
+unfolding run
+alike-each f g h e o b p = go (run o b f p .shown) (run o b f p .ended)
+  where
+    go : (xs : List ℕ) (z : Ending) → follow xs z (λ ys q. run o b (g ys) q) ≡ follow xs z (λ ys q. run o b (h ys) q)
+    go xs (At q) = ap (λ (r : Reading). record { shown = xs ++ r .shown; ended = r .ended }) (e xs o b q)
+    go xs (Fault z) = refl
+
+alike-times : {f g : Format} (n : ℕ) → Alike f g → Alike (times n f) (times n g)
+unfolding run times
+alike-times zero h o b p = refl
+alike-times {f} {g} (suc n) h o b p = rw (h o b p) (alike-after g (times n f) (times n g) (alike-times n h) o b p)
+
+alike-stops : (n m : ℕ) → Alike (stopsOf n m) (times n alphaStop ▸ times m colorStop)
+unfolding run
+alike-stops n m o b p =
+    rw (alike-times n alike-alpha o b p) (alike-after (times n alphaStop) (times m (stopOf 3)) (times m colorStop) (alike-times m alike-color) o b p)
+
+-- after both counts, and after the first one
+pub stops-are : (o : Order) (b t : List ℕ) (k n p : ℕ) {x : State} → x ≡ shownOver t k (run o b (afterAlphas n) p)
+    → x ≡ shownOver t k (run o b (count 0 4096 ▹ λ colors. times n alphaStop ▸ times (the colors) colorStop) p)
+stops-are o b t k n p e =
+    e ∙ ap (shownOver t k) (alike-each (count 0 4096) (λ colors. stopsOf n (the colors)) (λ colors. times n alphaStop ▸ times (the colors) colorStop) (λ colors. alike-stops n (the colors)) o b p)
