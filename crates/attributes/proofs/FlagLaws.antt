@@ -39,17 +39,14 @@ rowAt rows i = getD rows i noRow
 
 -- the rows from here on are the row here and the rows after it
 pub rows-next : {i count : ℕ} (rows : List Attribute) → i < count → rowsFrom rows i (count - i) ≡ attributeOf (rowAt rows i) ∷ rowsFrom rows (i + 1) (count - (i + 1))
-unfolding rowsFrom
 rows-next {i} {count} rows h =
     let n : count - i ≡ suc (count - suc i) = omega arith in
     rw (add-one i, n)
 
 pub rows-none : (rows : List Attribute) (count : ℕ) → rowsFrom rows count (count - count) ≡ []
-unfolding rowsFrom
 rows-none rows count = let n : count - count ≡ 0 = omega arith in rw n
 
 pub rows-many : (rows : List Attribute) (i n : ℕ) → length (rowsFrom rows i n) ≡ n
-unfolding rowsFrom
 rows-many rows i zero = refl
 rows-many rows i (suc n) = ap suc (rows-many rows (suc i) n)
 

@@ -47,7 +47,7 @@ abbrev pub noRow : Attribute
 noRow = record { kind = Value; data_type = U32 }
 
 -- n rows from row i on
-unfoldable pub rowsFrom : List Attribute → ℕ → ℕ → List bodies.Attribute
+abbrev pub rowsFrom : List Attribute → ℕ → ℕ → List bodies.Attribute
 rowsFrom rows i zero = []
 rowsFrom rows i (suc n) = attributeOf (getD rows i noRow) ∷ rowsFrom rows (suc i) n
 
