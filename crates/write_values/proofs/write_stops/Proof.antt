@@ -1,4 +1,4 @@
--- `write_values::write_stops` meets its contract.
+-- `write_values::write_stops` meets its contract. The loop's invariant: the stops are those that are left from here on.
 use Prim.Native.Nat.{_-_}
 use mathlib.Core.Path.{_∙_}
 use native.Mathlib.Omega.{arith}
