@@ -16,7 +16,7 @@ use Rattle.format.specs.WritingItems.{dig, before, put, single, writeItem, spel
 use Rattle.format.specs.WritingFormats.{passing, adjoin, unrun}
 use Rattle.items.specs.Kinds.{formatOf, rangeFault}
 use Rattle.items.specs.declared.Item.{Item}
-use Rattle.items.specs.declared.Item.the-variants.{U32, I32, Time, Float, Byte, Enum, BlendMode, Count}
+use Rattle.items.specs.declared.Item.the-variants.{U32, I32, Time, Float, Uint16, Byte, Enum, BlendMode, Count}
 use Rattle.sink.specs.Laying.{State, mk, at, Skipped}
 use Rattle.sink.specs.declared.Sink.{Sink}
 use Rattle.sink.proofs.LayingLaws.{lay-byte, lay-none}
@@ -64,6 +64,26 @@ pub float-no : (o : Order) (st : State) (v : ℕ) → 4294967295 < v → cannot 
 unfolding spellLE
 float-no o st v h =
     let n : eqb (v / 256 / 256 / 256 / 256) 0 ≡ false = ne-eqb (v / 256 / 256 / 256 / 256) 0 (λ e. omega arith) in
+    rw n
+
+-- ---- two bytes
+pub uint16-in : (o : Order) (out : List ℕ) (i p v : ℕ) {u₀ u₁ : List ℕ} → p ≡ 8 * i → v ≤ 65535 → u₀ ≡ set out i (v % 256) → u₁ ≡ set u₀ (i + 1) (v / 256) → this (mk u₁ (p + 16) 0) ≡ bitsOver o (mk out p 0) (spellLE o v 2)
+unfolding spellLE
+uint16-in o out i p v {u₀} {u₁} e h e₀ e₁ =
+    let q₂ : v / 256 / 256 ≡ 0 = omega arith in
+    let l₁ : v / 256 % 256 ≡ v / 256 = omega arith in
+    let l : p + 8 + 8 ≡ p + 16 = omega arith in
+    sym
+    (rw (q₂, l₁)
+    (byte-then o out i p (v % 256) (before (dig o 8 (v / 256)) (this [])) (omega arith) e e₀
+    ∙ byte-then o u₀ (i + 1) (p + 8) (v / 256) (this []) (omega arith) (omega arith) e₁
+    ∙ ap (λ (x : ℕ). bitsOver o (mk u₁ x 0) (this [])) l
+    ∙ ap this (lay-none o (mk u₁ (p + 16) 0))))
+
+pub uint16-no : (o : Order) (st : State) (v : ℕ) → 65535 < v → cannot ≡ bitsOver o st (spellLE o v 2)
+unfolding spellLE
+uint16-no o st v h =
+    let n : eqb (v / 256 / 256) 0 ≡ false = ne-eqb (v / 256 / 256) 0 (λ e. omega arith) in
     rw n
 
 -- ---- seven bits a byte
@@ -166,6 +186,7 @@ item-is o U32 ns p = adjoin-single (dig o (skipped p) 0) (spellingOf o U32) ns
 item-is o I32 ns p = adjoin-single (dig o (skipped p) 0) (spellingOf o I32) ns
 item-is o Time ns p = adjoin-single (dig o (skipped p) 0) (spellingOf o Time) ns
 item-is o Float ns p = adjoin-single (dig o (skipped p) 0) (spellingOf o Float) ns
+item-is o Uint16 ns p = adjoin-single (dig o (skipped p) 0) (spellingOf o Uint16) ns
 item-is o Byte ns p = adjoin-single (dig o (skipped p) 0) (spellingOf o Byte) ns
 item-is o (Enum top) ns p = range-is o (λ ns. leb (the ns) top) 16 p (spellUB o 8) ns (λ e. omega arith)
 item-is o BlendMode ns p = range-is o (λ ns. leb (the ns) 16 or (leb 21 (the ns) and leb (the ns) 26)) 16 p (spellUB o 8) ns (λ e. omega arith)

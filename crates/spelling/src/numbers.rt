@@ -37,6 +37,19 @@ fn spell_float(out: &mut [u8], at: usize, value: u64) -> usize
     at + 4
 }
 
+// Two bytes, lowest first.
+fn spell_uint16(out: &mut [u8], at: usize, value: u64) -> usize
+    requires { ⌜ at ≤ 16777216 ⌝ }
+    ensures { λ r. ⌜ InEither (λ o. spelledTo (now (out .exit)) r ≡ bitsOver o (mk (now (out .entry)) (8 * at) 0) (spellLE o value 2)) ⌝ }
+{
+    if 65535 < value {
+        return 0;
+    }
+    put_byte(out, at, value % 256);
+    put_byte(out, at + 1, value / 256);
+    at + 2
+}
+
 // Seven bits a byte, lowest first: at most `most` bytes with the top bit set, and a last one, which is at most `top` after so many.
 fn spell_var(out: &mut [u8], at: usize, value: u64, most: u64, top: u64) -> usize
     requires { ⌜ (at ≤ 16777216) × (most ≤ 9) × (top < 128) ⌝ }
@@ -89,6 +102,7 @@ pub(crate) fn spell_item(kind: Item, out: &mut [u8], at: usize, value: u64) -> u
         Item::I32 => spell_i32(out, at, value),
         Item::Time => spell_var(out, at, value, 9, 1),
         Item::Float => spell_float(out, at, value),
+        Item::Uint16 => spell_uint16(out, at, value),
         Item::Byte => spell_byte(out, at, value),
         Item::Enum(_) => spell_byte(out, at, value),
         Item::BlendMode => spell_byte(out, at, value),

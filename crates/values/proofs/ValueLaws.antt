@@ -158,11 +158,13 @@ unfolding run
 alike-stops n m o b p =
     rw (alike-times (stopOf 1) alphaStop n alike-alpha o b p) (alike-after (times n alphaStop) (times m (stopOf 3)) (times m colorStop) (alike-times (stopOf 3) colorStop m alike-color) o b p)
 
--- after both counts, and after the first one
+-- a GradientColor after its count of alpha stops
+pub alike-gradient : (n : ℕ) → Alike (afterAlphas n) (count 0 4096 ▹ λ colors. times n alphaStop ▸ times (the colors) colorStop)
+alike-gradient n = alike-each (count 0 4096) (λ colors. stopsOf n (the colors)) (λ colors. times n alphaStop ▸ times (the colors) colorStop) (λ colors. alike-stops n (the colors))
+
 pub stops-are : (o : Order) (b t : List ℕ) (k n p : ℕ) {x : State} → x ≡ shownOver t k (run o b (afterAlphas n) p)
     → x ≡ shownOver t k (run o b (count 0 4096 ▹ λ colors. times n alphaStop ▸ times (the colors) colorStop) p)
-stops-are o b t k n p e =
-    e ∙ ap (shownOver t k) (alike-each (count 0 4096) (λ colors. stopsOf n (the colors)) (λ colors. times n alphaStop ▸ times (the colors) colorStop) (λ colors. alike-stops n (the colors)) o b p)
+stops-are o b t k n p e = e ∙ ap (shownOver t k) (alike-gradient n o b p)
 
 -- ---- a bit field, and the length of dashes, from the code's answer
 module _ (o : Order) (b : List ℕ) (p n : ℕ) {r : Got} (read : numOf r ≡ readUB o b p n) where
