@@ -5,6 +5,7 @@ use mathlib.Core.Path.{_≡_, refl, sym, ap, _∙_}
 use mathlib.Core.Bool.{Bool, true, false}
 use native.Mathlib.Omega.{arith}
 use lib.ListN.{length, getD, set}
+use lib.Seq.{set-out}
 use lib.Dec.{leb, ltb, eqb}
 use borrow.Author.Tests.{lt-ltb, le-ltb, le-leb, lt-leb, eq-eqb, ne-eqb, leb-true}
 use Rattle.format.specs.Tests.{pick, _and_, _or_}
@@ -23,7 +24,7 @@ use Rattle.sink.proofs.LayingLaws.{lay-byte, lay-none}
 use Rattle.spelling.specs.declared.Put.{Put}
 use Rattle.spelling.specs.declared.Put.the-variants.{Done, Impossible}
 use Rattle.spelling.specs.Writing.{bitsOver, Seen, here, seen, ran}
-use Rattle.spelling.specs.Spellings.{spellingOf}
+use Rattle.spelling.specs.Spellings.{spellingOf, fourBytes}
 use Rattle.spelling.proofs.RunLaws.{then-stop, then-done, laid-before, laid-in, laid-no, one-done, OneDone, the-one}
 
 -- ---- a byte
@@ -59,6 +60,18 @@ float-in o out i p v {u₀} {u₁} {u₂} {u₃} e h e₀ e₁ e₂ e₃ =
     ∙ byte-then o u₂ (i + 3) (p + 8 + 8 + 8) (v / 16777216) (this []) (omega arith) (omega arith) e₃
     ∙ ap (λ (x : ℕ). bitsOver o (mk u₃ x 0) (this [])) l
     ∙ ap this (lay-none o (mk u₃ (p + 32) 0))))
+
+-- past the end none of them is stored
+pub float-out : (u : List ℕ) (i v : ℕ) → length u ≤ i → u ≡ fourBytes u i v
+float-out u i v h =
+    let e₀ : set u i (v % 256) ≡ u = set-out u i (v % 256) h in
+    let e₁ : set u (i + 1) (v / 256 % 256) ≡ u = set-out u (i + 1) (v / 256 % 256) (omega arith) in
+    let e₂ : set u (i + 2) (v / 65536 % 256) ≡ u = set-out u (i + 2) (v / 65536 % 256) (omega arith) in
+    let e₃ : set u (i + 3) (v / 16777216) ≡ u = set-out u (i + 3) (v / 16777216) (omega arith) in
+    sym (ap (λ (x : List ℕ). set (set (set x (i + 1) (v / 256 % 256)) (i + 2) (v / 65536 % 256)) (i + 3) (v / 16777216)) e₀
+    ∙ ap (λ (x : List ℕ). set (set x (i + 2) (v / 65536 % 256)) (i + 3) (v / 16777216)) e₁
+    ∙ ap (λ (x : List ℕ). set x (i + 3) (v / 16777216)) e₂
+    ∙ e₃)
 
 pub float-no : (o : Order) (st : State) (v : ℕ) → 4294967295 < v → cannot ≡ bitsOver o st (spellLE o v 4)
 unfolding spellLE

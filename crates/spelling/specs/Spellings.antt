@@ -1,10 +1,10 @@
 -- The bits of one number by the kinds of items that the code has, without the skip and the range; and what is said of runs of fields.
-use Prim.Native.Nat.{ℕ, suc, pred, _*_, _-_, _≤_}
+use Prim.Native.Nat.{ℕ, suc, pred, _+_, _*_, _/_, _%_, _-_, _≤_}
 use mathlib.Core.Path.{_≡_}
 use mathlib.Core.List.{List}
 use mathlib.Core.Bool.{Bool}
 use lib.Dec.{eqb}
-use lib.ListN.{take, drop}
+use lib.ListN.{set, take, drop}
 use Rattle.format.specs.Tests.{pick}
 use Rattle.format.specs.Bits.{Order}
 use Rattle.format.specs.Formats.{item}
@@ -30,6 +30,10 @@ spellingOf o Byte v = spellUB o 8 v
 spellingOf o (Enum top) v = spellUB o 8 v
 spellingOf o BlendMode v = spellUB o 8 v
 spellingOf o (Count lo) v = spellVar o 15 v 4
+
+-- four bytes of v stored from index i on, lowest first, where there is room for them
+abbrev pub fourBytes : List ℕ → ℕ → ℕ → List ℕ
+fourBytes u i v = set (set (set (set u i (v % 256)) (i + 1) (v / 256 % 256)) (i + 2) (v / 65536 % 256)) (i + 3) (v / 16777216)
 
 -- a number was put, and the byte place behind it is p; where p is 0 it has no spelling
 abbrev pub spelledTo : List ℕ → ℕ → Possible State
