@@ -196,7 +196,7 @@ pub fair-stop : (o : Order) (n : ℕ) → Fair o 0 (stopOf n)
 fair-stop o n = fair-seq o (uint16 ▸ uint16) (times n byte) (fair-seq o uint16 uint16 (fair-kind o Uint16) (fair-kind o Uint16)) (fair-times o n byte (fair-kind o Byte))
 
 -- ---- Points in turn are twice as many Floats
-alike-pairs : (f : Format) (n : ℕ) → Alike (times (n * 2) f) (times n (f ▸ f))
+pub alike-pairs : (f : Format) (n : ℕ) → Alike (times (n * 2) f) (times n (f ▸ f))
 unfolding times
 alike-pairs f zero o b p = refl
 alike-pairs f (suc n) o b p =

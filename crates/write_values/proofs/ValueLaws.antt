@@ -11,7 +11,7 @@ use lib.Dec.{leb}
 use Rattle.format.specs.Tests.{pick}
 use Rattle.format.specs.Bits.{Order}
 use Rattle.format.specs.Formats.{Item, Format, nothing, item, _▹_, _▸_, times, the}
-use Rattle.format.specs.Items.{skipped, path, scaled, time, count, alphaStop, colorStop}
+use Rattle.format.specs.Items.{skipped, float, point, path, scaled, time, count, alphaStop, colorStop}
 use Rattle.format.specs.Bodies as bodies
 use Rattle.format.specs.Bodies.{value, values, interpolations, howMany, curves, aligned, dashes, spatial, hasSpatial}
 use Rattle.format.specs.Possible.{Possible, this}
@@ -29,7 +29,7 @@ use Rattle.attributes.specs.declared.DataType.{DataType}
 use Rattle.attributes.specs.declared.Layout.{Layout}
 use Rattle.attributes.proofs.ContentLaws.{interpolations-some, interpolations-none, values-told}
 use Rattle.values.specs.Parts.{announcing, framesOf, keyframesOf, afterAlphas, offsetFlag}
-use Rattle.values.proofs.ValueLaws.{path-is, spatial-is, alike-parts, alike-gradient}
+use Rattle.values.proofs.ValueLaws.{path-is, spatial-is, alike-parts, alike-gradient, alike-pairs}
 use Rattle.sink.specs.Laying.{State, at, lay}
 use Rattle.sink.specs.declared.Sink.{Sink}
 use Rattle.spelling.specs.Spellings.{Announces}
@@ -148,3 +148,11 @@ pub keyframes-done : (o : Order) (t : List ℕ) (st : State) (k : ℕ) (kind : b
 keyframes-done o t st k kind d φ n m u R first a s j e f g h =
     then-on o t st k (aligned ▸ interpolations kind n) (λ kinds. framesOf kind d φ n (howMany 2 kinds * 4 * curves kind d)) u R first s j e
     (h ∙ ap (λ (z : ℕ). ran o t (at u s) j (framesOf kind d φ n z)) (g ∙ ap₂ (λ (x y : ℕ). x * y) (eases-done t k n m a e .0) f))
+
+-- ---- values in turn, by what a `match` tells; Points in turn are twice as many Floats
+pub in-turn-of : (o : Order) (t : List ℕ) (st : State) (k n : ℕ) {what : DataType} {x : Possible Seen} (told : DataType) → what ≡ told → x ≡ ran o t st k (times n (value (typeOf told)))
+    → x ≡ ran o t st k (times n (value (typeOf what)))
+in-turn-of o t st k n told e f = f ∙ ap (λ (z : DataType). ran o t st k (times n (value (typeOf z)))) (sym e)
+
+pub points-are : (o : Order) (t : List ℕ) (st : State) (k n : ℕ) {x : Possible Seen} → x ≡ ran o t st k (times (n * 2) float) → x ≡ ran o t st k (times n point)
+points-are o t st k n e = e ∙ ran-alike o t st k (times (n * 2) float) (times n point) (λ b p. alike-pairs float n o b p)

@@ -300,8 +300,8 @@ pub fn write_value(
     }
 }
 
-// n values in turn.
-fn write_in_turn(
+// n values in turn, one by one.
+fn write_each(
     order: Order,
     what: DataType,
     count: usize,
@@ -326,6 +326,33 @@ fn write_in_turn(
         left -= 1;
     }
     Put::Done(cur, index)
+}
+
+// n values in turn. Floats and Points are Floats.
+fn write_in_turn(
+    order: Order,
+    what: DataType,
+    count: usize,
+    out: &mut [u8],
+    sink: Sink,
+    values: &[u64],
+    from: usize,
+) -> Put
+    requires { ⌜ Fine sink × (count ≤ 4097) ⌝ }
+    ensures { λ r. ⌜ seen (now (out .exit)) r ≡ ran (orderOf order) (now (values .entry)) (under (now (out .entry)) sink) from (times count (valueOf (typeOf what))) ⌝ }
+{
+    match what {
+        DataType::Float => spelling::in_turn::write_floats(order, count, out, sink, values, from),
+        DataType::Point => spelling::in_turn::write_floats(
+            order,
+            count * 2,
+            out,
+            sink,
+            values,
+            from,
+        ),
+        _ => write_each(order, what, count, out, sink, values, from),
+    }
 }
 
 // n times. Apart from other values in turn, so that what an item is is not asked for each.

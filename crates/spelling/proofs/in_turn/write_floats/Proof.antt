@@ -22,7 +22,6 @@ use Rattle.bits.proofs.first_bit.Reads as first-bit-reads
 use Rattle.sink.proofs.align.Reads as align-reads
 use Rattle.spelling.proofs.spell_next.Reads as spell-next-reads
 
-
 abbrev Inv-loop : tie.InvT-loop
 Inv-loop count out₀ values from byte₀ index₀ left₀ out byte index left = (byte ≤ 16777216) × (length out ≡ length out₀) × ((o : Order) → ran o values (mk out₀ (8 * byte₀) 0) index₀ (times left₀ float) ≡ ran o values (mk out (8 * byte) 0) index (times left float))
 
@@ -70,8 +69,12 @@ loop-less c = omega arith
 
 -- src/in_turn.rt:34:5
 loop-again : tie.Need-loop-again Inv-loop μ-loop
-loop-again c = let a = c .before .before .before .before .before .before .before .before .before .before .before .before .before .before .args in let l = c .before .before .before .before .before .before .loop in (c .before .before .before .spell-next .ensures .1, c .before .before .before .spell-next .kept .1 .0 ∙ l .inv .1, λ o. l .inv .2 o ∙ ap (ran o (now (a .values)) (mk (l .out) (8 * l .byte) 0) (l .index)) (times-more float (l .left) (c .before .before .before .before .before .loop-test .taken))
-    ∙ next-on o Float (now (a .values)) (l .out) (l .byte) (l .index) (c .before .before .before .spell-next .last .1 .0) (c .before .before .before .spell-next .result) (c .before .before .before .spell-next .ensures .0 o) (times (l .left - 1) float) (c .if2 .left))
+loop-again c = let a = c .before .before .before .before .before .before .before .before .before .before .before .before .before .before .args in let l = c .before .before .before .before .before .before .loop in (
+  c .before .before .before .spell-next .ensures .1,
+  c .before .before .before .spell-next .kept .1 .0 ∙ l .inv .1,
+  λ o. l .inv .2 o ∙ ap (ran o (now (a .values)) (mk (l .out) (8 * l .byte) 0) (l .index)) (times-more float (l .left) (c .before .before .before .before .before .loop-test .taken))
+      ∙ next-on o Float (now (a .values)) (l .out) (l .byte) (l .index) (c .before .before .before .spell-next .last .1 .0) (c .before .before .before .spell-next .result) (c .before .before .before .spell-next .ensures .0 o) (times (l .left - 1) float) (c .if2 .left),
+)
 
 -- src/in_turn.rt:43:9
 first-bit-requires : tie.Need-first-bit-requires Inv-loop μ-loop

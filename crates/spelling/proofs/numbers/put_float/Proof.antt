@@ -12,7 +12,6 @@ use Rattle.spelling.proofs.numbers.put_float.Reads as reads
 use Rattle.spelling.proofs.numbers.put_float.Lts as lts
 use Rattle.sink.proofs.put_byte.Reads as put-byte-reads
 
-
 -- src/numbers.rt:32:9
 returns : tie.Need-returns
 returns c = float-out (now (c .before .before .args .out)) (c .before .before .args .at) (c .before .before .args .value) (c .if1 .taken)

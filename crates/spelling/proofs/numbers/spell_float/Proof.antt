@@ -12,7 +12,6 @@ use Rattle.spelling.proofs.numbers.spell_float.Reads as reads
 use Rattle.spelling.proofs.numbers.spell_float.Lts as lts
 use Rattle.spelling.proofs.numbers.put_float.Reads as put-float-reads
 
-
 -- src/numbers.rt:53:9
 returns : tie.Need-returns
 returns c = λ o. float-no o (mk (now (c .before .before .args .out)) (8 * c .before .before .args .at) 0) (c .before .before .args .value) (omega (arith, c .if1 .taken))
