@@ -110,7 +110,7 @@ same-length-3 c = let a = c .before .before .before .before .before .before .bef
 
 -- src/in_turn.rt:47:1
 returns-3 : tie.Need-returns-3 Inv-loop μ-loop
-returns-3 c = let a = c .before .before .before .before .before .before .before .before .before .before .before .before .before .args in floating-done (now (a .body)) (now (a .table)) (a .from) (a .count) _ (c .before .loop .inv) (orderOf (a .order)) (c .before .before .before .before .if1 .left ∙ c .before .before .before .before .before .before .before .before .before .before .next-byte .ensures .1) (c .before .before .room-for .ensures ∙ ap (λ (y : ℕ). min (a .count) (y - a .from)) (sym (floating-size (now (a .body)) (now (a .table)) (a .from) (a .count) _ (c .before .loop .inv)))) (c .loop-test .left) (omega (arith, c .before .before .before .before .if1 .left)) (omega (arith, c .before .before .before .if2 .left))
+returns-3 c = let a = c .before .before .before .before .before .before .before .before .before .before .before .before .before .args in floating-done (now (a .body)) (now (a .table)) (a .from) (a .count) _ (c .before .loop .inv) (orderOf (a .order)) (omega (arith, c .before .before .before .before .if1 .left, c .before .before .before .before .before .before .before .before .before .before .next-byte .ensures .1)) (c .before .before .room-for .ensures ∙ ap (λ (y : ℕ). min (a .count) (y - a .from)) (sym (floating-size (now (a .body)) (now (a .table)) (a .from) (a .count) _ (c .before .loop .inv)))) (c .loop-test .left) (omega (arith, c .before .before .before .before .if1 .left)) (omega (arith, c .before .before .before .if2 .left))
 
 pub read-floats-spec : {M : Type 1} → statement M
 read-floats-spec =
