@@ -1,7 +1,8 @@
 // The items that show one number: each starts on a whole byte.
 ghost use mathlib.Core.Path.{_≡_};
-ghost use Prim.Native.Nat.{_*_};
-ghost use Rattle.format.specs.Items.{showNum, run, readLE, readUB};
+ghost use Prim.Native.Nat.{_+_, _*_, _^_, _≤_, _<_};
+ghost use lib.ListN.{length};
+ghost use Rattle.format.specs.Items.{num, showNum, run, readLE, readUB};
 ghost use Rattle.bits.specs.Places.{PlaceIn, numOf, orderOf, InEither};
 ghost use Rattle.items.specs.Kinds.{formatOf, spelt, between as within, rangeFault};
 
@@ -38,7 +39,19 @@ fn read_byte(body: &[u8], byte: BytePlace, bit: BitPlace) -> Got
     Got::Value(bits::byte_at(body, i), BitPlace(bit.0 + 8))
 }
 
-// A Float: four bytes, lowest first, kept as their pattern.
+// Four bytes, lowest first, as one number.
+pub fn float_at(body: &[u8], i: usize) -> u64
+    requires { ⌜ (i + 4 ≤ length (now body)) × (length (now body) < 2 ^ 60) ⌝ }
+    ensures { λ r. ⌜ InEither (λ o. num r (8 * i + 32) ≡ readLE o (now (body .entry)) (8 * i) 4) ⌝ }
+{
+    let b0 = bits::byte_at(body, i);
+    let b1 = bits::byte_at(body, i + 1);
+    let b2 = bits::byte_at(body, i + 2);
+    let b3 = bits::byte_at(body, i + 3);
+    b0 + 256 * (b1 + 256 * (b2 + 256 * b3))
+}
+
+// A Float: four bytes, kept as their pattern.
 fn read_float(body: &[u8], byte: BytePlace, bit: BitPlace) -> Got
     requires { ⌜ PlaceIn (now body) (bit .0) × (bit .0 ≡ 8 * byte .0) ⌝ }
     ensures { λ r. ⌜ InEither (λ o. numOf r ≡ readLE o (now (body .entry)) (bit .0) 4) ⌝ }
@@ -47,14 +60,7 @@ fn read_float(body: &[u8], byte: BytePlace, bit: BitPlace) -> Got
     if body.len() - i < 4 {
         return Got::Fault(13);
     }
-    let b0 = bits::byte_at(body, i);
-    let b1 = bits::byte_at(body, i + 1);
-    let b2 = bits::byte_at(body, i + 2);
-    let b3 = bits::byte_at(body, i + 3);
-    Got::Value(
-        b0 + 256 * (b1 + 256 * (b2 + 256 * b3)),
-        BitPlace(bit.0 + 32),
-    )
+    Got::Value(float_at(body, i), BitPlace(bit.0 + 32))
 }
 
 // Two bytes, lowest first.

@@ -11,7 +11,7 @@ use Rattle.format.specs.Tests.{pick}
 use Rattle.format.specs.Bits.{Order}
 use Rattle.format.specs.Reading.{Ending, At, Fault, Reading, shows, stop, follow}
 use Rattle.format.specs.Formats.{Item, Format, nothing, item, _▹_, _▸_, times, the}
-use Rattle.format.specs.Items.{run, readItem, Num, mapNum, showNum, readUB, byte, uint16, time, color, count, scaled, coordinates, alphaStop, colorStop}
+use Rattle.format.specs.Items.{run, readItem, Num, mapNum, showNum, readUB, byte, uint16, time, float, point, color, count, scaled, coordinates, alphaStop, colorStop}
 use Rattle.format.specs.Bodies as bodies
 use Rattle.format.specs.Bodies.{value, values, interpolations, howMany, curves, aligned, spatial, hasSpatial}
 use Rattle.format.proofs.SizeLaws.{Fair, fair-seq, fair-times, fair-aligned, fair-value, fair-values, fair-interpolations}
@@ -158,11 +158,13 @@ unfolding run
 alike-stops n m o b p =
     rw (alike-times (stopOf 1) alphaStop n alike-alpha o b p) (alike-after (times n alphaStop) (times m (stopOf 3)) (times m colorStop) (alike-times (stopOf 3) colorStop m alike-color) o b p)
 
--- after both counts, and after the first one
+-- a GradientColor after its count of alpha stops
+pub alike-gradient : (n : ℕ) → Alike (afterAlphas n) (count 0 4096 ▹ λ colors. times n alphaStop ▸ times (the colors) colorStop)
+alike-gradient n = alike-each (count 0 4096) (λ colors. stopsOf n (the colors)) (λ colors. times n alphaStop ▸ times (the colors) colorStop) (λ colors. alike-stops n (the colors))
+
 pub stops-are : (o : Order) (b t : List ℕ) (k n p : ℕ) {x : State} → x ≡ shownOver t k (run o b (afterAlphas n) p)
     → x ≡ shownOver t k (run o b (count 0 4096 ▹ λ colors. times n alphaStop ▸ times (the colors) colorStop) p)
-stops-are o b t k n p e =
-    e ∙ ap (shownOver t k) (alike-each (count 0 4096) (λ colors. stopsOf n (the colors)) (λ colors. times n alphaStop ▸ times (the colors) colorStop) (λ colors. alike-stops n (the colors)) o b p)
+stops-are o b t k n p e = e ∙ ap (shownOver t k) (alike-gradient n o b p)
 
 -- ---- a bit field, and the length of dashes, from the code's answer
 module _ (o : Order) (b : List ℕ) (p n : ℕ) {r : Got} (read : numOf r ≡ readUB o b p n) where
@@ -192,3 +194,19 @@ module _ (o : Order) (b : List ℕ) (p : ℕ) {r : Got} (read : numOf r ≡ read
 
 pub fair-stop : (o : Order) (n : ℕ) → Fair o 0 (stopOf n)
 fair-stop o n = fair-seq o (uint16 ▸ uint16) (times n byte) (fair-seq o uint16 uint16 (fair-kind o Uint16) (fair-kind o Uint16)) (fair-times o n byte (fair-kind o Byte))
+
+-- ---- Points in turn are twice as many Floats
+pub alike-pairs : (f : Format) (n : ℕ) → Alike (times (n * 2) f) (times n (f ▸ f))
+unfolding times
+alike-pairs f zero o b p = refl
+alike-pairs f (suc n) o b p =
+    let e : suc n * 2 ≡ suc (suc (n * 2)) = omega arith in
+    rw e (sym (alike-assoc f f (times (n * 2) f) o b p) ∙ alike-after (f ▸ f) (times (n * 2) f) (times n (f ▸ f)) (alike-pairs f n) o b p)
+
+pub points-are : (o : Order) (b t : List ℕ) (k n p : ℕ) {x : State} → x ≡ shownOver t k (run o b (times (n * 2) float) p) → x ≡ shownOver t k (run o b (times n point) p)
+points-are o b t k n p e = e ∙ ap (shownOver t k) (alike-pairs float n o b p)
+
+-- values in turn, by what a `match` tells
+pub in-turn-of : (o : Order) (b t : List ℕ) (k n p : ℕ) {what : DataType} {x : State} (told : DataType) → what ≡ told → x ≡ shownOver t k (run o b (times n (value (typeOf told))) p)
+    → x ≡ shownOver t k (run o b (times n (value (typeOf what))) p)
+in-turn-of o b t k n p told e f = f ∙ ap (λ (z : DataType). shownOver t k (run o b (times n (value (typeOf z))) p)) (sym e)

@@ -100,34 +100,6 @@ fn read_path(order: Order, body: &[u8], at: BitPlace, table: &mut [u64], from: u
     }
 }
 
-// n items of one kind: a Color is three bytes.
-fn read_items(
-    order: Order,
-    kind: Item,
-    count: usize,
-    body: &[u8],
-    at: BitPlace,
-    table: &mut [u64],
-    from: usize,
-) -> Run
-    requires { ⌜ Fits (now body) (at .0) from ⌝ }
-    ensures { λ r. ⌜ runLeaves (now (table .exit)) r ≡ shownOver (now (table .entry)) from (run (orderOf order) (now (body .entry)) (times count (formatOf kind)) (at .0)) ⌝ }
-{
-    let mut place = at;
-    let mut index = from;
-    let mut left = count;
-    while 0 < left {
-        let r = table::read_one(order, kind, body, place, table, index);
-        let Run::Done(next, behind) = r else {
-            return r;
-        };
-        place = next;
-        index = behind;
-        left -= 1;
-    }
-    Run::Done(place, index)
-}
-
 // A stop of a gradient: position, midpoint, and its bytes, which are an opacity or a Color.
 fn read_stop(
     order: Order,
@@ -144,7 +116,7 @@ fn read_stop(
     let Run::Done(next, behind) = r else {
         return r;
     };
-    read_items(order, Item::Byte, bytes, body, next, table, behind)
+    table::in_turn::read_items(order, Item::Byte, bytes, body, next, table, behind)
 }
 
 // n stops with so many bytes each.
@@ -298,7 +270,7 @@ pub fn read_value(
         DataType::BlendMode => table::read_one(order, Item::BlendMode, body, at, table, from),
         DataType::Path => read_path(order, body, at, table, from),
         DataType::Point => read_pair(order, Item::Float, Item::Float, body, at, table, from),
-        DataType::Color => read_items(order, Item::Byte, 3, body, at, table, from),
+        DataType::Color => table::in_turn::read_items(order, Item::Byte, 3, body, at, table, from),
         DataType::GradientColor => read_gradient(order, body, at, table, from),
         DataType::Enum(top) => table::read_one(
             order,
@@ -313,8 +285,8 @@ pub fn read_value(
     }
 }
 
-// n values in turn.
-fn read_in_turn(
+// n values in turn, one by one.
+fn read_each(
     order: Order,
     what: DataType,
     count: usize,
@@ -339,6 +311,26 @@ fn read_in_turn(
         left -= 1;
     }
     Run::Done(place, index)
+}
+
+// n values in turn. Floats and Points are Floats, which are read at once.
+fn read_in_turn(
+    order: Order,
+    what: DataType,
+    count: usize,
+    body: &[u8],
+    at: BitPlace,
+    table: &mut [u64],
+    from: usize,
+) -> Run
+    requires { ⌜ Fits (now body) (at .0) from × (count ≤ 4097) ⌝ }
+    ensures { λ r. ⌜ runLeaves (now (table .exit)) r ≡ shownOver (now (table .entry)) from (run (orderOf order) (now (body .entry)) (times count (valueOf (typeOf what))) (at .0)) ⌝ }
+{
+    match what {
+        DataType::Float => table::in_turn::read_floats(order, count, body, at, table, from),
+        DataType::Point => table::in_turn::read_floats(order, count * 2, body, at, table, from),
+        _ => read_each(order, what, count, body, at, table, from),
+    }
 }
 
 // n times. Apart from other values in turn, so that what an item is is not asked for each.

@@ -10,7 +10,7 @@ use Rattle.values.proofs.read_stop.Statement.{statement}
 use Rattle.values.proofs.read_stop.Tie as tie
 use Rattle.values.proofs.read_stop.Reads as reads
 use Rattle.values.proofs.read_stop.Lts as lts
-use Rattle.values.proofs.read_items.Reads as read-items-reads
+use Rattle.table.proofs.in_turn.read_items.Reads as read-items-reads
 use Rattle.values.proofs.read_pair.Reads as read-pair-reads
 
 -- src/lib.rt:143:9

@@ -10,7 +10,7 @@ use Rattle.values.proofs.read_value.Lts as lts
 use Rattle.table.proofs.read_one.Reads as read-one-reads
 use Rattle.values.proofs.read_dashes.Reads as read-dashes-reads
 use Rattle.values.proofs.read_gradient.Reads as read-gradient-reads
-use Rattle.values.proofs.read_items.Reads as read-items-reads
+use Rattle.table.proofs.in_turn.read_items.Reads as read-items-reads
 use Rattle.values.proofs.read_pair.Reads as read-pair-reads
 use Rattle.values.proofs.read_path.Reads as read-path-reads
 

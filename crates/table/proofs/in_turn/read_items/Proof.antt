@@ -5,12 +5,12 @@ use borrow.Author.Needs.{needs}
 use Rattle.bits.specs.Places.{orderOf}
 use Rattle.format.specs.Formats.{times}
 use Rattle.items.specs.Kinds.{formatOf}
 use Rattle.table.proofs.RunLaws.{Going, going-size, going-next, going-stop, going-done, times-more, times-zero, fair-kind}
-use Rattle.values.proofs.read_items.Statement.{statement}
-use Rattle.values.proofs.read_items.Tie as tie
-use Rattle.values.proofs.read_items.Reads as reads
-use Rattle.values.proofs.read_items.Lts as lts
+use Rattle.table.proofs.in_turn.read_items.Statement.{statement}
+use Rattle.table.proofs.in_turn.read_items.Tie as tie
+use Rattle.table.proofs.in_turn.read_items.Reads as reads
+use Rattle.table.proofs.in_turn.read_items.Lts as lts
 use Rattle.table.proofs.read_one.Reads as read-one-reads
 
 abbrev Inv-loop : tie.InvT-loop
 Inv-loop order kind count body table₀ from place₀ index₀ left₀ table place index left = Going (orderOf order) body table₀ from (times count (formatOf kind)) (place₀ .0) table (place .0) index (times left (formatOf kind))
