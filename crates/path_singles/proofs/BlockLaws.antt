@@ -39,22 +39,22 @@ rows-take (x ∷ xs) [] = refl
 rows-take (x ∷ xs) (φ ∷ φs) = ap (λ (f : Format). item (Item.echo φ) ▸ content x φ ▸ f) (rows-take xs φs)
 
 module _ (b : List ℕ) {start end row : ℕ} (R : AreRows start end) (s : start ≤ row) (l : row ≤ end) where
-  pub rows-before : AreRows start row
-  rows-before = record { up = s; few = omega (arith, R .few); inside = omega (arith, R .inside) }
+  pub rows-before : (B : Rows) → (B .start ≡ start) × (B .end ≡ row) → AreRows (B .start) (B .end)
+  rows-before B e = record { up = omega (arith, e .0, e .1); few = omega (arith, e .0, e .1, R .few); inside = omega (arith, e .1, R .inside) }
 
   rows-same : (u : List ℕ) → rows (rowsFrom start row) (take (row - start) u) ≡ rows (take (row - start) (rowsFrom start end)) (take (end - start) u)
   rows-same u =
-      let n : length (rowsFrom start row) ≡ row - start = rows-many rows-before in
+      let n : length (rowsFrom start row) ≡ row - start = rows-many (rows-before (record { start = start; end = row }) (refl, refl)) in
       let e : take (row - start) (take (end - start) u) ≡ take (row - start) u = take-take (row - start) (end - start) u (omega arith) in
       ap (rows (rowsFrom start row)) (sym e ∙ ap (λ (i : ℕ). take i (take (end - start) u)) (sym n)) ∙ rows-take (rowsFrom start row) (take (end - start) u)
       ∙ ap (λ (xs : List Attribute). rows xs (take (end - start) u)) (sym (take-slice start row end allAttributes s l))
 
-  pub before-read : (u : List ℕ) {q : ℕ} (t t′ : List ℕ) (x : Run) → run high b (allFlags (rowsFrom start end)) 0 ≡ shows (take (end - start) u) q
-      → runLeaves t′ x ≡ shownOver t 0 (run high b (rows (rowsFrom start row) (take (row - start) u)) q) → indexOf x ≡ length (earlier high b (rowsFrom start end) (row - start))
+  pub before-read : (B : Rows) (u : List ℕ) {q : ℕ} (t t′ : List ℕ) (x : Run) → (B .start ≡ start) × (B .end ≡ row) → run high b (allFlags (rowsFrom start end)) 0 ≡ shows (take (end - start) u) q
+      → runLeaves t′ x ≡ shownOver t 0 (run high b (rows (rowsFrom (B .start) (B .end)) (take (B .end - B .start) u)) q) → indexOf x ≡ length (earlier high b (rowsFrom start end) (row - start))
   unfolding earlier shownOver
-  before-read u {q} t t′ x e d =
-      let z : indexOf x ≡ length (run high b (rows (rowsFrom start row) (take (row - start) u)) q .shown) = omega (arith, ap (λ (s : State). s .count) d) in
-      z ∙ ap (λ (f : Format). length (run high b f q .shown)) (rows-same u)
+  before-read B u {q} t t′ x a e d =
+      let z : indexOf x ≡ length (run high b (rows (rowsFrom (B .start) (B .end)) (take (B .end - B .start) u)) q .shown) = omega (arith, ap (λ (s : State). s .count) d) in
+      z ∙ ap₂ (λ (i j : ℕ). length (run high b (rows (rowsFrom i j) (take (j - i) u)) q .shown)) (a .0) (a .1) ∙ ap (λ (f : Format). length (run high b f q .shown)) (rows-same u)
       ∙ sym (ap (λ (r : Reading). length (handOn (r .shown) (r .ended) (λ φs p. run high b (rows (take (row - start) (rowsFrom start end)) φs) p) .shown)) e)
 
   pub before-stopped : {e : ℕ} → run high b (allFlags (rowsFrom start end)) 0 .ended ≡ Fault e → 0 ≡ length (earlier high b (rowsFrom start end) (row - start))

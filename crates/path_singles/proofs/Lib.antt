@@ -2,3 +2,4 @@ pub mod StepLaws
 pub mod PathLaws
 pub mod BlockLaws
 pub mod TableLaws
+pub mod LengthLaws

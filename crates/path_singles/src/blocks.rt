@@ -72,6 +72,16 @@ fn shown_by(run: Run) -> usize
     }
 }
 
+// The rows before one of them.
+fn rows_before(rows: Rows, row: usize) -> Rows
+    ensures { λ r. ⌜ (r .start ≡ rows .start) × (r .end ≡ row) ⌝ }
+{
+    Rows {
+        start: rows.start,
+        end: row,
+    }
+}
+
 // How many numbers the attributes before a row show: the flags of the block are read, and the contents of those attributes.
 fn numbers_before(rows: Rows, row: usize, body: &[u8]) -> usize
     requires { ⌜ AreRows (rows .start) (rows .end) × (rows .start ≤ row) × (row ≤ rows .end) × (length (now body) < 2 ^ 60) ⌝ }
@@ -83,10 +93,7 @@ fn numbers_before(rows: Rows, row: usize, body: &[u8]) -> usize
     let Run::Done(next, _) = r else {
         return 0;
     };
-    let before = Rows {
-        start: rows.start,
-        end: row,
-    };
+    let before = rows_before(rows, row);
     let mut none = [0u64; 1];
     shown_by(bodies::blocks::read_contents(order, before, &flags, body, next, &mut none[..0], 0))
 }

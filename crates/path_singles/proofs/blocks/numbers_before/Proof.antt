@@ -16,6 +16,7 @@ use Rattle.path_singles.proofs.blocks.numbers_before.Reads as reads
 use Rattle.path_singles.proofs.blocks.numbers_before.Lts as lts
 use Rattle.attributes.proofs.read_flags.Reads as read-flags-reads
 use Rattle.bodies.proofs.blocks.read_contents.Reads as read-contents-reads
+use Rattle.path_singles.proofs.blocks.rows_before.Reads as rows-before-reads
 use Rattle.path_singles.proofs.blocks.shown_by.Reads as shown-by-reads
 
 slice-aggregate-read-flags : tie.Need-slice-aggregate-read-flags
@@ -35,6 +36,9 @@ returns c = let a = c .before .before .before .before .before .before .args in
     before-stopped (now (a .body)) (c .before .before .before .before .before .before .pre .0) (c .before .before .before .before .before .before .pre .1) (c .before .before .before .before .before .before .pre .2)
     (ended-is _ 0 (run high (now (a .body)) (allFlags (rowsFrom (a .rows .start) (a .rows .end))) 0) (ap (runLeaves _) (sym (c .enum-told .given .1)) ∙ c .before .before .before .read-flags .ensures))
 
+rows-before-requires : tie.Need-rows-before-requires
+rows-before-requires c κs = search needs
+
 slice-aggregate-read-contents : tie.Need-slice-aggregate-read-contents
 slice-aggregate-read-contents c = search needs
 
@@ -45,19 +49,19 @@ slice-aggregate-read-contents-2 : tie.Need-slice-aggregate-read-contents-2
 slice-aggregate-read-contents-2 c = search needs
 
 read-contents-requires : tie.Need-read-contents-requires
-read-contents-requires c κs = let a = c .before .before .before .before .before .before .before .before .before .args in (
-  rows-before (now (a .body)) (c .before .before .before .before .before .before .before .before .before .pre .0) (c .before .before .before .before .before .before .before .before .before .pre .1) (c .before .before .before .before .before .before .before .before .before .pre .2),
-  omega (arith, c .before .before .before .before .before .before .read-flags .kept .1 .1 .1 .1 .0),
-  flags-fit high (now (a .body)) (rowsFrom (a .rows .start) (a .rows .end)) (flags-read high (now (a .body)) _ 0 (c .before .before .before .before .before .before .before .before .before .pre .0) (omega arith) (ap (runLeaves _) (sym (c .before .before .before .r .given .1)) ∙ c .before .before .before .before .before .before .read-flags .ensures)) ((omega arith, c .before .before .before .before .before .before .before .before .before .pre .3), omega arith),
+read-contents-requires c κs = let a = c .before .before .before .before .before .before .before .before .before .before .args in (
+  rows-before (now (a .body)) (c .before .before .before .before .before .before .before .before .before .before .pre .0) (c .before .before .before .before .before .before .before .before .before .before .pre .1) (c .before .before .before .before .before .before .before .before .before .before .pre .2) (c .before .before .rows-before .result) (c .before .before .rows-before .ensures),
+  omega (arith, c .before .before .before .before .before .before .before .read-flags .kept .1 .1 .1 .1 .0),
+  flags-fit high (now (a .body)) (rowsFrom (a .rows .start) (a .rows .end)) (flags-read high (now (a .body)) _ 0 (c .before .before .before .before .before .before .before .before .before .before .pre .0) (omega arith) (ap (runLeaves _) (sym (c .before .before .before .before .r .given .1)) ∙ c .before .before .before .before .before .before .before .read-flags .ensures)) ((omega arith, c .before .before .before .before .before .before .before .before .before .before .pre .3), omega arith),
 )
 
 shown-by-requires : tie.Need-shown-by-requires
 shown-by-requires c κs = search needs
 
 returns-2 : tie.Need-returns-2
-returns-2 c = let a = c .before .before .before .before .before .before .before .before .before .before .before .before .args in
-    c .shown-by .ensures ∙ before-read (now (a .body)) (c .before .before .before .before .before .before .before .before .before .before .before .before .pre .0) (c .before .before .before .before .before .before .before .before .before .before .before .before .pre .1) (c .before .before .before .before .before .before .before .before .before .before .before .before .pre .2) _ _ _ (c .before .before .read-contents .result)
-    (flags-read high (now (a .body)) _ 0 (c .before .before .before .before .before .before .before .before .before .before .before .before .pre .0) (omega arith) (ap (runLeaves _) (sym (c .before .before .before .before .before .before .r .given .1)) ∙ c .before .before .before .before .before .before .before .before .before .read-flags .ensures)) (c .before .before .read-contents .ensures)
+returns-2 c = let a = c .before .before .before .before .before .before .before .before .before .before .before .before .before .args in
+    c .shown-by .ensures ∙ before-read (now (a .body)) (c .before .before .before .before .before .before .before .before .before .before .before .before .before .pre .0) (c .before .before .before .before .before .before .before .before .before .before .before .before .before .pre .1) (c .before .before .before .before .before .before .before .before .before .before .before .before .before .pre .2) (c .before .before .before .before .before .rows-before .result) _ _ _ (c .before .before .read-contents .result) (c .before .before .before .before .before .rows-before .ensures)
+    (flags-read high (now (a .body)) _ 0 (c .before .before .before .before .before .before .before .before .before .before .before .before .before .pre .0) (omega arith) (ap (runLeaves _) (sym (c .before .before .before .before .before .before .before .r .given .1)) ∙ c .before .before .before .before .before .before .before .before .before .before .read-flags .ensures)) (c .before .before .read-contents .ensures)
 
 pub numbers-before-spec : {M : Type 1} → statement M
 numbers-before-spec =
@@ -68,6 +72,7 @@ numbers-before-spec =
     enum-known-r
     enum-told
     returns
+    rows-before-requires
     slice-aggregate-read-contents
     array-borrow-prefix-none
     slice-aggregate-read-contents-2
