@@ -1,15 +1,19 @@
 -- For code: what the calls of the readers tell of a mask's body, and where the opacity is found.
 use Prim.Native.Nat.{ℕ, _+_, _-_, _*_, _^_, _≤_, _<_}
-use mathlib.Core.List.{List, []}
+use mathlib.Core.List.{List, [], _∷_}
 use mathlib.Core.Path.{_≡_, refl, ap, sym, subst, _∙_}
+use mathlib.Core.Logic.{⊎-elim}
 use native.Mathlib.Omega.{arith}
 use lib.ListN.{length, getD, take}
 use lib.Seq.{take-take, getD-take}
+use types.Run.{OneOf}
+use denote.Enum.Declared.{tagOf}
 use borrow.Author.Tests.{lt-ltb, le-ltb, le-leb, lt-leb}
 use Rattle.format.specs.Bits.{Order, orderNamed}
 use Rattle.format.specs.Reading.{Ending, At, Fault, Reading, shows}
 use Rattle.format.specs.Formats.{Format, the}
 use Rattle.format.specs.Items.{num, bad, run, showNum}
+use Rattle.format.specs.Bodies as bodies
 use Rattle.format.specs.Bodies.{maskBlock, allFlags, rows, attributes, readBody}
 use Rattle.bits.specs.Places.{numOf}
 use Rattle.bits.specs.declared.BitPlace.{BitPlace}
@@ -19,13 +23,14 @@ use Rattle.bits.specs.declared.Got.the-variants.{Value as GotValue, Fault as Go
 use Rattle.table.specs.State.{State, shownOver}
 use Rattle.table.specs.Run.{endingOf, runLeaves}
 use Rattle.table.specs.declared.Run.{Run}
-use Rattle.attributes.specs.Rows.{attributesOf, rowsAt, rowsFrom, AreRows}
-use Rattle.attributes.specs.declared.Rows.{Rows}
-use Rattle.attributes.proofs.FlagLaws.{ended-is, flags-read, rows-are}
+use Rattle.attributes.specs.Rows.{attributesOf, rowsFrom, Attributes}
+use Rattle.attributes.specs.declared.Attribute.{Attribute}
+use Rattle.attributes.proofs.FlagLaws.{ended-is, flags-read, rows-many}
 use Rattle.bodies.specs.Leaf.{leafBody}
-use Rattle.bodies.specs.Shown.{shownLeaves}
+use Rattle.bodies.specs.Shown.{shownEnd, shownLeaves}
 use Rattle.bodies.specs.declared.Shown.{Shown}
-use Rattle.bodies.specs.declared.Shown.the-variants.{Done, Stop}
+use Rattle.bodies.proofs.Shown.{the-type}
+use Rattle.bodies.specs.declared.Shown.the-variants.{Done, Open, Stop}
 use Rattle.opacity.specs.Opacity.{Opacity, refusedBy, fromOpacity, shownAt, ofMask, opacityAt}
 use Rattle.opacity.specs.Inner.{placeIn, IsAt, Judged, Finds}
 use Rattle.opacity.proofs.ReadLaws.{ended-at}
@@ -42,56 +47,60 @@ item-none {g} {why} {R} e h =
     let d : showNum (bad why) ≡ R = ap (λ (g : Got). showNum (numOf g)) (sym e) ∙ h in
     (ap (λ (r : Reading). the (r .shown)) d, ap (λ (r : Reading). placeIn (r .ended)) d)
 
--- ---- the rows before the opacity's
-pub rows-before : (R : Rows) → R ≡ rowsAt 14 → AreRows (R .start) (R .start + 4)
-rows-before R e = rw e (record { up = omega arith; few = omega arith; inside = omega arith })
+-- ---- the rows of a mask's block
+module _ {R : List Attribute} {n : ℕ} (is : Attributes R n (attributesOf 14)) where
+  six : n ≡ 6
+  unfolding attributesOf
+  six = sym (rows-many R 0 n) ∙ ap length (is .are)
 
-pub start-small : (R : Rows) → R ≡ rowsAt 14 → R .start < 1024
-start-small R e = rw e (omega arith)
+  mask-rows : rowsFrom R 0 6 ≡ maskBlock
+  unfolding attributesOf
+  mask-rows = subst (λ (i : ℕ). rowsFrom R 0 i ≡ maskBlock) six (is .are)
 
-module _ (o : Order) (b : List ℕ) (J : Judged o b) (f u : List ℕ) (lent : 9 ≤ length f) (r : Run) where
-  abbrev FlagsLeft : Rows → Type 0
-  FlagsLeft R = runLeaves u r ≡ shownOver f 0 (run o b (allFlags (rowsFrom (R .start) (R .end))) 0)
+  -- those before the opacity's
+  four-rows : rowsFrom R 0 4 ≡ four
+  four-rows = ap (take 4) mask-rows
 
+module _ (o : Order) (b : List ℕ) (J : Judged o b) (f u : List ℕ) (lent : 12 ≤ length f) (r : Run) {R : List Attribute} {n : ℕ} (is : Attributes R n (attributesOf 14))
+    (left : runLeaves u r ≡ shownOver f 0 (run o b (allFlags (rowsFrom R 0 n)) 0)) where
   -- the flags were read: they are the first six numbers of u
   pub record Flagged : Type 0 where
     pub p : ℕ
     pub ends : endingOf r ≡ At p
     pub read : run o b (allFlags maskBlock) 0 ≡ shows (take 6 u) p
 
-  flagged-at : FlagsLeft (rowsAt 14) → Flagged
-  unfolding attributesOf
-  flagged-at left =
+  flagged : Flagged
+  flagged =
+      let l : runLeaves u r ≡ shownOver f 0 (run o b (allFlags (rowsFrom R 0 6)) 0) = subst (λ (i : ℕ). runLeaves u r ≡ shownOver f 0 (run o b (allFlags (rowsFrom R 0 i)) 0)) (six is) left in
       let B : Block o b maskBlock = block o b maskBlock (ended-at (readBody o (attributes maskBlock) b .ended) (J .reads) .1) in
-      let e : endingOf r ≡ At (B .p) = sym (ended-is f 0 (run o b (allFlags maskBlock) 0) left) ∙ ap (λ (x : Reading). x .ended) (B .flags) in
-      record { p = B .p; ends = e; read = flags-read o b f 0 (rows-are 14 (rowsAt 14) refl .0) lent (rw e at left) }
+      let e : endingOf r ≡ At (B .p) =
+      sym (ended-is f 0 (run o b (allFlags (rowsFrom R 0 6)) 0) l) ∙ ap (λ (xs : List bodies.Attribute). run o b (allFlags xs) 0 .ended) (mask-rows is)
+      ∙ ap (λ (x : Reading). x .ended) (B .flags) in
+      record {
+        p = B .p;
+        ends = e;
+        read = ap (λ (xs : List bodies.Attribute). run o b (allFlags xs) 0) (sym (mask-rows is)) ∙ flags-read o R 6 b f 0 (omega (arith, lent)) (rw e at l);
+      }
 
-  module _ (R : Rows) (is : R ≡ rowsAt 14) (left : FlagsLeft R) where
-    pub flagged : Flagged
-    flagged = flagged-at (subst FlagsLeft is left)
+  -- the place after the flags
+  module _ {m : ℕ} (behind : m ≡ placeIn (endingOf r)) where
+    m-is : m ≡ flagged .p
+    m-is = behind ∙ ap placeIn (flagged .ends)
 
-    -- the place after the flags
-    module _ {m : ℕ} (behind : m ≡ placeIn (endingOf r)) where
-      m-is : m ≡ flagged .p
-      m-is = behind ∙ ap placeIn (flagged .ends)
+    pub behind-in : m ≤ 8 * length b
+    behind-in = rw m-is (flags-in o b J (flagged .read))
 
-      pub behind-in : m ≤ 8 * length b
-      behind-in = rw m-is (flags-in o b J (flagged .read))
-
-      -- the four rows before the opacity's were read, and flag is the fifth
-      module _ (t t′ : List ℕ) (x : Run) where
-        abbrev RowsLeft : Rows → Type 0
-        RowsLeft R = runLeaves t′ x ≡ shownOver t 0 (run o b (rows (rowsFrom (R .start) (R .start + 4)) (take (R .start + 4 - R .start) u)) m)
-
-        pub found : RowsLeft R → {flag content : ℕ} → flag ≡ getD u 4 0 → content ≡ placeIn (endingOf x) → Finds o b flag content
-        found rest {flag} {content} is-flag is-place =
-            let l : RowsLeft (rowsAt 14) = subst RowsLeft is rest in
-            let f : flag ≡ getD (take 6 u) 4 0 = is-flag ∙ sym (getD-take 6 u 4 0 (omega arith)) in
-            let g : rows four (take 4 u) ≡ rows four (take 6 u) = ap (rows four) (sym (take-take 4 6 u (omega arith))) ∙ rows-take four (take 6 u) in
-            let z : content ≡ placeIn (run o b (rows four (take 6 u)) (flagged .p) .ended) =
-            is-place ∙ ap placeIn (sym (ended-is t 0 (run o b (rows four (take 4 u)) m) l)) ∙ ap (λ (h : Format). placeIn (run o b h m .ended)) g
-            ∙ ap (λ (i : ℕ). placeIn (run o b (rows four (take 6 u)) i .ended)) m-is in
-            rw f (finds o b J (flagged .read) z)
+    -- the four rows before the opacity's were read, and flag is the fifth
+    pub found : (t t′ : List ℕ) (x : Run) → runLeaves t′ x ≡ shownOver t 0 (run o b (rows (rowsFrom R 0 4) (take 4 u)) m) → {flag content : ℕ} → flag ≡ getD u 4 0 → content ≡ placeIn (endingOf x)
+        → Finds o b flag content
+    found t t′ x l {flag} {content} is-flag is-place =
+        let f : flag ≡ getD (take 6 u) 4 0 = is-flag ∙ sym (getD-take 6 u 4 0 (omega arith)) in
+        let g : rows (rowsFrom R 0 4) (take 4 u) ≡ rows four (take 6 u) =
+        ap (λ (xs : List bodies.Attribute). rows xs (take 4 u)) (four-rows is) ∙ ap (rows four) (sym (take-take 4 6 u (omega arith))) ∙ rows-take four (take 6 u) in
+        let z : content ≡ placeIn (run o b (rows four (take 6 u)) (flagged .p) .ended) =
+        is-place ∙ ap placeIn (sym (ended-is t 0 (run o b (rows (rowsFrom R 0 4) (take 4 u)) m) l)) ∙ ap (λ (h : Format). placeIn (run o b h m .ended)) g
+        ∙ ap (λ (i : ℕ). placeIn (run o b (rows four (take 6 u)) i .ended)) m-is in
+        rw f (finds o b J (flagged .read) z)
 
 -- ---- the whole body, by what `read_body` left
 module _ (o : Order) (b : List ℕ) (u v : List ℕ) (r : Shown) (left : shownLeaves v r ≡ shownOver u 0 (readBody o (leafBody 14) b)) where
@@ -103,8 +112,17 @@ module _ (o : Order) (b : List ℕ) (u v : List ℕ) (r : Shown) (left : shownLe
   unfolding ofMask
   mask-refused t e = rw (ends-at (ap (λ (x : Shown). shownLeaves v x .ended) e))
 
-  pub mask-judged : {q : BytePlace} {k : ℕ} → length b < 2 ^ 60 → r ≡ Done q k → Judged o b
-  mask-judged {q} h e = record { few = h; reads = rw (ends-at (ap (λ (x : Shown). shownLeaves v x .ended) e)) tt }
+  -- it was not stopped
+  pub mask-judged : length b < 2 ^ 60 → OneOf (0 ∷ 1 ∷ []) (tagOf the-type r) → Judged o b
+  mask-judged h k = go r refl k
+    where
+      good : {q : ℕ} → shownEnd r ≡ At q → Judged o b
+      good e = record { few = h; reads = rw (ends-at e) tt }
+
+      go : (x : Shown) → r ≡ x → OneOf (0 ∷ 1 ∷ []) (tagOf the-type x) → Judged o b
+      go (Done q k) e w = good (ap shownEnd e)
+      go (Open q k) e w = good (ap shownEnd e)
+      go (Stop z k) e w = absurd (⊎-elim (λ n. omega (arith, n)) (λ n. omega (arith, n)) w)
 
 pub mask-shown : (o : Order) (b : List ℕ) (t : ℕ) → Judged o b → shownAt (fromOpacity o b) t ≡ ofMask o b t
 unfolding ofMask

@@ -51,6 +51,6 @@ pub fn opacity(order: u32, body: &[u8], t: u64) -> Exact
     let read = bodies::read_body(named, 14, body, &mut none[..0], 0);
     match read {
         Shown::Stop(why, _) => Exact::Refused(why, 0),
-        Shown::Done(_, _) => of_mask(named, body, t),
+        _ => of_mask(named, body, t),
     }
 }
