@@ -67,6 +67,14 @@ pub values-of : (o : Order) (body t : List ℕ) (k code : ℕ) {class : Class} {
     → Shows t k (valuesOf o class code body) (listOf o class code body) u s
 values-of o body t k code {class} {u} {s} told e f = subst (λ (z : Class). Shows t k (valuesOf o z code body) (listOf o z code body) u s) (sym e) f
 
+-- ---- only a container has a list
+pub list-container : (o : Order) (class : Class) (code : ℕ) (body : List ℕ) → listOf o class code body ≡ true → class ≡ Container
+list-container o Opaque code body e = clash cc
+list-container o End code body e = clash cc
+list-container o Container code body e = refl
+list-container o Fixed code body e = clash cc
+list-container o Attributes code body e = clash cc
+
 -- ---- values end in the body
 body-le : (o : Order) (y : Body) (b : List ℕ) (p : ℕ) → readBody o y b .ended ≡ At p → p ≤ 8 * length b
 unfolding readBody
