@@ -16,7 +16,7 @@ use Rattle.format.specs.FileAndTags.{le64, eights, packed}
 use Rattle.format.proofs.BodyLaws.{end-le}
 use Rattle.format.proofs.PackLaws.{length-eights, eights-at}
 use Rattle.format.proofs.Absurd.{clash}
-use Rattle.bodies.specs.Leaf.{leafBody, containerBody, listIn}
+use Rattle.bodies.specs.Leaf.{leafBody, containerBody, hasListIn}
 use Rattle.table.specs.State.{State, shownOver}
 use Rattle.bits.proofs.StoreLaws.{sets-out}
 use Rattle.table.proofs.EngineLaws.{state-eq, after-none}
@@ -91,7 +91,7 @@ body-le o y b p = go (toEnd o b y .shown) (toEnd o b y .ended)
 pub values-le : (o : Order) (class : Class) (code : ℕ) (body : List ℕ) (p : ℕ) → valuesOf o class code body .ended ≡ At p → p ≤ 8 * length body
 values-le o Opaque code body p e = let z : 0 ≡ p = cc in omega arith
 values-le o End code body p e = let z : 0 ≡ p = cc in omega arith
-values-le o Container code body p e = go (listIn o (containerBody code) body) e
+values-le o Container code body p e = go (hasListIn o (containerBody code) body) e
   where
     go : (list : Bool) → pick list (toEnd o body (containerBody code)) (readBody o (containerBody code) body) .ended ≡ At p → p ≤ 8 * length body
     go true e = end-le o (containerBody code) body p e
