@@ -1,13 +1,11 @@
 -- For code: what the calls of the readers tell of a mask's body, and where the opacity is found.
 use Prim.Native.Nat.{ℕ, _+_, _-_, _*_, _^_, _≤_, _<_}
-use mathlib.Core.List.{List, [], _∷_}
+use mathlib.Core.Bool.{false}
+use mathlib.Core.List.{List, []}
 use mathlib.Core.Path.{_≡_, refl, ap, sym, subst, _∙_}
-use mathlib.Core.Logic.{⊎-elim}
 use native.Mathlib.Omega.{arith}
 use lib.ListN.{length, getD, take}
 use lib.Seq.{take-take, getD-take}
-use types.Run.{OneOf}
-use denote.Enum.Declared.{tagOf}
 use borrow.Author.Tests.{lt-ltb, le-ltb, le-leb, lt-leb}
 use Rattle.format.specs.Bits.{Order, orderNamed}
 use Rattle.format.specs.Reading.{Ending, At, Fault, Reading, shows}
@@ -17,7 +15,6 @@ use Rattle.format.specs.Bodies as bodies
 use Rattle.format.specs.Bodies.{maskBlock, allFlags, rows, attributes, readBody}
 use Rattle.bits.specs.Places.{numOf}
 use Rattle.bits.specs.declared.BitPlace.{BitPlace}
-use Rattle.bits.specs.declared.BytePlace.{BytePlace}
 use Rattle.bits.specs.declared.Got.{Got}
 use Rattle.bits.specs.declared.Got.the-variants.{Value as GotValue, Fault as GotFault}
 use Rattle.table.specs.State.{State, shownOver}
@@ -26,11 +23,11 @@ use Rattle.table.specs.declared.Run.{Run}
 use Rattle.attributes.specs.Rows.{attributesOf, rowsFrom, Attributes}
 use Rattle.attributes.specs.declared.Attribute.{Attribute}
 use Rattle.attributes.proofs.FlagLaws.{ended-is, flags-read, rows-many}
+use Rattle.bodies.proofs.ContentLaws.{rows-first}
 use Rattle.bodies.specs.Leaf.{leafBody}
-use Rattle.bodies.specs.Shown.{shownEnd, shownLeaves}
+use Rattle.bodies.specs.Shown.{shownEnd, Shows}
 use Rattle.bodies.specs.declared.Shown.{Shown}
-use Rattle.bodies.proofs.Shown.{the-type}
-use Rattle.bodies.specs.declared.Shown.the-variants.{Done, Open, Stop}
+use Rattle.bodies.specs.declared.Shown.the-variants.{Stop}
 use Rattle.opacity.specs.Opacity.{Opacity, refusedBy, fromOpacity, shownAt, ofMask, opacityAt}
 use Rattle.opacity.specs.Inner.{placeIn, IsAt, Judged, Finds}
 use Rattle.opacity.proofs.ReadLaws.{ended-at}
@@ -47,40 +44,29 @@ item-none {g} {why} {R} e h =
     let d : showNum (bad why) ≡ R = ap (λ (g : Got). showNum (numOf g)) (sym e) ∙ h in
     (ap (λ (r : Reading). the (r .shown)) d, ap (λ (r : Reading). placeIn (r .ended)) d)
 
--- ---- the rows of a mask's block
-module _ {R : List Attribute} {n : ℕ} (is : Attributes R n (attributesOf 14)) where
-  six : n ≡ 6
+-- ---- the rows before the opacity's
+module _ (o : Order) (b : List ℕ) (J : Judged o b) (f u : List ℕ) (lent : 12 ≤ length f) (r : Run) (mask : List Attribute) (count : ℕ) (is : Attributes mask count (attributesOf 14))
+    (left : runLeaves u r ≡ shownOver f 0 (run o b (allFlags (rowsFrom mask 0 count)) 0)) where
+  mask-is : rowsFrom mask 0 count ≡ maskBlock
   unfolding attributesOf
-  six = sym (rows-many R 0 n) ∙ ap length (is .are)
+  mask-is = is .are
 
-  mask-rows : rowsFrom R 0 6 ≡ maskBlock
-  unfolding attributesOf
-  mask-rows = subst (λ (i : ℕ). rowsFrom R 0 i ≡ maskBlock) six (is .are)
+  six : count ≡ 6
+  six = sym (rows-many mask 0 count) ∙ ap length mask-is
 
-  -- those before the opacity's
-  four-rows : rowsFrom R 0 4 ≡ four
-  four-rows = ap (take 4) mask-rows
-
-module _ (o : Order) (b : List ℕ) (J : Judged o b) (f u : List ℕ) (lent : 12 ≤ length f) (r : Run) {R : List Attribute} {n : ℕ} (is : Attributes R n (attributesOf 14))
-    (left : runLeaves u r ≡ shownOver f 0 (run o b (allFlags (rowsFrom R 0 n)) 0)) where
   -- the flags were read: they are the first six numbers of u
   pub record Flagged : Type 0 where
     pub p : ℕ
     pub ends : endingOf r ≡ At p
     pub read : run o b (allFlags maskBlock) 0 ≡ shows (take 6 u) p
 
-  flagged : Flagged
+  pub flagged : Flagged
   flagged =
-      let l : runLeaves u r ≡ shownOver f 0 (run o b (allFlags (rowsFrom R 0 6)) 0) = subst (λ (i : ℕ). runLeaves u r ≡ shownOver f 0 (run o b (allFlags (rowsFrom R 0 i)) 0)) (six is) left in
       let B : Block o b maskBlock = block o b maskBlock (ended-at (readBody o (attributes maskBlock) b .ended) (J .reads) .1) in
       let e : endingOf r ≡ At (B .p) =
-      sym (ended-is f 0 (run o b (allFlags (rowsFrom R 0 6)) 0) l) ∙ ap (λ (xs : List bodies.Attribute). run o b (allFlags xs) 0 .ended) (mask-rows is)
-      ∙ ap (λ (x : Reading). x .ended) (B .flags) in
-      record {
-        p = B .p;
-        ends = e;
-        read = ap (λ (xs : List bodies.Attribute). run o b (allFlags xs) 0) (sym (mask-rows is)) ∙ flags-read o R 6 b f 0 (omega (arith, lent)) (rw e at l);
-      }
+      sym (ended-is f 0 (run o b (allFlags (rowsFrom mask 0 count)) 0) left) ∙ ap (λ (l : List bodies.Attribute). run o b (allFlags l) 0 .ended) mask-is ∙ ap (λ (x : Reading). x .ended) (B .flags) in
+      let read : run o b (allFlags (rowsFrom mask 0 count)) 0 ≡ shows (take count u) (B .p) = flags-read o mask count b f 0 (omega (arith, is .few)) (rw e at left) in
+      record { p = B .p; ends = e; read = ap (λ (l : List bodies.Attribute). run o b (allFlags l) 0) (sym mask-is) ∙ read ∙ ap (λ (n : ℕ). shows (take n u) (B .p)) six }
 
   -- the place after the flags
   module _ {m : ℕ} (behind : m ≡ placeIn (endingOf r)) where
@@ -91,38 +77,30 @@ module _ (o : Order) (b : List ℕ) (J : Judged o b) (f u : List ℕ) (lent : 12
     behind-in = rw m-is (flags-in o b J (flagged .read))
 
     -- the four rows before the opacity's were read, and flag is the fifth
-    pub found : (t t′ : List ℕ) (x : Run) → runLeaves t′ x ≡ shownOver t 0 (run o b (rows (rowsFrom R 0 4) (take 4 u)) m) → {flag content : ℕ} → flag ≡ getD u 4 0 → content ≡ placeIn (endingOf x)
-        → Finds o b flag content
-    found t t′ x l {flag} {content} is-flag is-place =
+    pub found : (t t′ : List ℕ) (x : Run) → runLeaves t′ x ≡ shownOver t 0 (run o b (rows (rowsFrom mask 0 4) (take 4 u)) m)
+        → {flag content : ℕ} → flag ≡ getD u 4 0 → content ≡ placeIn (endingOf x) → Finds o b flag content
+    found t t′ x rest {flag} {content} is-flag is-place =
         let f : flag ≡ getD (take 6 u) 4 0 = is-flag ∙ sym (getD-take 6 u 4 0 (omega arith)) in
-        let g : rows (rowsFrom R 0 4) (take 4 u) ≡ rows four (take 6 u) =
-        ap (λ (xs : List bodies.Attribute). rows xs (take 4 u)) (four-rows is) ∙ ap (rows four) (sym (take-take 4 6 u (omega arith))) ∙ rows-take four (take 6 u) in
+        let first : rowsFrom mask 0 4 ≡ four = rows-first mask 0 4 count (omega (arith, six)) ∙ ap (take 4) mask-is in
+        let g : rows (rowsFrom mask 0 4) (take 4 u) ≡ rows four (take 6 u) =
+        ap (λ (l : List bodies.Attribute). rows l (take 4 u)) first ∙ ap (rows four) (sym (take-take 4 6 u (omega arith))) ∙ rows-take four (take 6 u) in
         let z : content ≡ placeIn (run o b (rows four (take 6 u)) (flagged .p) .ended) =
-        is-place ∙ ap placeIn (sym (ended-is t 0 (run o b (rows (rowsFrom R 0 4) (take 4 u)) m) l)) ∙ ap (λ (h : Format). placeIn (run o b h m .ended)) g
+        is-place ∙ ap placeIn (sym (ended-is t 0 (run o b (rows (rowsFrom mask 0 4) (take 4 u)) m) rest)) ∙ ap (λ (h : Format). placeIn (run o b h m .ended)) g
         ∙ ap (λ (i : ℕ). placeIn (run o b (rows four (take 6 u)) i .ended)) m-is in
         rw f (finds o b J (flagged .read) z)
 
 -- ---- the whole body, by what `read_body` left
-module _ (o : Order) (b : List ℕ) (u v : List ℕ) (r : Shown) (left : shownLeaves v r ≡ shownOver u 0 (readBody o (leafBody 14) b)) where
-  ends-at : {z : Ending} → shownLeaves v r .ended ≡ z → readBody o (attributes maskBlock) b .ended ≡ z
+module _ (o : Order) (b : List ℕ) (u v : List ℕ) (r : Shown) (left : Shows u 0 (readBody o (leafBody 14) b) false v r) where
+  ends-at : {z : Ending} → shownEnd r ≡ z → readBody o (attributes maskBlock) b .ended ≡ z
   unfolding leafBody attributesOf
-  ends-at e = ended-is u 0 (readBody o (attributes maskBlock) b) left ∙ e
+  ends-at e = ended-is u 0 (readBody o (attributes maskBlock) b) (left .left) ∙ e
 
   pub mask-refused : (t : ℕ) {e k : ℕ} → r ≡ Stop e k → refusedBy e ≡ ofMask o b t
   unfolding ofMask
-  mask-refused t e = rw (ends-at (ap (λ (x : Shown). shownLeaves v x .ended) e))
+  mask-refused t e = rw (ends-at (ap shownEnd e))
 
-  -- it was not stopped
-  pub mask-judged : length b < 2 ^ 60 → OneOf (0 ∷ 1 ∷ []) (tagOf the-type r) → Judged o b
-  mask-judged h k = go r refl k
-    where
-      good : {q : ℕ} → shownEnd r ≡ At q → Judged o b
-      good e = record { few = h; reads = rw (ends-at e) tt }
-
-      go : (x : Shown) → r ≡ x → OneOf (0 ∷ 1 ∷ []) (tagOf the-type x) → Judged o b
-      go (Done q k) e w = good (ap shownEnd e)
-      go (Open q k) e w = good (ap shownEnd e)
-      go (Stop z k) e w = absurd (⊎-elim (λ n. omega (arith, n)) (λ n. omega (arith, n)) w)
+  pub mask-judged : {q : ℕ} → length b < 2 ^ 60 → shownEnd r ≡ At q → Judged o b
+  mask-judged {q} h e = record { few = h; reads = rw (ends-at e) tt }
 
 pub mask-shown : (o : Order) (b : List ℕ) (t : ℕ) → Judged o b → shownAt (fromOpacity o b) t ≡ ofMask o b t
 unfolding ofMask

@@ -51,6 +51,7 @@ pub fn opacity(order: u32, body: &[u8], t: u64) -> Exact
     let read = bodies::read_body(named, 14, body, &mut none[..0], 0);
     match read {
         Shown::Stop(why, _) => Exact::Refused(why, 0),
-        _ => of_mask(named, body, t),
+        Shown::Done(_, _) => of_mask(named, body, t),
+        Shown::Open(_, _) => of_mask(named, body, t),
     }
 }

@@ -62,7 +62,10 @@ pub(crate) fn find(order: Order, body: &[u8]) -> Found
     let mut flags = [0u64; 12];
     let behind = place_of(attributes::read_flags(order, block, body, BitPlace(0), &mut flags));
     let rows = block.rows;
-    let before = Block { rows, count: 4 };
+    let before = Block {
+        rows: rows,
+        count: 4,
+    };
     let mut none = [0u64; 1];
     let content = place_of(bodies::blocks::read_contents(
         order,

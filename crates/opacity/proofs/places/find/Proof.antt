@@ -29,33 +29,33 @@ read-flags-requires c κs = search needs
 place-of-requires : tie.Need-place-of-requires
 place-of-requires c κs = search needs
 
--- src/places.rt:70:9
+-- src/places.rt:73:9
 slice-aggregate-read-contents : tie.Need-slice-aggregate-read-contents
 slice-aggregate-read-contents c = search needs
 
--- src/places.rt:73:9
+-- src/places.rt:76:9
 array-borrow-prefix-none : tie.Need-array-borrow-prefix-none
 array-borrow-prefix-none c = search needs
 
--- src/places.rt:73:9
+-- src/places.rt:76:9
 slice-aggregate-read-contents-2 : tie.Need-slice-aggregate-read-contents-2
 slice-aggregate-read-contents-2 c = search needs
 
--- src/places.rt:67:28
+-- src/places.rt:70:28
 read-contents-requires : tie.Need-read-contents-requires
-read-contents-requires c κs = (omega arith, omega (arith, c .before .before .before .before .before .read-flags .kept .1 .1 .1 .1 .0), ((behind-in (orderOf (c .before .before .before .before .before .before .before .before .before .args .order)) (now (c .before .before .before .before .before .before .before .before .before .args .body)) (c .before .before .before .before .before .before .before .before .before .pre) _ _ (omega arith) (c .before .before .before .before .before .read-flags .result) (c .before .before .before .before .before .before .before .block-of .ensures) (c .before .before .before .before .before .read-flags .ensures) (c .before .before .before .place-of .ensures), c .before .before .before .before .before .before .before .before .before .pre .few), omega arith))
+read-contents-requires c κs = (omega arith, omega (arith, c .before .before .before .before .before .read-flags .kept .1 .1 .1 .1 .0), ((behind-in (orderOf (c .before .before .before .before .before .before .before .before .before .args .order)) (now (c .before .before .before .before .before .before .before .before .before .args .body)) (c .before .before .before .before .before .before .before .before .before .pre) _ _ (omega arith) (c .before .before .before .before .before .read-flags .result) (c .before .before .before .before .before .before .before .block-of .result .rows) (c .before .before .before .before .before .before .before .block-of .result .count) (c .before .before .before .before .before .before .before .block-of .ensures) (c .before .before .before .before .before .read-flags .ensures) (c .before .before .before .place-of .ensures), c .before .before .before .before .before .before .before .before .before .pre .few), omega arith))
 
--- src/places.rt:67:9
+-- src/places.rt:70:9
 place-of-requires-2 : tie.Need-place-of-requires-2
 place-of-requires-2 c κs = search needs
 
--- src/places.rt:77:15
+-- src/places.rt:80:15
 array-read-t20 : tie.Need-array-read-t20
 array-read-t20 c = search needs
 
 -- src/places.rt:57:1
 returns : tie.Need-returns
-returns c = found (orderOf (c .before .before .before .before .before .before .before .before .before .before .before .before .args .order)) (now (c .before .before .before .before .before .before .before .before .before .before .before .before .args .body)) (c .before .before .before .before .before .before .before .before .before .before .before .before .pre) _ _ (omega arith) (c .before .before .before .before .before .before .before .before .read-flags .result) (c .before .before .before .before .before .before .before .before .before .before .block-of .ensures) (c .before .before .before .before .before .before .before .before .read-flags .ensures) (c .before .before .before .before .before .before .place-of .ensures) _ _ (c .before .before .read-contents .result) (c .before .before .read-contents .ensures) refl (c .place-of2 .ensures)
+returns c = found (orderOf (c .before .before .before .before .before .before .before .before .before .before .before .before .args .order)) (now (c .before .before .before .before .before .before .before .before .before .before .before .before .args .body)) (c .before .before .before .before .before .before .before .before .before .before .before .before .pre) _ _ (omega arith) (c .before .before .before .before .before .before .before .before .read-flags .result) (c .before .before .before .before .before .before .before .before .before .before .block-of .result .rows) (c .before .before .before .before .before .before .before .before .before .before .block-of .result .count) (c .before .before .before .before .before .before .before .before .before .before .block-of .ensures) (c .before .before .before .before .before .before .before .before .read-flags .ensures) (c .before .before .before .before .before .before .place-of .ensures) _ _ (c .before .before .read-contents .result) (c .before .before .read-contents .ensures) refl (c .place-of2 .ensures)
 
 pub find-spec : {M : Type 1} → statement M
 find-spec =
