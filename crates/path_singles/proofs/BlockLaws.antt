@@ -20,16 +20,12 @@ use Rattle.attributes.specs.Rows.{attributeOf, rowsFrom, Attributes}
 use Rattle.attributes.specs.declared.Attribute as code
 use Rattle.attributes.specs.declared.Block.{Block}
 use Rattle.attributes.proofs.FlagLaws.{rowAt, rows-next, rows-none, rows-many}
+use Rattle.bodies.proofs.ContentLaws.{rows-first}
 use Rattle.path_singles.specs.Coordinates.{Singled, isPath, plain, onward, behindFlag, earlier, block}
 use Rattle.path_singles.specs.Converting.{left, rowOf}
 use Rattle.path_singles.proofs.StepLaws.{beside, or-assoc, or-false}
 
 -- ---- the rows before one
-rows-first : (R : List code.Attribute) (i m n : ℕ) → m ≤ n → rowsFrom R i m ≡ take m (rowsFrom R i n)
-rows-first R i zero n h = refl
-rows-first R i (suc m) zero h = absurd (omega arith)
-rows-first R i (suc m) (suc n) h = ap (λ (xs : List Attribute). attributeOf (rowAt R i) ∷ xs) (rows-first R (suc i) m n (omega arith))
-
 -- rows take as many flags as they are
 rows-take : (xs : List Attribute) (φs : List ℕ) → rows xs (take (length xs) φs) ≡ rows xs φs
 unfolding rows
