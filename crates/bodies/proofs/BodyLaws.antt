@@ -26,7 +26,7 @@ use Rattle.table.specs.declared.Run.the-variants as run
 use Rattle.table.proofs.EngineLaws.{state-eq}
 use Rattle.attributes.specs.Rows.{attributesOf}
 use Rattle.fixed.specs.Fixed.{fixedOf}
-use Rattle.bodies.specs.Leaf.{isBlock, bodyBy, leafBody, group, containerBody, listIn, ownPart}
+use Rattle.bodies.specs.Leaf.{isBlock, bodyBy, leafBody, group, containerBody, hasListIn, ownPart}
 use Rattle.bodies.specs.Shown.{shownEnd, shownIndex, shownLeaves, isOpen, opens, Shows, finished, Inside, endBy, endAfter, Finishes}
 use Rattle.bodies.specs.declared.Shown.{Shown}
 use Rattle.bodies.specs.declared.Shown.the-variants.{Done, Open, Stop}
@@ -156,30 +156,30 @@ module _ (o : Order) (b t : List ℕ) (k code : ℕ) {u : List ℕ} (items : Run
 
   -- a container with items
   pub items-shows : (code ≡ 15 → ⊥) → runLeaves u items ≡ shownOver t k (readPart o b (bodyBy false code) 0) → Finishes o b items true s
-      → Shows t k (ownPart o (containerBody code) b) (listIn o (containerBody code) b) u s
+      → Shows t k (ownPart o (containerBody code) b) (hasListIn o (containerBody code) b) u s
   unfolding containerBody
   items-shows z h done = rw (ne-eqb code 15 z) (body-shows o b (bodyBy false code) t k items true h done)
 
-pub container-group : (o : Order) (b t : List ℕ) (k code : ℕ) {u : List ℕ} {s : Shown} → code ≡ 15 → Shows t k (ownPart o group b) (listIn o group b) u s
-    → Shows t k (ownPart o (containerBody code) b) (listIn o (containerBody code) b) u s
+pub container-group : (o : Order) (b t : List ℕ) (k code : ℕ) {u : List ℕ} {s : Shown} → code ≡ 15 → Shows t k (ownPart o group b) (hasListIn o group b) u s
+    → Shows t k (ownPart o (containerBody code) b) (hasListIn o (containerBody code) b) u s
 unfolding containerBody
 container-group o b t k code z h = rw (eq-eqb code 15 z) h
 
 -- a group, whose flags were read into f
 pub group-shows : (o : Order) (b t f : List ℕ) (k : ℕ) {u φs : List ℕ} (items : Run) {list : Bool} {s : Shown} (attrs : List Attribute) → attrs ≡ attributesOf 15 → 9 ≤ length f
     → φs ≡ sets f 0 (run o b (allFlags attrs) 0 .shown) → runLeaves u items ≡ shownOver t k (readBlock o b attrs 0) → list ≡ eqb (getD φs 8 0) 1 → Finishes o b items list s
-    → Shows t k (ownPart o group b) (listIn o group b) u s
+    → Shows t k (ownPart o group b) (hasListIn o group b) u s
 unfolding attributesOf readPart
 group-shows o b t f k {u} {φs} items {list} {s} attrs is lent flags h flag done = go (readPart o b group 0 .ended) refl
   where
     shown : Shows t k (either o b group list) list u s
     shown = body-shows o b group t k items list (h ∙ ap (λ (l : List Attribute). shownOver t k (readBlock o b l 0)) is) done
 
-    go : (z : Ending) → readPart o b group 0 .ended ≡ z → Shows t k (ownPart o group b) (listIn o group b) u s
-    go (Fault e) z = shows-either o b group z t k list (listIn o group b) shown
+    go : (z : Ending) → readPart o b group 0 .ended ≡ z → Shows t k (ownPart o group b) (hasListIn o group b) u s
+    go (Fault e) z = shows-either o b group z t k list (hasListIn o group b) shown
     go (At q) z =
         let last : getD φs 8 0 ≡ lastOf (readPart o b group 0 .shown) = group-last o b f φs 0 q lent (flags ∙ ap (λ (l : List Attribute). sets f 0 (run o b (allFlags l) 0 .shown)) is) z in
-        let e : list ≡ listIn o group b = flag ∙ ap (λ (n : ℕ). eqb n 1) (last ∙ ap lastOf (sym (end-shown o b group))) in
+        let e : list ≡ hasListIn o group b = flag ∙ ap (λ (n : ℕ). eqb n 1) (last ∙ ap lastOf (sym (end-shown o b group))) in
         subst (λ (l : Bool). Shows t k (either o b group l) l u s) e shown
 
 -- ---- no second answer fits a promise on the values of a tag: what was left, seen as a state, tells the table; and with whether a list follows, the answer

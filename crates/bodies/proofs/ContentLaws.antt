@@ -1,5 +1,5 @@
 -- Attribute blocks: an attribute's content by its kind and flag number, and the rows of a block one after the other.
-use Prim.Native.Nat.{ℕ, suc, _+_, _-_, _*_, _≤_, _<_}
+use Prim.Native.Nat.{ℕ, zero, suc, _+_, _-_, _*_, _≤_, _<_}
 use mathlib.Core.List.{List, [], _∷_}
 use mathlib.Core.Path.{_≡_, refl, ap, ap₂, sym, _∙_}
 use native.Mathlib.Numerals.{add-one}
@@ -105,6 +105,12 @@ module _ (o : Order) (s t₀ flags : List ℕ) (k : ℕ) (block : List Attribute
   -- at the start all flags are left
   pub rows-start : count ≤ 12 → Fits s p₀ (k + 12) → Going t₀ p₀ k 0
   rows-start few h = let n : count - 0 ≡ count = omega arith in record { size = refl; same = rw n; fits = (h .0, omega (arith, h .1)); below = omega arith }
+
+-- ---- the first rows of a block
+pub rows-first : (block : List Attribute) (i m n : ℕ) → m ≤ n → rowsFrom block i m ≡ take m (rowsFrom block i n)
+rows-first block i zero n h = refl
+rows-first block i (suc m) zero h = absurd (omega arith)
+rows-first block i (suc m) (suc n) h = ap (λ (l : List bodies.Attribute). attributeOf (rowAt block i) ∷ l) (rows-first block (suc i) m n (omega arith))
 
 -- ---- a block: its flags, and then its rows
 module _ (o : Order) (b t : List ℕ) (k p : ℕ) (attrs : List bodies.Attribute) where

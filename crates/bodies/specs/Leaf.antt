@@ -30,8 +30,8 @@ unfoldable pub containerBody : ℕ → Body
 containerBody code = pick (eqb code 15) group (fixed (fixedOf code))
 
 -- whether it has a list, and what is read of it: up to the whole byte where the list starts, and without one to its end
-abbrev pub listIn : Order → Body → List ℕ → Bool
-listIn o y b = hasList y (toEnd o b y .shown)
+abbrev pub hasListIn : Order → Body → List ℕ → Bool
+hasListIn o y b = hasList y (toEnd o b y .shown)
 
 abbrev pub ownPart : Order → Body → List ℕ → Reading
-ownPart o y b = pick (listIn o y b) (toEnd o b y) (readBody o y b)
+ownPart o y b = pick (hasListIn o y b) (toEnd o b y) (readBody o y b)

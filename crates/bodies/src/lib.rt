@@ -7,7 +7,7 @@ ghost use Rattle.format.specs.Bodies.{readPart, readBody};
 ghost use Rattle.bits.specs.Places.{orderOf};
 ghost use Rattle.table.specs.State.{shownOver};
 ghost use Rattle.table.specs.Run.{runLeaves};
-ghost use Rattle.bodies.specs.Leaf.{isBlock, bodyBy, leafBody, group, containerBody, listIn, ownPart};
+ghost use Rattle.bodies.specs.Leaf.{isBlock, bodyBy, leafBody, group, containerBody, hasListIn, ownPart};
 ghost use Rattle.bodies.specs.Shown.{Inside, finished, Finishes, Shows};
 
 pub mod blocks;
@@ -108,7 +108,7 @@ pub fn read_body(order: Order, code: u32, body: &[u8], table: &mut [u64], from: 
 // A ShapeGroup: it has a list where the flag of its last attribute, the TagBlock, is set. The walk that counts stores no values, so the flag is taken from the lent flags.
 fn read_group(order: Order, body: &[u8], table: &mut [u64], from: usize) -> Shown
     requires { ⌜ (length (now body) < 2 ^ 60) × (from < 2 ^ 61) ⌝ }
-    ensures { λ r. ⌜ Shows (now (table .entry)) from (ownPart (orderOf order) group (now (body .entry))) (listIn (orderOf order) group (now (body .entry))) (now (table .exit)) r ⌝ }
+    ensures { λ r. ⌜ Shows (now (table .entry)) from (ownPart (orderOf order) group (now (body .entry))) (hasListIn (orderOf order) group (now (body .entry))) (now (table .exit)) r ⌝ }
 {
     let mut flags = [0u64; 12];
     let block = attributes::blocks::block_of(15);
@@ -119,7 +119,7 @@ fn read_group(order: Order, body: &[u8], table: &mut [u64], from: usize) -> Show
 // The own part of a container: its items, and zero bits up to the whole byte where its list starts (15). A group without a list ends like a leaf.
 pub fn read_container(order: Order, code: u32, body: &[u8], table: &mut [u64], from: usize) -> Shown
     requires { ⌜ (length (now body) < 2 ^ 60) × (from < 2 ^ 61) ⌝ }
-    ensures { λ r. ⌜ Shows (now (table .entry)) from (ownPart (orderOf order) (containerBody code) (now (body .entry))) (listIn (orderOf order) (containerBody code) (now (body .entry))) (now (table .exit)) r ⌝ }
+    ensures { λ r. ⌜ Shows (now (table .entry)) from (ownPart (orderOf order) (containerBody code) (now (body .entry))) (hasListIn (orderOf order) (containerBody code) (now (body .entry))) (now (table .exit)) r ⌝ }
 {
     if code == 15 {
         return read_group(order, body, table, from);

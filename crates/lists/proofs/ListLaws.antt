@@ -25,7 +25,7 @@ use Rattle.format.proofs.Absurd.{clash}
 use Rattle.table.proofs.EngineLaws.{sets-append}
 use Rattle.attributes.specs.Rows.{attributesOf}
 use Rattle.fixed.specs.Fixed.{fixedOf}
-use Rattle.bodies.specs.Leaf.{leafBody, containerBody, listIn}
+use Rattle.bodies.specs.Leaf.{leafBody, containerBody, hasListIn}
 use Rattle.classes.specs.Classes.{bare, ends, contains, classBy, Classed}
 use Rattle.classes.specs.declared.Class.{Class}
 use Rattle.classes.specs.declared.Class.the-variants.{Opaque, End, Container, Fixed, Attributes}
@@ -131,7 +131,7 @@ within-is o R ns code a s body = go (classIn ns code)
     go : (c : Class) → within o R (classWith c code) a s body ≡ insideOf o R c code a s body
     go Opaque = refl
     go End = refl
-    go Container = own (listIn o (containerBody code) body) (toEnd o body (containerBody code)) (readBody o (containerBody code) body)
+    go Container = own (hasListIn o (containerBody code) body) (toEnd o body (containerBody code)) (readBody o (containerBody code) body)
     go Fixed = leaf-is (readBody o (leafBody code) body)
     go Attributes = leaf-is (readBody o (leafBody code) body)
 

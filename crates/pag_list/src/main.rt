@@ -1,6 +1,4 @@
 // The listing of the file on standard input; with the argument --singles, path coordinates are printed as the bits of singles. What it prints is made by proved functions; this program only reads and writes.
-ghost use Prim.Native.Nat.{_≤_};
-ghost use lib.ListN.{length};
 use libc::STDERR_FILENO;
 use libc::STDIN_FILENO;
 use printing::Input;
@@ -12,9 +10,7 @@ const LEVEL: u32 = 1023;
 const MOST: usize = 32768;
 
 // 8,192 numbers are those of 2,730 tags at most, so that `tags` never refuses what `read` accepts.
-fn print_file(file: &[u8], singles: bool)
-    requires { ⌜ length (now file) ≤ 32768 ⌝ }
-{
+fn print_file(file: &[u8], singles: bool) {
     let mut table = [0u64; 8192];
     let mut rows = [0u32; 13650];
     if singles {

@@ -124,13 +124,14 @@ module _ (v : List ℕ) (k : ℕ) (h : k < length v) where
         ∙ ap₂ (λ (x : List ℕ) (b : Bool). left (x ++ P .shown) (b or P .beyond)) (sym front-is) (sym c-is)
         ∙ ap (λ (z : List ℕ). left (take (behindOf v k) u ++ paths m z .shown) (c or paths m z .beyond)) (sym back-is)
 
--- the indexes, as the code finds them
-pub path-indexes : (v : List ℕ) (k : ℕ) {w c i j : ℕ} → k < length v → w ≡ min (k + 1 + getD v k 0) (length v) → c ≡ coordinates (take (w - (k + 1)) (drop (k + 1) v))
-    → i ≡ min (w + 1) (length v) → j ≡ min (i + c) (length v) → (i ≡ firstOf v k) × (j ≡ behindOf v k)
-path-indexes v k {w} {c} {i} {j} h e d f g =
+-- the path, by the indexes that the code finds
+pub path-over : (v : List ℕ) (k : ℕ) {w c i j : ℕ} {x : Singled} → k < length v → w ≡ min (k + 1 + getD v k 0) (length v) → c ≡ coordinates (take (w - (k + 1)) (drop (k + 1) v))
+    → x ≡ over v i j → i ≡ min (w + 1) (length v) → j ≡ min (i + c) (length v) → (x ≡ over v (firstOf v k) (behindOf v k)) × (j ≡ behindOf v k)
+path-over v k {w} {c} {i} {j} h e d p f g =
     let a : c ≡ coordinates (verbsOf v k) = d ∙ ap (λ (x : ℕ). coordinates (take (x - (k + 1)) (drop (k + 1) v))) e ∙ ap coordinates (take-up-to (k + 1) (getD v k 0) v (omega arith) ∙ ap (λ (x : ℕ). take (getD v k 0) (drop x v)) (add-one k)) in
     let b : i ≡ firstOf v k = omega arith in
-    (b, omega arith)
+    let l : j ≡ behindOf v k = omega arith in
+    (p ∙ ap₂ (over v) b l, l)
 
 -- ---- the loop: the whole from the start is what is left from here, beside what was beyond so far
 pub record Turning (v₀ : List ℕ) (k₀ m₀ : ℕ) (v : List ℕ) (k m : ℕ) (b : Bool) : Type 0 where

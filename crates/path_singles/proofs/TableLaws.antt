@@ -14,6 +14,8 @@ use Rattle.format.specs.Bits.{high}
 use Rattle.format.specs.FileAndTags.{compression, Tag, Walk, Outcome, whole, fault}
 use Rattle.format.specs.TableOfNumbers.{numbers, table, isOpaque, bodyIn, tagTable}
 use Rattle.format.specs.Reasons.{Result, gives, refuses, result, Answer, accepted, refused, walkFile, readFile, readTags}
+use Rattle.format.proofs.StartLaws.{good-start, whole-start}
+use Rattle.format.proofs.RoomLaws.{table-room}
 use Rattle.format.proofs.Absurd.{clash}
 use Rattle.attributes.specs.Rows.{attributesOf}
 use Rattle.path_singles.specs.declared.tags.First.{First}
@@ -70,8 +72,8 @@ tag-read f v i j s c p n y z {u} {x} {r} l h a b e d =
     ap (λ (q : List ℕ). left q r) (e ∙ ap (λ (m : List ℕ). take i v ++ (x ++ m)) o) ∙ ap (λ (q : Singled). left (take i v ++ (q .shown ++ drop j v)) (q .beyond)) w
 
 -- ---- the two tables of a file
-gives-one : (ns : List ℕ) (z : Outcome) {t : List ℕ} → result ns z ≡ gives t → ns ≡ t
-gives-one ns whole e = cc
+gives-one : (ns : List ℕ) (z : Outcome) {t : List ℕ} → result ns z ≡ gives t → (ns ≡ t) × (z ≡ whole)
+gives-one ns whole e = (cc, refl)
 gives-one ns (fault e n) d = clash cc
 
 -- the numbers from index k on
@@ -92,6 +94,8 @@ module _ (f g T : List ℕ) (J : Answer) (size : ℕ) where
   -- the loop: the tags that are left, the table that they make of it, and the answer
   pub record Walking (t : List ℕ) (k m : ℕ) (a : First) : Type 0 where
     pub rest : List Tag
+    pub short : length f ≤ 16777216
+    pub few : size ≤ 8 * 16777216
     pub long : length t ≡ size
     pub numbersLeft : drop k t ≡ numbers rest
     pub tagsLeft : drop m g ≡ tagTable rest
@@ -165,6 +169,8 @@ module _ (f g T : List ℕ) (J : Answer) (size : ℕ) where
       let i : length (take (k + 3) t ++ S .shown) ≡ e = omega (arith, length-append (take (k + 3) t) (S .shown), H .ends) in
       record {
         rest = H .more;
+        short = W .short;
+        few = W .few;
         long = n ∙ W .long;
         numbersLeft = ap (drop e) p ∙ drop-at (take (k + 3) t ++ S .shown) (drop e t) e i ∙ ap (λ (j : ℕ). drop j t) b ∙ H .behind;
         tagsLeft = H .rows;
@@ -187,10 +193,13 @@ pub begins : (f t g : List ℕ) → TablesOf f t g → Walking f g (table f (inS
 unfolding readFile readTags
 begins f t g h =
     let w : Walk = walkFile 0 1023 f in
-    let e : table f w ≡ t = gives-one (table f w) (w .ended) (h .0) in
-    let d : tagTable (w .tags) ≡ g = gives-one (tagTable (w .tags)) (w .ended) (h .1) in
+    let e : table f w ≡ t = gives-one (table f w) (w .ended) (h .0) .0 in
+    let d : tagTable (w .tags) ≡ g = gives-one (tagTable (w .tags)) (w .ended) (h .1) .0 in
+    let s : length f ≤ 16777216 = good-start 0 1023 f (whole-start 0 1023 f (gives-one (table f w) (w .ended) (h .0) .1)) .limit in
     record {
       rest = w .tags;
+      short = s;
+      few = omega (arith, table-room 0 1023 f t (h .0));
       long = refl;
       numbersLeft = ap (drop 1) (sym e);
       tagsLeft = sym d;

@@ -89,8 +89,9 @@ fn convert_path(values: &mut [u64], at: usize) -> Path
     ensures ended { λ r. ⌜ r .behind ≡ behindOf (now (values .entry)) at ⌝ }
 {
     let len = values.len();
-    let verb_end = up_to(at + 1, values[at], len);
-    let count = count_coordinates(values, at + 1, verb_end);
+    let verbs = at + 1;
+    let verb_end = up_to(verbs, values[at], len);
+    let count = count_coordinates(values, verbs, verb_end);
     let start = up_to(verb_end, 1, len);
     let behind = up_to(start, count, len);
     let beyond = convert_steps(values, start, behind);

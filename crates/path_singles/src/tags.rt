@@ -70,7 +70,7 @@ fn answer_of(first: First) -> Answer
 
 // The table of a file, with the bits of singles for path coordinates; or 29 with the place of the first tag that has a coordinate beyond.
 pub fn convert(file: &[u8], rows: &[u32], table: &mut [u64]) -> Answer
-    requires { ⌜ TablesOf (now file) (now table) (now rows) × (length (now file) < 2 ^ 60) × (length (now table) < 2 ^ 32) ⌝ }
+    requires { ⌜ TablesOf (now file) (now table) (now rows) ⌝ }
     ensures { λ r. ⌜ (now (table .exit) ≡ tableOf (now (file .entry)) (inSingles (now (file .entry)) (walkFile 0 1023 (now (file .entry))))) × (answerOf r ≡ judged (now (file .entry)) (walkFile 0 1023 (now (file .entry)) .tags)) ⌝ }
 {
     let mut first = First {

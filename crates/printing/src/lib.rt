@@ -1,10 +1,12 @@
 // What the programs share: reading a whole input, and printing a file's listing or refusal. What is printed is made by proved functions.
 ghost use mathlib.Core.Path.{_≡_};
-ghost use Prim.Native.Nat.{_+_, _≤_, _<_, _^_};
+ghost use Prim.Native.Nat.{_≤_};
 ghost use lib.ListN.{length};
-ghost use Rattle.format.specs.Reasons.{readFile, readTags, into};
-ghost use Rattle.path_singles.specs.Tables.{TablesOf};
+ghost use Rattle.format.specs.TableOfNumbers.{table as tableOf};
+ghost use Rattle.format.specs.Reasons.{walkFile, readFile, readTags, into};
+ghost use Rattle.path_singles.specs.Tables.{inSingles, TablesOf};
 ghost use Rattle.printing.specs.Input.{Within};
+ghost use Rattle.printing.specs.Singles.{singlesLeft};
 use answers::Answer;
 use libc::STDERR_FILENO;
 use libc::STDOUT_FILENO;
@@ -129,7 +131,8 @@ pub fn print_tables(level: u32, file: &[u8], table: &mut [u64], rows: &mut [u32]
 
 // The listing of a file's tables with singles for path coordinates; or 29, after all other refusals.
 fn print_converted(file: &[u8], table: &mut [u64], rows: &[u32])
-    requires { ⌜ TablesOf (now file) (now table) (now rows) × (length (now file) < 2 ^ 60) × (length (now table) < 2 ^ 32) ⌝ }
+    requires { ⌜ TablesOf (now file) (now table) (now rows) ⌝ }
+    ensures { λ _. ⌜ now (table .exit) ≡ tableOf (now (file .entry)) (inSingles (now (file .entry)) (walkFile 0 1023 (now (file .entry)))) ⌝ }
 {
     match path_singles::tags::convert(file, rows, table) {
         Answer::Refused(reason, number) => print_refusal(reason, number),
@@ -139,7 +142,8 @@ fn print_converted(file: &[u8], table: &mut [u64], rows: &[u32])
 
 // A file with singles for path coordinates (C-23), at level 1023: its listing, or the reason why it is refused. The table lent holds the bits then.
 pub fn print_singles(file: &[u8], table: &mut [u64], rows: &mut [u32])
-    requires { ⌜ (length (now file) < 2 ^ 60) × (length (now table) < 2 ^ 32) ⌝ }
+    ensures { λ _. ⌜ now (table .exit) ≡ singlesLeft (now (file .entry)) (now (table .entry)) (now (rows .entry)) ⌝ }
+    ensures { λ _. ⌜ now (rows .exit) ≡ into (now (rows .entry)) (readTags 0 1023 (now (file .entry))) .lent ⌝ }
 {
     let tagged = reader::tags(1023, HIGH_FIRST, file, rows);
     match reader::read(1023, HIGH_FIRST, file, table) {

@@ -16,7 +16,7 @@ use Rattle.format.specs.FileAndTags.{le64, eights, packed}
 use Rattle.format.proofs.BodyLaws.{end-le}
 use Rattle.format.proofs.PackLaws.{length-eights, eights-at}
 use Rattle.format.proofs.Absurd.{clash}
-use Rattle.bodies.specs.Leaf.{leafBody, containerBody, listIn}
+use Rattle.bodies.specs.Leaf.{leafBody, containerBody, hasListIn}
 use Rattle.table.specs.State.{State, shownOver}
 use Rattle.bits.proofs.StoreLaws.{sets-out}
 use Rattle.table.proofs.EngineLaws.{state-eq, after-none}
@@ -67,6 +67,14 @@ pub values-of : (o : Order) (body t : List ℕ) (k code : ℕ) {class : Class} {
     → Shows t k (valuesOf o class code body) (listOf o class code body) u s
 values-of o body t k code {class} {u} {s} told e f = subst (λ (z : Class). Shows t k (valuesOf o z code body) (listOf o z code body) u s) (sym e) f
 
+-- ---- only a container has a list
+pub list-container : (o : Order) (class : Class) (code : ℕ) (body : List ℕ) → listOf o class code body ≡ true → class ≡ Container
+list-container o Opaque code body e = clash cc
+list-container o End code body e = clash cc
+list-container o Container code body e = refl
+list-container o Fixed code body e = clash cc
+list-container o Attributes code body e = clash cc
+
 -- ---- values end in the body
 body-le : (o : Order) (y : Body) (b : List ℕ) (p : ℕ) → readBody o y b .ended ≡ At p → p ≤ 8 * length b
 unfolding readBody
@@ -83,7 +91,7 @@ body-le o y b p = go (toEnd o b y .shown) (toEnd o b y .ended)
 pub values-le : (o : Order) (class : Class) (code : ℕ) (body : List ℕ) (p : ℕ) → valuesOf o class code body .ended ≡ At p → p ≤ 8 * length body
 values-le o Opaque code body p e = let z : 0 ≡ p = cc in omega arith
 values-le o End code body p e = let z : 0 ≡ p = cc in omega arith
-values-le o Container code body p e = go (listIn o (containerBody code) body) e
+values-le o Container code body p e = go (hasListIn o (containerBody code) body) e
   where
     go : (list : Bool) → pick list (toEnd o body (containerBody code)) (readBody o (containerBody code) body) .ended ≡ At p → p ≤ 8 * length body
     go true e = end-le o (containerBody code) body p e

@@ -9,7 +9,7 @@ use Rattle.format.specs.Bodies.{readBody}
 use Rattle.format.specs.FileAndTags.{packed}
 use Rattle.classes.specs.declared.Class.{Class}
 use Rattle.classes.specs.declared.Class.the-variants.{Opaque, End, Container, Fixed, Attributes}
-use Rattle.bodies.specs.Leaf.{leafBody, containerBody, listIn, ownPart}
+use Rattle.bodies.specs.Leaf.{leafBody, containerBody, hasListIn, ownPart}
 
 -- the values, and how their reading ended: an opaque tag's are its body, packed, End has none, a container's are its own part
 abbrev pub valuesOf : Order → Class → ℕ → List ℕ → Reading
@@ -23,7 +23,7 @@ valuesOf o Attributes code body = readBody o (leafBody code) body
 abbrev pub listOf : Order → Class → ℕ → List ℕ → Bool
 listOf o Opaque code body = false
 listOf o End code body = false
-listOf o Container code body = listIn o (containerBody code) body
+listOf o Container code body = hasListIn o (containerBody code) body
 listOf o Fixed code body = false
 listOf o Attributes code body = false
 

@@ -1,6 +1,5 @@
-use Rattle.path_singles.proofs.PathLaws.{path-indexes}
-use Rattle.path_singles.specs.Converting.{over}
-use mathlib.Core.Path.{ap₂, _∙_}
+use Rattle.path_singles.proofs.PathLaws.{path-over}
+use native.Mathlib.Omega.{arith}
 use denote.Ref.{now}
 use borrow.Author.Needs.{needs}
 use Rattle.path_singles.proofs.convert_path.Statement.{statement}
@@ -11,8 +10,8 @@ use Rattle.path_singles.proofs.convert_steps.Reads as convert-steps-rea
 use Rattle.path_singles.proofs.count_coordinates.Reads as count-coordinates-reads
 use Rattle.path_singles.proofs.up_to.Reads as up-to-reads
 
-add-up-to : tie.Need-add-up-to
-add-up-to c = search needs
+add-verbs : tie.Need-add-verbs
+add-verbs c = search needs
 
 mul-up-to : tie.Need-mul-up-to
 mul-up-to c = search needs
@@ -22,9 +21,6 @@ slice-read-up-to c = search needs
 
 up-to-requires : tie.Need-up-to-requires
 up-to-requires c κs = search needs
-
-add-count-coordinates : tie.Need-add-count-coordinates
-add-count-coordinates c = search needs
 
 count-coordinates-requires : tie.Need-count-coordinates-requires
 count-coordinates-requires c κs = search needs
@@ -42,19 +38,17 @@ same-length : tie.Need-same-length
 same-length c = search needs
 
 returns : tie.Need-returns
-returns c = let v = now (c .before .before .before .before .before .before .before .before .before .before .before .args .values) in
-    let i = path-indexes v (c .before .before .before .before .before .before .before .before .before .before .before .args .at) (c .before .before .before .before .before .before .before .before .before .before .before .pre .0) (c .before .before .before .before .before .before .before .before .up-to .ensures) (c .before .before .before .before .before .before .count-coordinates .ensures) (c .before .before .before .before .before .up-to2 .ensures) (c .before .before .before .before .up-to3 .ensures) in
-    (c .before .before .convert-steps .ensures ∙ ap₂ (over v) (i .0) (i .1), i .1)
+returns c = path-over (now (c .before .before .before .before .before .before .before .before .before .before .before .args .values)) (c .before .before .before .before .before .before .before .before .before .before .before .args .at) (c .before .before .before .before .before .before .before .before .before .before .before .pre .0) (c .before .before .before .before .before .before .before .before .up-to .ensures) (c .before .before .before .before .before .before .count-coordinates .ensures) (c .before .before .convert-steps .ensures)
+    (omega (arith, c .before .before .before .before .before .up-to2 .ensures)) (omega (arith, c .before .before .before .before .up-to3 .ensures, c .before .before .before .before .before .up-to2 .ensures))
 
 pub convert-path-spec : {M : Type 1} → statement M
 convert-path-spec =
     tie.close
     (tie.spec
-    add-up-to
+    add-verbs
     mul-up-to
     slice-read-up-to
     up-to-requires
-    add-count-coordinates
     count-coordinates-requires
     up-to-requires-2
     up-to-requires-3

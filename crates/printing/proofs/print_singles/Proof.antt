@@ -1,6 +1,7 @@
-use Rattle.printing.proofs.SinglesLaws.{tables-of, part-few}
+use Rattle.printing.proofs.SinglesLaws.{tables-of, left-refused, left-steps, left-singles}
 use Rattle.printing.proofs.Counts.{count-fits}
-use Rattle.format.specs.Reasons.{readFile, readTags}
+use Rattle.format.specs.Reasons.{Left, readFile, readTags}
+use mathlib.Core.Path.{refl, ap}
 use denote.Ref.{now}
 use native.Mathlib.Omega.{arith}
 use borrow.Author.Needs.{needs}
@@ -56,7 +57,7 @@ part-print-converted-end-2 : tie.Need-part-print-converted-end-2
 part-print-converted-end-2 c = omega (arith, count-fits (now (c .before .before .before .before .before .before .before .before .before .before .before .before .before .before .before .before .before .before .before .args .rows)) (readTags 0 1023 (now (c .before .before .before .before .before .before .before .before .before .before .before .before .before .before .before .before .before .before .before .args .file))) (c .before .before .before .before .before .before .before .before .before .before .before .before .before .before .tags .ensures) (c .before .before .before .tagged2 .given .1), c .before .before .before .before .before .before .before .before .before .before .before .before .before .before .tags .kept .1 .1 .1 .0)
 
 print-converted-requires : tie.Need-print-converted-requires
-print-converted-requires c κs = (tables-of (now (c .before .before .before .before .before .before .before .before .before .before .before .before .before .before .before .before .before .before .before .before .args .file)) (now (c .before .before .before .before .before .before .before .before .before .before .before .before .before .before .before .before .before .before .before .before .args .table)) (now (c .before .before .before .before .before .before .before .before .before .before .before .before .before .before .before .before .before .before .before .before .args .rows)) (c .before .before .before .before .before .before .before .before .before .before .before .read .ensures) (c .before .before .before .before .before .before .before .count .given .1) (c .before .before .before .before .before .before .before .before .before .before .before .before .before .before .before .tags .ensures) (c .before .before .before .before .tagged2 .given .1), c .before .before .before .before .before .before .before .before .before .before .before .before .before .before .before .before .before .before .before .before .pre .0, part-few (c .before .before .before .before .before .before .before .before .before .before .before .read .last .1 .1 .1 .0) (c .before .before .before .before .before .before .before .count .given .0 .0) (c .before .before .before .before .before .before .before .before .before .before .before .read .kept .1 .1 .1 .0) (c .before .before .before .before .before .before .before .before .before .before .before .before .before .before .before .before .before .before .before .before .pre .1))
+print-converted-requires c κs = tables-of (now (c .before .before .before .before .before .before .before .before .before .before .before .before .before .before .before .before .before .before .before .before .args .file)) (now (c .before .before .before .before .before .before .before .before .before .before .before .before .before .before .before .before .before .before .before .before .args .table)) (now (c .before .before .before .before .before .before .before .before .before .before .before .before .before .before .before .before .before .before .before .before .args .rows)) (c .before .before .before .before .before .before .before .before .before .before .before .read .ensures) (c .before .before .before .before .before .before .before .count .given .1) (c .before .before .before .before .before .before .before .before .before .before .before .before .before .before .before .tags .ensures) (c .before .before .before .before .tagged2 .given .1)
 
 same-length : tie.Need-same-length
 same-length c = search needs
@@ -65,7 +66,7 @@ same-length-2 : tie.Need-same-length-2
 same-length-2 c = search needs
 
 returns : tie.Need-returns
-returns c = search needs
+returns c = (left-refused (now (c .before .before .before .before .before .before .before .before .before .before .before .before .before .before .before .args .file)) (now (c .before .before .before .before .before .before .before .before .before .before .before .before .before .before .before .args .table)) (now (c .before .before .before .before .before .before .before .before .before .before .before .before .before .before .before .args .rows)) (c .before .before .before .before .before .before .read .ensures) (c .before .before .reason .given .1), ap (λ (l : Left). l .lent) (c .before .before .before .before .before .before .before .before .before .before .tags .ensures))
 
 same-length-3 : tie.Need-same-length-3
 same-length-3 c = search needs
@@ -74,7 +75,7 @@ same-length-4 : tie.Need-same-length-4
 same-length-4 c = search needs
 
 returns-2 : tie.Need-returns-2
-returns-2 c = search needs
+returns-2 c = (left-steps (now (c .before .before .before .before .before .before .before .before .before .before .before .before .before .before .before .before .before .before .args .file)) (now (c .before .before .before .before .before .before .before .before .before .before .before .before .before .before .before .before .before .before .args .table)) (now (c .before .before .before .before .before .before .before .before .before .before .before .before .before .before .before .before .before .before .args .rows)) (ap (λ (l : Left). l .lent) (c .before .before .before .before .before .before .before .before .before .read .ensures)) (c .before .before .before .before .before .before .before .before .before .before .before .before .before .tags .ensures) (c .before .before .tagged .given .1), ap (λ (l : Left). l .lent) (c .before .before .before .before .before .before .before .before .before .before .before .before .before .tags .ensures))
 
 same-length-5 : tie.Need-same-length-5
 same-length-5 c = search needs
@@ -83,7 +84,7 @@ same-length-6 : tie.Need-same-length-6
 same-length-6 c = search needs
 
 returns-3 : tie.Need-returns-3
-returns-3 c = search needs
+returns-3 c = (left-singles (now (c .before .before .before .before .before .before .before .before .before .before .before .before .before .before .before .before .before .before .before .before .before .before .before .args .file)) (now (c .before .before .before .before .before .before .before .before .before .before .before .before .before .before .before .before .before .before .before .before .before .before .before .args .table)) (now (c .before .before .before .before .before .before .before .before .before .before .before .before .before .before .before .before .before .before .before .before .before .before .before .args .rows)) (c .before .before .before .before .before .before .before .before .before .before .before .before .before .before .read .ensures) (c .before .before .before .before .before .before .before .before .before .before .count .given .1) (c .before .before .before .before .before .before .before .before .before .before .before .before .before .before .before .before .before .before .tags .ensures) (c .before .before .before .before .before .before .before .tagged2 .given .1) (c .before .before .print-converted .ensures) refl, ap (λ (l : Left). l .lent) (c .before .before .before .before .before .before .before .before .before .before .before .before .before .before .before .before .before .before .tags .ensures))
 
 pub print-singles-spec : {M : Type 1} → statement M
 print-singles-spec =

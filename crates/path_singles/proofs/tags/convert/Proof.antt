@@ -24,37 +24,37 @@ abbrev μ-loop : tie.MeasureT-loop
 μ-loop file rows table₀ first₀ index₀ row₀ table first index row = length table₀ - index
 
 loop-holds : tie.Need-loop-holds Inv-loop μ-loop
-loop-holds c = begins _ _ _ (c .before .before .before .pre .0)
+loop-holds c = begins _ _ _ (c .before .before .before .pre)
 
 add-state : tie.Need-add-state Inv-loop μ-loop
-add-state c = omega (arith, here _ _ _ _ _ (c .before .loop .inv) (c .loop-test .taken) .ends, c .before .loop .inv .long, c .before .before .before .before .before .pre .2)
+add-state c = omega (arith, here _ _ _ _ _ (c .before .loop .inv) (c .loop-test .taken) .ends, c .before .loop .inv .long, c .before .loop .inv .few)
 
 mul-state : tie.Need-mul-state Inv-loop μ-loop
 mul-state c = search needs
 
 slice-read-state : tie.Need-slice-read-state Inv-loop μ-loop
-slice-read-state c = omega (arith, here _ _ _ _ _ (c .before .before .loop .inv) (c .before .loop-test .taken) .ends, c .before .before .loop .inv .long, c .before .before .before .before .before .before .pre .2)
+slice-read-state c = omega (arith, here _ _ _ _ _ (c .before .before .loop .inv) (c .before .loop-test .taken) .ends, c .before .before .loop .inv .long, c .before .before .loop .inv .few)
 
 add-end : tie.Need-add-end Inv-loop μ-loop
-add-end c = omega (arith, here _ _ _ _ _ (c .before .before .loop .inv) (c .before .loop-test .taken) .ends, c .before .before .loop .inv .long, c .before .before .before .before .before .before .pre .2)
+add-end c = omega (arith, here _ _ _ _ _ (c .before .before .loop .inv) (c .before .loop-test .taken) .ends, c .before .before .loop .inv .long, c .before .before .loop .inv .few)
 
 add-end-2 : tie.Need-add-end-2 Inv-loop μ-loop
-add-end-2 c = omega (arith, here _ _ _ _ _ (c .before .before .loop .inv) (c .before .loop-test .taken) .ends, c .before .before .loop .inv .long, c .before .before .before .before .before .before .pre .2)
+add-end-2 c = omega (arith, here _ _ _ _ _ (c .before .before .loop .inv) (c .before .loop-test .taken) .ends, c .before .before .loop .inv .long, c .before .before .loop .inv .few)
 
 mul-end : tie.Need-mul-end Inv-loop μ-loop
 mul-end c = search needs
 
 slice-read-end : tie.Need-slice-read-end Inv-loop μ-loop
-slice-read-end c = omega (arith, here _ _ _ _ _ (c .before .before .before .loop .inv) (c .before .before .loop-test .taken) .ends, c .before .before .before .loop .inv .long, c .before .before .before .before .before .before .before .pre .2)
+slice-read-end c = omega (arith, here _ _ _ _ _ (c .before .before .before .loop .inv) (c .before .before .loop-test .taken) .ends, c .before .before .before .loop .inv .long, c .before .before .before .loop .inv .few)
 
 add-end-3 : tie.Need-add-end-3 Inv-loop μ-loop
-add-end-3 c = omega (arith, here _ _ _ _ _ (c .before .before .before .loop .inv) (c .before .before .loop-test .taken) .ends, here _ _ _ _ _ (c .before .before .before .loop .inv) (c .before .before .loop-test .taken) .count, c .before .before .before .loop .inv .long, c .before .before .before .before .before .before .before .pre .2)
+add-end-3 c = omega (arith, here _ _ _ _ _ (c .before .before .before .loop .inv) (c .before .before .loop-test .taken) .ends, here _ _ _ _ _ (c .before .before .before .loop .inv) (c .before .before .loop-test .taken) .count, c .before .before .before .loop .inv .long, c .before .before .before .loop .inv .few)
 
 add-convert-tag : tie.Need-add-convert-tag Inv-loop μ-loop
-add-convert-tag c = omega (arith, here _ _ _ _ _ (c .before .before .before .before .loop .inv) (c .before .before .before .loop-test .taken) .ends, c .before .before .before .before .loop .inv .long, c .before .before .before .before .before .before .before .before .pre .2)
+add-convert-tag c = omega (arith, here _ _ _ _ _ (c .before .before .before .before .loop .inv) (c .before .before .before .loop-test .taken) .ends, c .before .before .before .before .loop .inv .long, c .before .before .before .before .loop .inv .few)
 
 convert-tag-requires : tie.Need-convert-tag-requires Inv-loop μ-loop
-convert-tag-requires c κs = (c .before .before .before .before .before .before .before .before .pre .1, here _ _ _ _ _ (c .before .before .before .before .loop .inv) (c .before .before .before .loop-test .taken) .row, omega arith, omega (arith, here _ _ _ _ _ (c .before .before .before .before .loop .inv) (c .before .before .before .loop-test .taken) .ends, here _ _ _ _ _ (c .before .before .before .before .loop .inv) (c .before .before .before .loop-test .taken) .count, c .before .before .before .before .loop .inv .long, c .before .before .before .before .before .before .before .before .pre .2), omega (arith, c .before .before .before .before .loop .inv .long, c .before .before .before .before .before .before .before .before .pre .2))
+convert-tag-requires c κs = (omega (arith, c .before .before .before .before .loop .inv .short), here _ _ _ _ _ (c .before .before .before .before .loop .inv) (c .before .before .before .loop-test .taken) .row, omega arith, omega (arith, here _ _ _ _ _ (c .before .before .before .before .loop .inv) (c .before .before .before .loop-test .taken) .ends, here _ _ _ _ _ (c .before .before .before .before .loop .inv) (c .before .before .before .loop-test .taken) .count, c .before .before .before .before .loop .inv .long, c .before .before .before .before .loop .inv .few), omega (arith, c .before .before .before .before .loop .inv .long, c .before .before .before .before .loop .inv .few))
 
 add-number-at : tie.Need-add-number-at Inv-loop μ-loop
 add-number-at c = omega (arith, here _ _ _ _ _ (c .before .before .before .before .before .before .before .loop .inv) (c .before .before .before .before .before .before .loop-test .taken) .row)
