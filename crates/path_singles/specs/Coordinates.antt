@@ -8,7 +8,7 @@ use lib.Dec.{eqb}
 use Rattle.format.specs.Tests.{pick, _and_, _or_}
 use Rattle.format.specs.Bits.{Order}
 use Rattle.format.specs.Items.{coordinates, run}
-use Rattle.format.specs.Bodies.{Kind, Value, Fixed, BitFlag, Simple, Discrete, MultiDimension, Spatial, DataType, U32s, Times, Floats, Ratios, Bools, Bytes, BlendModes, TrackMatteTypes, MaskModes, Paths, Points, AnchorPointGroupings, Attribute, allFlags, rows, handOn}
+use Rattle.format.specs.Bodies.{Kind, Value, Fixed, BitFlag, Simple, Discrete, MultiDimension, Spatial, Custom, DataType, U32s, Times, Floats, Ratios, Bools, Bytes, BlendModes, Paths, Points, Colors, GradientColors, Enums, Dashes, TagBlocks, Attribute, allFlags, rows, handOn}
 use Rattle.format.specs.Reasons.{Answer, accepted, refused}
 use Rattle.singles.specs.Single.{ofNumber}
 
@@ -69,6 +69,7 @@ isSimple Simple = true
 isSimple Discrete = false
 isSimple MultiDimension = false
 isSimple Spatial = false
+isSimple Custom = false
 
 abbrev pub isPaths : DataType → Bool
 isPaths U32s = false
@@ -78,11 +79,13 @@ isPaths Ratios = false
 isPaths Bools = false
 isPaths Bytes = false
 isPaths BlendModes = false
-isPaths TrackMatteTypes = false
-isPaths MaskModes = false
 isPaths Paths = true
 isPaths Points = false
-isPaths AnchorPointGroupings = false
+isPaths Colors = false
+isPaths GradientColors = false
+isPaths (Enums top) = false
+isPaths Dashes = false
+isPaths TagBlocks = false
 
 abbrev pub isPath : Attribute → Bool
 isPath a = isSimple (a .kind) and isPaths (a .dataType)

@@ -1,18 +1,18 @@
 // The path attributes of a block, found by the rows of its attribute list.
 ghost use mathlib.Core.Path.{_≡_};
-ghost use Prim.Native.Nat.{_-_, _≤_, _<_, _^_};
+ghost use Prim.Native.Nat.{_≤_, _<_, _^_};
 ghost use lib.ListN.{length};
 ghost use Rattle.format.specs.Bits.{high};
 ghost use Rattle.table.specs.Run.{indexOf};
-ghost use Rattle.attributes.specs.Rows.{kindOf, typeOf, attributeOf, attributesOf, rowsFrom, AreRows};
-ghost use Rattle.path_singles.specs.Coordinates.{isSimple, isPaths, isPath, earlier, block};
+ghost use Rattle.attributes.specs.Rows.{kindOf, typeOf, attributeOf, attributesOf, rowsFrom};
+ghost use Rattle.path_singles.specs.Coordinates.{isSimple, isPaths, isPath, earlier, block as ofBlock};
 ghost use Rattle.path_singles.specs.Converting.{left, rowOf};
 use crate::convert_attribute;
 use crate::either;
 use attributes::Attribute;
+use attributes::Block;
 use attributes::DataType;
 use attributes::Kind;
-use attributes::Rows;
 use bits::BitPlace;
 use bits::Order;
 use table::Run;
@@ -28,6 +28,7 @@ fn is_simple(kind: Kind) -> bool
         Kind::Discrete => false,
         Kind::MultiDimension => false,
         Kind::Spatial => false,
+        Kind::Custom => false,
     }
 }
 
@@ -42,11 +43,13 @@ fn is_paths(what: DataType) -> bool
         DataType::Bool => false,
         DataType::Byte => false,
         DataType::BlendMode => false,
-        DataType::TrackMatteType => false,
-        DataType::MaskMode => false,
         DataType::Path => true,
         DataType::Point => false,
-        DataType::AnchorPointGrouping => false,
+        DataType::Color => false,
+        DataType::GradientColor => false,
+        DataType::Enum(_) => false,
+        DataType::Dashes => false,
+        DataType::TagBlock => false,
     }
 }
 
@@ -73,19 +76,20 @@ fn shown_by(run: Run) -> usize
 }
 
 // How many numbers the attributes before a row show: the flags of the block are read, and the contents of those attributes.
-fn numbers_before(rows: Rows, row: usize, body: &[u8]) -> usize
-    requires { ⌜ AreRows (rows .start) (rows .end) × (rows .start ≤ row) × (row ≤ rows .end) × (length (now body) < 2 ^ 60) ⌝ }
-    ensures { λ r. ⌜ r ≡ length (earlier high (now (body .entry)) (rowsFrom (rows .start) (rows .end)) (row - rows .start)) ⌝ }
+fn numbers_before(block: Block, row: usize, body: &[u8]) -> usize
+    requires { ⌜ (block .count ≤ 12) × (row ≤ block .count) × (length (now body) < 2 ^ 60) ⌝ }
+    ensures { λ r. ⌜ r ≡ length (earlier high (now (body .entry)) (rowsFrom (block .rows) 0 (block .count)) row) ⌝ }
 {
     let order = Order::HighFirst;
-    let mut flags = [0u64; 9];
-    let r = attributes::read_flags(order, rows, body, BitPlace(0), &mut flags);
+    let mut flags = [0u64; 12];
+    let r = attributes::read_flags(order, block, body, BitPlace(0), &mut flags);
     let Run::Done(next, _) = r else {
         return 0;
     };
-    let before = Rows {
-        start: rows.start,
-        end: row,
+    let rows = block.rows;
+    let before = Block {
+        rows: rows,
+        count: row,
     };
     let mut none = [0u64; 1];
     shown_by(bodies::blocks::read_contents(order, before, &flags, body, next, &mut none[..0], 0))
@@ -94,34 +98,34 @@ fn numbers_before(rows: Rows, row: usize, body: &[u8]) -> usize
 // The row's attribute, if it is a path.
 fn convert_row(
     attribute: Attribute,
-    rows: Rows,
+    block: Block,
     row: usize,
     body: &[u8],
     values: &mut [u64],
 ) -> bool
-    requires { ⌜ AreRows (rows .start) (rows .end) × (rows .start ≤ row) × (row ≤ rows .end) × (length (now body) < 2 ^ 60) × (length (now values) < 2 ^ 32) ⌝ }
-    ensures { λ r. ⌜ left (now (values .exit)) r ≡ rowOf (now (body .entry)) (rowsFrom (rows .start) (rows .end)) (attributeOf attribute) (row - rows .start) (now (values .entry)) ⌝ }
+    requires { ⌜ (block .count ≤ 12) × (row ≤ block .count) × (length (now body) < 2 ^ 60) × (length (now values) < 2 ^ 32) ⌝ }
+    ensures { λ r. ⌜ left (now (values .exit)) r ≡ rowOf (now (body .entry)) (rowsFrom (block .rows) 0 (block .count)) (attributeOf attribute) row (now (values .entry)) ⌝ }
 {
     if !is_path(attribute) {
         return false;
     }
-    let index = numbers_before(rows, row, body);
+    let index = numbers_before(block, row, body);
     convert_attribute(values, index)
 }
 
 // The values of a tag with this code and this body.
 pub fn convert_block(code: u32, body: &[u8], values: &mut [u64]) -> bool
     requires { ⌜ (length (now body) < 2 ^ 60) × (length (now values) < 2 ^ 32) ⌝ }
-    ensures { λ r. ⌜ left (now (values .exit)) r ≡ block high (now (body .entry)) (attributesOf code) (attributesOf code) 0 (now (values .entry)) ⌝ }
+    ensures { λ r. ⌜ left (now (values .exit)) r ≡ ofBlock high (now (body .entry)) (attributesOf code) (attributesOf code) 0 (now (values .entry)) ⌝ }
 {
-    let attributes = attributes::ATTRIBUTES;
-    let rows = attributes::rows_of(code);
-    let end = rows.end;
+    let block = attributes::blocks::block_of(code);
+    let rows = block.rows;
+    let count = block.count;
     let mut beyond = false;
-    let mut row = rows.start;
-    while row < end {
-        let attribute = attributes[row];
-        beyond = either(beyond, convert_row(attribute, rows, row, body, values));
+    let mut row = 0;
+    while row < count {
+        let attribute = rows[row];
+        beyond = either(beyond, convert_row(attribute, block, row, body, values));
         row += 1;
     }
     beyond
