@@ -23,7 +23,7 @@ fn write_items(order: Order, code: u32, values: &[u64], out: &mut [u8], at: Byte
     spelling::conclude(order, r, values.len(), out)
 }
 
-// The body of a tag, or its part before a list, from a byte place on: both end on a whole byte.
+// The body of a leaf tag, from a byte place on.
 pub fn write_body(order: Order, code: u32, values: &[u64], out: &mut [u8], at: BytePlace) -> Body
     requires { ⌜ at .0 ≤ 16777218 ⌝ }
     ensures { λ r. ⌜ lainAs (now (out .exit)) r ≡ lies (now (out .entry)) (at .0) (writeBody (orderOf order) (leafBody code) (now (values .entry))) ⌝ }
@@ -38,4 +38,16 @@ pub fn write_body(order: Order, code: u32, values: &[u64], out: &mut [u8], at: B
         Body::To(end) => Body::To(end),
         Body::No => Body::No,
     }
+}
+
+// What stands before a container's list, from a byte place on: it ends on a whole byte, as a body does. Apart from `write_body`, so that both are called, and no
+// depth of lists has the memory of a body on the stack.
+pub fn write_front(order: Order, code: u32, values: &[u64], out: &mut [u8], at: BytePlace) -> Body
+    requires { ⌜ at .0 ≤ 16777218 ⌝ }
+    ensures { λ r. ⌜ lainAs (now (out .exit)) r ≡ lies (now (out .entry)) (at .0) (writeBody (orderOf order) (leafBody code) (now (values .entry))) ⌝ }
+{
+    if bodies::is_block(code) {
+        return write_body(order, code, values, out, at);
+    }
+    write_items(order, code, values, out, at)
 }
