@@ -7,7 +7,7 @@ use Rattle.bodies.proofs.is_block.Lts as lts
 
 -- src/lib.rt:34:9
 returns : tie.Need-returns
-returns c = rw (ne-eqb (c .before .args .code) 6 (λ z. omega (arith, z, c .if1 .taken)), ne-eqb (c .before .args .code) 9 (λ z. omega (arith, z, c .if1 .taken)), ne-eqb (c .before .args .code) 10 (λ z. omega (arith, z, c .if1 .taken)), le-leb 13 _ (c .if1 .taken))
+returns c = rw (ne-eqb (c .before .args .code) 6 (λ z. omega (arith, z, c .if1 .taken)), ne-eqb (c .before .args .code) 9 (λ z. omega (arith, z, c .if1 .taken)), ne-eqb (c .before .args .code) 10 (λ z. omega (arith, z, c .if1 .taken)), le-leb 13 (c .before .args .code) (omega (arith, c .if1 .taken)))
 
 -- src/lib.rt:30:1
 returns-2 : tie.Need-returns-2
@@ -23,7 +23,7 @@ returns-4 c = rw (c .match .keys3)
 
 -- src/lib.rt:30:1
 returns-5 : tie.Need-returns-5
-returns-5 c = rw (ne-eqb _ _ (c .match .rest .0 .0 .1), ne-eqb _ _ (c .match .rest .0 .1), ne-eqb _ _ (c .match .rest .1), lt-leb _ _ (c .before .if1 .left))
+returns-5 c = rw (ne-eqb _ _ (c .match .rest .0 .0 .1), ne-eqb _ _ (c .match .rest .0 .1), ne-eqb _ _ (c .match .rest .1), lt-leb 13 (c .before .before .args .code) (omega (arith, c .before .if1 .left)))
 
 pub is-block-spec : {M : Type 1} → statement M
 is-block-spec = tie.close (tie.spec returns returns-2 returns-3 returns-4 returns-5)
