@@ -1,11 +1,11 @@
-/* Generated PAG files, made item by item from document 01 and document 02's C-11 and C-12: bits are put one after the other, and a tag's header when its length is known. */
+/* Generated PAG files, made item by item from document 01 and document 02's C-11, C-12 and C-24: bits are put one after the other, and a tag's header when its length is known. */
 #include "files.h"
 
 #include <string.h>
 
-enum { DEEPEST = 8, MOST_FLAGS = 9 };
+enum { DEEPEST = 8, MOST_FLAGS = 12 };
 
-const char *const KIND_NAMES[KINDS] = {"opaque", "paths", "small", "nested", "fonts", "transforms"};
+const char *const KIND_NAMES[KINDS] = {"opaque", "paths", "small", "nested", "fonts", "transforms", "shapes"};
 
 /* ------------------------------------------------------------ random numbers and bits */
 
@@ -102,10 +102,10 @@ static void put_path(struct maker *m, size_t verbs)
 /* ------------------------------------------------------------ attribute blocks */
 
 /* Types of attributes, by a letter each: n none, u U32, t Time, f Float, r Ratio, o Bool, b byte, B blendMode, T trackMatteType, M maskMode,
- * G anchorPointGrouping, p Path, P Point. */
+ * G anchorPointGrouping, 2, 3 and 5 enumerations with so many values, p Path, P Point, c Color, g GradientColor, d the dashes of a gradient's stroke. */
 struct list {
     uint32_t code;
-    const char *kinds; /* V Value, F Fixed, B BitFlag, S Simple, D Discrete, M MultiDimension */
+    const char *kinds; /* V Value, F Fixed, B BitFlag, S Simple, D Discrete, M MultiDimension, P Spatial. A Custom attribute is V, or, of a list, L where it is there and N where not */
     const char *types;
 };
 
@@ -114,12 +114,46 @@ static const struct list TEXT = {9, "VDDDSS", "uoooff"};
 static const struct list MASK = {14, "FBVSSS", "unMpbf"};
 static const struct list MORE = {10, "VM", "GP"};
 static const struct list TRANSFORM = {13, "VVVVVVV", "PPffPfb"};
+static const struct list GROUP = {15, "VPPMSSSSL", "BPPPfffbn"};
+static const struct list LONE_GROUP = {15, "VPPMSSSSN", "BPPPfffbn"};
+static const struct list SHAPES[] = {
+    {16, "BMPS", "nPPf"},
+    {17, "BMP", "nPP"},
+    {18, "BVSPSSSSS", "n2fPfffff"},
+    {19, "S", "p"},
+    {20, "VVVSS", "B22cb"},
+    {21, "VVVVSSSS", "B233fcbf"},
+    {22, "VVVVPPSS", "B222PPgb"},
+    {23, "VVVPPSSSVVSV", "B22PPcbf33fd"},
+    {24, "V", "5"},
+    {25, "SSSV", "fff2"},
+    {26, "VSSPPMSSS", "2ffPPPfbb"},
+    {27, "S", "f"},
+};
+enum { SHAPE_KINDS = sizeof SHAPES / sizeof *SHAPES };
 
 /* How long a keyframed path is: a small random one has none fixed. */
 struct shape {
     size_t frames;
     size_t verbs;
 };
+
+/* Any bytes are stops: five for alpha, seven for a colour. */
+static void put_gradient(struct maker *m)
+{
+    size_t alphas = random_below(m, 5), colors = random_below(m, 5);
+    put_spelled(m, alphas);
+    put_spelled(m, colors);
+    put_random_bytes(m, 5 * alphas + 7 * colors);
+}
+
+static void put_dashes(struct maker *m)
+{
+    uint64_t exist = random_below(m, 2);
+    put_bits(m, 3, random_word(m));
+    put_bits(m, 1, exist);
+    if (exist) put_bits(m, 1, random_word(m));
+}
 
 static void put_value(struct maker *m, char type, const struct shape *shape)
 {
@@ -135,6 +169,12 @@ static void put_value(struct maker *m, char type, const struct shape *shape)
     case 'M': put_byte(m, random_below(m, 8)); break;
     case 'G': put_byte(m, random_below(m, 7)); break;
     case 'P': put_random_bytes(m, 8); break;
+    case '2': put_byte(m, random_below(m, 2)); break;
+    case '3': put_byte(m, random_below(m, 3)); break;
+    case '5': put_byte(m, random_below(m, 5)); break;
+    case 'c': put_random_bytes(m, 3); break;
+    case 'g': put_gradient(m); break;
+    case 'd': put_dashes(m); break;
     case 'p': put_path(m, shape ? shape->verbs : random_below(m, 7)); break;
     default: break;
     }
@@ -153,7 +193,19 @@ static void put_frame_values(struct maker *m, char type, size_t n, const struct 
     whole_byte(m);
 }
 
-static void put_keyframed(struct maker *m, char kind, char type, const struct shape *shape)
+/* The sixth part: two flags a frame, a width, and two fields for each that is set. */
+static void put_spatial(struct maker *m, size_t frames)
+{
+    size_t there = 0;
+    for (size_t i = 0; i < 2 * frames; i++) {
+        uint64_t flag = random_below(m, 2);
+        put_bits(m, 1, flag);
+        there += flag;
+    }
+    put_scaled(m, 1 + (unsigned)random_below(m, 32), 2 * there);
+}
+
+static void put_keyframed(struct maker *m, char kind, char type, unsigned flags, const struct shape *shape)
 {
     size_t frames = shape ? shape->frames : 1 + random_below(m, 6), beziers = 0;
     put_spelled(m, frames);
@@ -163,26 +215,39 @@ static void put_keyframed(struct maker *m, char kind, char type, const struct sh
         beziers += interpolation == 2;
     }
     for (size_t i = 0; i <= frames; i++) put_time(m);
-    put_frame_values(m, type, frames + 1, shape);
+    if (kind == 'P') put_scaled(m, 1 + (unsigned)random_below(m, 32), 2 * (frames + 1));
+    else put_frame_values(m, type, frames + 1, shape);
+    whole_byte(m);
     put_scaled(m, 1 + (unsigned)random_below(m, 32), (kind == 'M' ? 8 : 4) * beziers);
+    whole_byte(m);
+    if (flags == 7) put_spatial(m, frames);
     whole_byte(m);
 }
 
-/* A block with random flags; with a shape everything that can be keyframed is. */
+/* The flags of an attribute as their number; with a shape everything that can be keyframed is. */
+static unsigned put_flags(struct maker *m, char kind, const struct shape *shape)
+{
+    unsigned number = 1;
+    if (kind == 'F') return number;
+    if (kind == 'L' || kind == 'N') number = kind == 'L';
+    else if (!shape) number = (unsigned)random_below(m, 2);
+    put_bits(m, 1, number);
+    if (!number || !strchr("SDMP", kind)) return number;
+    if (shape || random_below(m, 2)) number = 3;
+    put_bits(m, 1, number / 2);
+    if (number < 3 || kind != 'P') return number;
+    if (shape || random_below(m, 2)) number = 7;
+    put_bits(m, 1, number / 4);
+    return number;
+}
+
 static void put_block(struct maker *m, const struct list *list, const struct shape *shape)
 {
     unsigned flags[MOST_FLAGS];
-    for (size_t i = 0; list->kinds[i]; i++) {
-        int animatable = strchr("SDM", list->kinds[i]) != NULL;
-        flags[i] = shape || list->kinds[i] == 'F' ? 1 : (unsigned)random_below(m, 2);
-        if (list->kinds[i] != 'F') put_bits(m, 1, flags[i]);
-        if (!animatable || !flags[i]) continue;
-        if (shape || random_below(m, 2)) flags[i] = 3;
-        put_bits(m, 1, flags[i] / 2);
-    }
+    for (size_t i = 0; list->kinds[i]; i++) flags[i] = put_flags(m, list->kinds[i], shape);
     whole_byte(m);
     for (size_t i = 0; list->kinds[i]; i++) {
-        if (flags[i] == 3) put_keyframed(m, list->kinds[i], list->types[i], shape);
+        if (flags[i] >= 3) put_keyframed(m, list->kinds[i], list->types[i], flags[i], shape);
         else if (flags[i] == 1) put_value(m, list->types[i], shape);
     }
 }
@@ -244,13 +309,13 @@ static void put_block_tag(struct maker *m, const struct list *list, const struct
 static void put_leaf(struct maker *m)
 {
     static const struct list *const BLOCKS[] = {&LAYER, &TEXT, &MASK};
-    size_t which = random_below(m, m->all_leaves ? 10 : 8);
+    size_t which = random_below(m, m->all_leaves ? 10 + SHAPE_KINDS : 8);
     if (which < 3) {
         put_block_tag(m, BLOCKS[which], NULL);
         return;
     }
     if (which >= 8) {
-        put_block_tag(m, which == 8 ? &MORE : &TRANSFORM, NULL);
+        put_block_tag(m, which == 8 ? &MORE : which == 9 ? &TRANSFORM : &SHAPES[which - 10], NULL);
         return;
     }
     size_t place = open_tag(m);
@@ -281,6 +346,11 @@ static void put_end(struct maker *m)
 static size_t open_container(struct maker *m, uint32_t *code)
 {
     size_t place = open_tag(m);
+    if (m->all_leaves && random_below(m, 3) == 0) {
+        *code = GROUP.code;
+        put_block(m, &GROUP, NULL);
+        return place;
+    }
     *code = random_below(m, 2) ? 2 : 5;
     if (*code == 5) put_random_bytes(m, 1);
     put_u32(m);
@@ -298,7 +368,9 @@ static void put_random_list(struct maker *m, unsigned depth)
 {
     for (uint64_t tags = random_below(m, 4); tags > 0; tags--) {
         uint64_t pick = random_below(m, 100);
-        if (pick < 35 && depth < DEEPEST) {
+        if (pick < 5 && depth < DEEPEST) {
+            put_block_tag(m, &LONE_GROUP, NULL);
+        } else if (pick < 35 && depth < DEEPEST) {
             uint32_t code;
             size_t place = open_container(m, &code);
             put_random_list(m, depth + 1);
@@ -329,7 +401,8 @@ static void close_file(struct maker *m)
 
 void make_random_file(struct maker *m)
 {
-    m->any_headers = 1;
+    int all_leaves = m->all_leaves;
+    m->any_headers = m->all_leaves = 1;
     open_file(m);
     if (random_below(m, 3)) {
         put_random_list(m, 0);
@@ -339,6 +412,7 @@ void make_random_file(struct maker *m)
     }
     close_file(m);
     m->any_headers = 0;
+    m->all_leaves = all_leaves;
 }
 
 /* Containers inside each other down to the deepest, with a few leaves in each. */
@@ -351,6 +425,19 @@ static void put_nest(struct maker *m, unsigned depth)
     put_leaf(m);
     put_end(m);
     close_tag(m, place, code);
+}
+
+/* Groups inside each other down to the deepest: in each every shape, in its turn with all its attributes keyframed, in the next group as they come. */
+static void put_shapes(struct maker *m, unsigned depth)
+{
+    static const struct shape SOME = {4, 6};
+    const struct shape *shape = depth % 2 ? NULL : &SOME;
+    size_t place = open_tag(m);
+    put_block(m, &GROUP, shape);
+    for (size_t i = 0; i < SHAPE_KINDS; i++) put_block_tag(m, &SHAPES[i], shape);
+    if (depth + 1 < DEEPEST) put_shapes(m, depth + 1);
+    put_end(m);
+    close_tag(m, place, GROUP.code);
 }
 
 /* One more piece of a long file; no piece is longer than LONGEST_PIECE. */
@@ -368,6 +455,7 @@ static void put_piece(struct maker *m, enum kind kind)
         put_block_tag(m, &TRANSFORM, NULL);
         put_block_tag(m, &MORE, &LONG);
         break;
+    case SHAPE_TAGS: put_shapes(m, 0); break;
     default: break;
     }
 }

@@ -14,10 +14,10 @@ struct maker {
     uint64_t seed;
     int low; /* bytes are filled from their lowest bit */
     int any_headers; /* a body below 63 bytes may come by a long header: in random files, and in no long one */
-    int all_leaves; /* tags 10 and 13 among the small and the nested tags, too: not where bench/run measures, so that its counts can be compared with older ones */
+    int all_leaves; /* tags 10, 13 and 15 to 27 among the small and the nested tags, too: not where bench/run measures, so that its counts can be compared with older ones */
 };
 
-enum kind { OPAQUE_BYTES, LONG_PATHS, SMALL_TAGS, NESTED, FONT_TABLES, TRANSFORMS, KINDS };
+enum kind { OPAQUE_BYTES, LONG_PATHS, SMALL_TAGS, NESTED, FONT_TABLES, TRANSFORMS, SHAPE_TAGS, KINDS };
 
 extern const char *const KIND_NAMES[KINDS];
 

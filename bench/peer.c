@@ -1,7 +1,7 @@
 /*
  * The peer of bench/run: a plain reader and writer of PAG files, made from document 01 ("What is to be built"), document 02's C-18 (bit order), C-11 (long
- * headers on short bodies), C-17 (packed opaque bodies) and C-12 (transforms and points), and the open points of docs/DECISIONS.md, with bounds checks and without
- * proofs. Its author had seen the reference and the library as it was before C-12, so it is no independent reading of the paper.
+ * headers on short bodies), C-17 (packed opaque bodies), C-12 (transforms and points) and C-24 (shapes), and the open points of docs/DECISIONS.md, with bounds
+ * checks and without proofs. Its author had seen the reference and the library as it was before C-12, so it is no independent reading of the paper.
  *
  * A refusal may change nothing lent, so each call walks twice: once to judge and to count, and once to fill. One function serves both walks:
  * where there is no memory to fill (a null pointer), it only counts, and skips what it need not look at.
@@ -12,20 +12,26 @@
 
 _Static_assert(__BYTE_ORDER__ == __ORDER_LITTLE_ENDIAN__, "numbers are loaded and stored with their lowest byte first");
 
-enum { TOP_DEPTH = 8, TOP_COUNT = 4096, HEADER_BYTES = 9, LONG_LENGTH = 63, MOST_ATTRIBUTES = 9 };
+enum { TOP_DEPTH = 8, TOP_COUNT = 4096, HEADER_BYTES = 9, LONG_LENGTH = 63, MOST_ATTRIBUTES = 12 };
 
 /* ------------------------------------------------------------ the format's constant tables */
 
-enum tag_class { OPAQUE, END, CONTAINER, ITEMS, FONTS, BLOCK };
+/* A container's own part is items; a group's is a block, whose last flag says whether a list follows. */
+enum tag_class { OPAQUE, END, CONTAINER, GROUP, ITEMS, FONTS, BLOCK };
 
-enum { KNOWN_CODES = 15 };
+enum { KNOWN_CODES = 28 };
 
 static const uint8_t CLASSES[KNOWN_CODES] = {
-    [0] = END,   [1] = FONTS, [2] = CONTAINER, [3] = ITEMS,  [5] = CONTAINER, [6] = BLOCK,
-    [7] = ITEMS, [9] = BLOCK, [10] = BLOCK,    [11] = ITEMS, [12] = ITEMS,    [13] = BLOCK, [14] = BLOCK,
+    [0] = END,    [1] = FONTS,  [2] = CONTAINER, [3] = ITEMS,  [5] = CONTAINER, [6] = BLOCK,  [7] = ITEMS,  [9] = BLOCK,  [10] = BLOCK,
+    [11] = ITEMS, [12] = ITEMS, [13] = BLOCK,    [14] = BLOCK, [15] = GROUP,    [16] = BLOCK, [17] = BLOCK, [18] = BLOCK, [19] = BLOCK,
+    [20] = BLOCK, [21] = BLOCK, [22] = BLOCK,    [23] = BLOCK, [24] = BLOCK,    [25] = BLOCK, [26] = BLOCK, [27] = BLOCK,
 };
 
-enum data_type { NONE, U32, I32, TIME, FLOAT, BYTE, BOOL, RATIO, BLEND_MODE, TRACK_MATTE, MASK_MODE, GROUPING, PATH, POINT };
+/* ONE_OF_TWO: PolyStarType, CompositeOrder, FillRule, GradientFillType, TrimPathsType. ONE_OF_THREE: LineCap, LineJoin. */
+enum data_type {
+    NONE, U32, I32, TIME, FLOAT, BYTE, BOOL, RATIO, BLEND_MODE, TRACK_MATTE, MASK_MODE, GROUPING, PATH, POINT,
+    ONE_OF_TWO, ONE_OF_THREE, MERGE_MODE, COLOR, GRADIENT, DASHES,
+};
 
 /* The items of plain bodies; those of containers stand before their list. NONE ends them. */
 static const uint8_t PLAIN[KNOWN_CODES][8] = {
@@ -72,13 +78,9 @@ static const struct attribute_list TEXT = {
     6,
     {{VALUE, U32}, {DISCRETE, BOOL}, {DISCRETE, BOOL}, {DISCRETE, BOOL}, {SIMPLE, FLOAT}, {SIMPLE, FLOAT}},
 };
-/* No tag has a Spatial row until C-24, so bench/compare compiles the peer a second time with one here. */
-#ifndef GROUPING_KIND
-#define GROUPING_KIND MULTI_DIMENSION
-#endif
 static const struct attribute_list MORE = {
     2,
-    {{VALUE, GROUPING}, {GROUPING_KIND, POINT}},
+    {{VALUE, GROUPING}, {MULTI_DIMENSION, POINT}},
 };
 static const struct attribute_list TRANSFORM = {
     7,
@@ -89,19 +91,80 @@ static const struct attribute_list MASK = {
     {{FIXED, U32}, {BIT_FLAG, NONE}, {VALUE, MASK_MODE}, {SIMPLE, PATH}, {SIMPLE, BYTE}, {SIMPLE, FLOAT}},
 };
 
+/* A Custom attribute has one flag and, where it is set, a content, like Value. The list of a group is no content of its block: its flag stands for itself, like BitFlag's. */
+static const struct attribute_list SHAPE_GROUP = {
+    9,
+    {{VALUE, BLEND_MODE}, {SPATIAL, POINT}, {SPATIAL, POINT}, {MULTI_DIMENSION, POINT}, {SIMPLE, FLOAT}, {SIMPLE, FLOAT}, {SIMPLE, FLOAT}, {SIMPLE, BYTE},
+     {BIT_FLAG, NONE}},
+};
+static const struct attribute_list RECTANGLE = {
+    4,
+    {{BIT_FLAG, NONE}, {MULTI_DIMENSION, POINT}, {SPATIAL, POINT}, {SIMPLE, FLOAT}},
+};
+static const struct attribute_list ELLIPSE = {
+    3,
+    {{BIT_FLAG, NONE}, {MULTI_DIMENSION, POINT}, {SPATIAL, POINT}},
+};
+static const struct attribute_list POLY_STAR = {
+    9,
+    {{BIT_FLAG, NONE}, {VALUE, ONE_OF_TWO}, {SIMPLE, FLOAT}, {SPATIAL, POINT}, {SIMPLE, FLOAT}, {SIMPLE, FLOAT}, {SIMPLE, FLOAT}, {SIMPLE, FLOAT},
+     {SIMPLE, FLOAT}},
+};
+static const struct attribute_list SHAPE_PATH = {1, {{SIMPLE, PATH}}};
+static const struct attribute_list FILL = {
+    5,
+    {{VALUE, BLEND_MODE}, {VALUE, ONE_OF_TWO}, {VALUE, ONE_OF_TWO}, {SIMPLE, COLOR}, {SIMPLE, BYTE}},
+};
+static const struct attribute_list STROKE = {
+    8,
+    {{VALUE, BLEND_MODE}, {VALUE, ONE_OF_TWO}, {VALUE, ONE_OF_THREE}, {VALUE, ONE_OF_THREE}, {SIMPLE, FLOAT}, {SIMPLE, COLOR}, {SIMPLE, BYTE},
+     {SIMPLE, FLOAT}},
+};
+static const struct attribute_list GRADIENT_FILL = {
+    8,
+    {{VALUE, BLEND_MODE}, {VALUE, ONE_OF_TWO}, {VALUE, ONE_OF_TWO}, {VALUE, ONE_OF_TWO}, {SPATIAL, POINT}, {SPATIAL, POINT}, {SIMPLE, GRADIENT},
+     {SIMPLE, BYTE}},
+};
+static const struct attribute_list GRADIENT_STROKE = {
+    12,
+    {{VALUE, BLEND_MODE}, {VALUE, ONE_OF_TWO}, {VALUE, ONE_OF_TWO}, {SPATIAL, POINT}, {SPATIAL, POINT}, {SIMPLE, COLOR}, {SIMPLE, BYTE}, {SIMPLE, FLOAT},
+     {VALUE, ONE_OF_THREE}, {VALUE, ONE_OF_THREE}, {SIMPLE, FLOAT}, {VALUE, DASHES}},
+};
+static const struct attribute_list MERGE_PATHS = {1, {{VALUE, MERGE_MODE}}};
+static const struct attribute_list TRIM_PATHS = {
+    4,
+    {{SIMPLE, FLOAT}, {SIMPLE, FLOAT}, {SIMPLE, FLOAT}, {VALUE, ONE_OF_TWO}},
+};
+static const struct attribute_list REPEATER = {
+    9,
+    {{VALUE, ONE_OF_TWO}, {SIMPLE, FLOAT}, {SIMPLE, FLOAT}, {SPATIAL, POINT}, {SPATIAL, POINT}, {MULTI_DIMENSION, POINT}, {SIMPLE, FLOAT}, {SIMPLE, BYTE},
+     {SIMPLE, BYTE}},
+};
+static const struct attribute_list ROUND_CORNERS = {1, {{SIMPLE, FLOAT}}};
+
 static const uint8_t COORDINATES[8] = {0, 2, 2, 1, 1, 4, 4, 6};
 
 enum { LINEAR = 1, BEZIER = 2, HOLD = 3 };
 
 static const struct attribute_list *attributes_of(uint32_t code)
 {
-    static const struct attribute_list *const LISTS[KNOWN_CODES] = {[6] = &LAYER, [9] = &TEXT, [10] = &MORE, [13] = &TRANSFORM, [14] = &MASK};
+    static const struct attribute_list *const LISTS[KNOWN_CODES] = {
+        [6] = &LAYER,       [9] = &TEXT,       [10] = &MORE,          [13] = &TRANSFORM,       [14] = &MASK,        [15] = &SHAPE_GROUP,
+        [16] = &RECTANGLE,  [17] = &ELLIPSE,   [18] = &POLY_STAR,     [19] = &SHAPE_PATH,      [20] = &FILL,        [21] = &STROKE,
+        [22] = &GRADIENT_FILL, [23] = &GRADIENT_STROKE, [24] = &MERGE_PATHS, [25] = &TRIM_PATHS, [26] = &REPEATER, [27] = &ROUND_CORNERS,
+    };
     return LISTS[code];
 }
 
 static enum tag_class class_of(uint32_t level, uint32_t code)
 {
     return code < KNOWN_CODES && code <= level ? (enum tag_class)CLASSES[code] : OPAQUE;
+}
+
+/* Does it count in the depth? */
+static int may_have_list(enum tag_class class)
+{
+    return class == CONTAINER || class == GROUP;
 }
 
 /* How many easing numbers a Bezier frame has: a curve of four, or one for x and one for y. */
@@ -119,6 +182,9 @@ static int is_listed(enum data_type type, uint64_t value)
     case TRACK_MATTE: return value <= 4;
     case MASK_MODE: return value <= 7;
     case GROUPING: return value <= 6;
+    case ONE_OF_TWO: return value <= 1;
+    case ONE_OF_THREE: return value <= 2;
+    case MERGE_MODE: return value <= 4;
     default: return value <= 255;
     }
 }
@@ -363,6 +429,72 @@ static int read_floats(struct body *b, size_t n)
     return 0;
 }
 
+/* n bytes of any value, each a number. */
+static void show_bytes(struct body *b, const uint8_t *bytes, size_t n)
+{
+    if (b->out)
+        for (size_t i = 0; i < n; i++) b->out[b->count + i] = bytes[i];
+    b->count += n;
+}
+
+/* n Colors in turn, which may have any bytes. */
+static int read_colors(struct body *b, size_t n)
+{
+    int why = align(b);
+    if (why) return why;
+    if ((b->len - b->at / 8) / 3 < n) return PAG_ITEM_PAST_THE_BODY;
+    show_bytes(b, b->bytes + b->at / 8, 3 * n);
+    b->at += 24 * n;
+    return 0;
+}
+
+/* n stops: a position and a midpoint of two bytes each, and `rest` bytes. */
+static void show_stops(struct body *b, size_t n, size_t rest)
+{
+    for (size_t i = 0; i < n; i++) {
+        const uint8_t *from = b->bytes + b->at / 8;
+        show(b, from[0] | (uint64_t)from[1] << 8);
+        show(b, from[2] | (uint64_t)from[3] << 8);
+        show_bytes(b, from + 4, rest);
+        b->at += 8 * (4 + rest);
+    }
+}
+
+/* Both counts, then the alpha stops of five bytes and the colour stops of seven: any bytes are stops. */
+static int read_gradient(struct body *b)
+{
+    size_t alphas = 0, colors = 0;
+    int why = read_count(b, 0, &alphas);
+    if (why || (why = read_count(b, 0, &colors))) return why;
+    if (b->len - b->at / 8 < 5 * alphas + 7 * colors) return PAG_ITEM_PAST_THE_BODY;
+    show_stops(b, alphas, 1);
+    show_stops(b, colors, 3);
+    return 0;
+}
+
+static int read_flag_bit(struct body *b, unsigned *bit)
+{
+    if (fitting(b, 1, 1) < 1) return PAG_ITEM_PAST_THE_BODY;
+    *bit = (unsigned)next_field(b, 1);
+    return 0;
+}
+
+/* The length less 1, whether there is an offset, and only then whether that is animatable. */
+static int read_dashes(struct body *b)
+{
+    unsigned exist = 0, animatable = 0;
+    int why = align(b);
+    if (why) return why;
+    if (fitting(b, 3, 1) < 1) return PAG_ITEM_PAST_THE_BODY;
+    show(b, next_field(b, 3) + 1);
+    if ((why = read_flag_bit(b, &exist))) return why;
+    show(b, exist);
+    if (!exist) return 0;
+    why = read_flag_bit(b, &animatable);
+    show(b, animatable);
+    return why;
+}
+
 /* ------------------------------------------------------------ reading: bodies */
 
 static int read_one(struct body *b, enum data_type type)
@@ -384,11 +516,18 @@ static int read_one(struct body *b, enum data_type type)
 
 static int read_value(struct body *b, enum data_type type)
 {
-    if (type == PATH) return read_path(b);
-    if (type == POINT) return read_floats(b, 2);
-    if (type != RATIO) return read_one(b, type);
-    int why = read_one(b, I32);
-    return why ? why : read_one(b, U32);
+    switch (type) {
+    case PATH: return read_path(b);
+    case POINT: return read_floats(b, 2);
+    case COLOR: return read_colors(b, 1);
+    case GRADIENT: return read_gradient(b);
+    case DASHES: return read_dashes(b);
+    case RATIO: {
+        int why = read_one(b, I32);
+        return why ? why : read_one(b, U32);
+    }
+    default: return read_one(b, type);
+    }
 }
 
 static int read_in_turn(struct body *b, enum data_type type, size_t n)
@@ -406,6 +545,7 @@ static int read_frame_values(struct body *b, enum attribute_kind kind, enum data
     if (type == BOOL) return read_fields(b, 1, n, 0, 1);
     if (type == POINT) return kind == SPATIAL ? read_scaled(b, 2 * n, UNSIGNED) : read_floats(b, 2 * n);
     if (type == FLOAT) return read_floats(b, n);
+    if (type == COLOR) return read_colors(b, n);
     if (type != BYTE) return read_in_turn(b, type, n);
     int why = read_width(b, &width);
     return why ? why : read_fields(b, width, n, 0, 255);
@@ -452,13 +592,6 @@ static int read_keyframed(struct body *b, enum attribute_kind kind, enum data_ty
     return why ? why : read_spatial(b, frames);
 }
 
-static int read_flag_bit(struct body *b, unsigned *bit)
-{
-    if (fitting(b, 1, 1) < 1) return PAG_ITEM_PAST_THE_BODY;
-    *bit = (unsigned)next_field(b, 1);
-    return 0;
-}
-
 static int read_flags(struct body *b, enum attribute_kind kind, unsigned *flags)
 {
     unsigned animatable = 0, has_spatial = 0;
@@ -474,7 +607,8 @@ static int read_flags(struct body *b, enum attribute_kind kind, unsigned *flags)
     return why;
 }
 
-static int read_block(struct body *b, const struct attribute_list *list)
+/* *last is the flag number of the last attribute. */
+static int read_block(struct body *b, const struct attribute_list *list, unsigned *last)
 {
     unsigned flags[MOST_ATTRIBUTES];
     int why;
@@ -489,15 +623,8 @@ static int read_block(struct body *b, const struct attribute_list *list)
         else if (flags[i] && kind != BIT_FLAG) why = read_value(b, type);
         if (why) return why;
     }
+    *last = flags[list->count - 1];
     return 0;
-}
-
-/* Each byte as a number. */
-static void show_bytes(struct body *b, const uint8_t *bytes, size_t n)
-{
-    if (b->out)
-        for (size_t i = 0; i < n; i++) b->out[b->count + i] = bytes[i];
-    b->count += n;
 }
 
 /* The first zero byte, or NULL. With BYTE_LOOP it is looked for as the library does, so that bench/run can tell what the C library's way is worth. */
@@ -542,11 +669,17 @@ static int read_items(struct body *b, uint32_t code)
     return 0;
 }
 
-/* The body of a leaf tag that is read: its items, zero bits up to a whole byte, and nothing more. Out of line, which costs nested tags less. */
-__attribute__((noinline)) static int read_leaf(struct body *b, enum tag_class class, uint32_t code)
+/* The body of a leaf tag that is read: its items, zero bits up to a whole byte, and nothing more. A group with a list ends there, *inside its body, and its list
+ * follows. Out of line, which costs nested tags less. */
+__attribute__((noinline)) static int read_leaf(struct body *b, enum tag_class class, uint32_t code, size_t *inside)
 {
-    int why = class == FONTS ? read_fonts(b) : class == BLOCK ? read_block(b, attributes_of(code)) : read_items(b, code);
+    unsigned last = 0;
+    int why = class == FONTS ? read_fonts(b) : class == ITEMS ? read_items(b, code) : read_block(b, attributes_of(code), &last);
     if (why || (why = align(b))) return why;
+    if (class == GROUP && last) {
+        *inside = b->at / 8;
+        return 0;
+    }
     return b->at / 8 < b->len ? PAG_BODY_NOT_USED_UP : 0;
 }
 
@@ -586,7 +719,7 @@ static inline int judge_header(const struct walk *w, size_t rest, unsigned depth
 {
     if (h->len > rest - h->size) return PAG_BODY_LONGER_THAN_LIST;
     if (h->code == 0 && h->len > 0) return PAG_END_WITH_A_BODY;
-    if (depth == TOP_DEPTH && class_of(w->level, h->code) == CONTAINER) return PAG_CONTAINER_AT_DEPTH_8;
+    if (depth == TOP_DEPTH && may_have_list(class_of(w->level, h->code))) return PAG_CONTAINER_AT_DEPTH_8;
     return 0;
 }
 
@@ -648,8 +781,8 @@ static inline void show_opaque(struct walk *w, size_t start, const struct header
     w->numbers += 4 + packed;
 }
 
-/* The own numbers of a tag that is read. *inside is how many bytes of its body they took. */
-static int show_tag(struct walk *w, enum tag_class class, size_t start, const struct header *h, size_t *inside)
+/* The own numbers of a tag that is read. *inside: how many bytes of its body stand before its list; 0 where it has none. */
+static inline int show_tag(struct walk *w, enum tag_class class, size_t start, const struct header *h, size_t *inside)
 {
     uint64_t *head = w->table ? w->table + w->numbers : NULL;
     struct body b = {w->file + start, h->len, 0, head ? head + 3 : NULL, 0, w->low};
@@ -658,11 +791,14 @@ static int show_tag(struct walk *w, enum tag_class class, size_t start, const st
         head[0] = h->code;
         head[1] = state_of(class, h);
     }
-    if (class == CONTAINER) why = read_items(&b, h->code);
-    else if (class != END && !w->leaves_judged) why = read_leaf(&b, class, h->code);
+    if (class == CONTAINER) {
+        why = read_items(&b, h->code);
+        *inside = b.at / 8;
+    } else if (class == GROUP || (class != END && !w->leaves_judged)) {
+        why = read_leaf(&b, class, h->code, inside);
+    }
     if (head) head[2] = b.count;
     w->numbers += 3 + b.count;
-    *inside = b.at / 8;
     return why;
 }
 
@@ -684,7 +820,7 @@ static pag_answer walk_list(struct walk *w, size_t place, size_t end, unsigned d
         }
         why = show_tag(w, class, start, &h, &inside);
         if (why) return refused(why, place);
-        if (class == CONTAINER) {
+        if (may_have_list(class) && inside) {
             pag_answer within = walk_list(w, start + inside, stop, depth + 1, &place);
             if (within.reason) return within;
         }
@@ -969,6 +1105,57 @@ static int write_path(struct numbers *from, struct output *o)
     return write_scaled(from, o, coordinates, SIGNED);
 }
 
+static int write_bytes(struct numbers *from, struct output *o, size_t n)
+{
+    if (n > from->left) return 0;
+    for (size_t i = 0; i < n; i++) {
+        if (from->next[i] > 255) return 0;
+        put_byte(o, from->next[i]);
+    }
+    from->next += n;
+    from->left -= n;
+    return 1;
+}
+
+static int write_colors(struct numbers *from, struct output *o, size_t n)
+{
+    put_zero_bits(o);
+    return write_bytes(from, o, 3 * n);
+}
+
+static int write_u16(struct numbers *from, struct output *o)
+{
+    uint64_t value = 0;
+    if (!take(from, 0, UINT16_MAX, &value)) return 0;
+    put_byte(o, value);
+    put_byte(o, value >> 8);
+    return 1;
+}
+
+static int write_stops(struct numbers *from, struct output *o, size_t n, size_t rest)
+{
+    for (size_t i = 0; i < n; i++)
+        if (!write_u16(from, o) || !write_u16(from, o) || !write_bytes(from, o, rest)) return 0;
+    return 1;
+}
+
+static int write_gradient(struct numbers *from, struct output *o)
+{
+    size_t alphas = 0, colors = 0;
+    return write_count(from, o, 0, &alphas) && write_count(from, o, 0, &colors) && write_stops(from, o, alphas, 1) && write_stops(from, o, colors, 3);
+}
+
+static int write_dashes(struct numbers *from, struct output *o)
+{
+    uint64_t length = 0, exist = 0, animatable = 0;
+    put_zero_bits(o);
+    if (!take(from, 1, 8, &length) || !take(from, 0, 1, &exist) || (exist && !take(from, 0, 1, &animatable))) return 0;
+    put_bits(o, 3, length - 1);
+    put_bits(o, 1, exist);
+    if (exist) put_bits(o, 1, animatable);
+    return 1;
+}
+
 /* ------------------------------------------------------------ writing: bodies */
 
 static int write_value(struct numbers *from, struct output *o, enum data_type type)
@@ -981,6 +1168,9 @@ static int write_value(struct numbers *from, struct output *o, enum data_type ty
     case RATIO: return write_i32(from, o) && write_number(from, o, UINT32_MAX);
     case PATH: return write_path(from, o);
     case POINT: return write_floats(from, o, 2);
+    case COLOR: return write_colors(from, o, 1);
+    case GRADIENT: return write_gradient(from, o);
+    case DASHES: return write_dashes(from, o);
     default: return write_byte(from, o, type);
     }
 }
@@ -998,6 +1188,7 @@ static int write_frame_values(struct numbers *from, struct output *o, enum attri
     if (type == BOOL) return write_fields(from, o, 1, n, 1);
     if (type == POINT) return kind == SPATIAL ? write_scaled(from, o, 2 * n, UNSIGNED) : write_floats(from, o, 2 * n);
     if (type == FLOAT) return write_floats(from, o, n);
+    if (type == COLOR) return write_colors(from, o, n);
     if (type != BYTE) return write_in_turn(from, o, type, n);
     return write_width(from, o, &width) && write_fields(from, o, width, n, 255);
 }
@@ -1149,18 +1340,19 @@ static uint8_t turned(uint32_t byte)
     return (uint8_t)((byte & 0x55) << 1 | (byte & 0xAA) >> 1);
 }
 
-/* One byte of flags or two. */
+/* One byte of flags, two or three. */
 static void put_flags(uint8_t *to, size_t bytes, struct flags flags, int low)
 {
     uint32_t bits = flags.bits << (8 * bytes - flags.count);
-    if (bytes == 2) to[0] = (uint8_t)(bits >> 8);
+    if (bytes == 3) to[0] = (uint8_t)(bits >> 16);
+    if (bytes >= 2) to[bytes - 2] = (uint8_t)(bits >> 8);
     to[bytes - 1] = (uint8_t)bits;
     for (size_t i = 0; low && i < bytes; i++) to[i] = turned(to[i]);
 }
 
 /*
  * A tag's header and flags are known after its contents. So the contents are written as near to the tag's place as they can come, behind the header that
- * the state claims, long or short, and one byte of flags, and are moved on where no claim is made and the header is long, or the flags take two bytes: never
+ * the state claims, long or short, and one byte of flags, and are moved on where no claim is made and the header is long, or the flags take more bytes: never
  * past where the tag ends. A long header that is claimed for 63 bytes or more is in no file.
  */
 static int close_tag(struct output *o, size_t place, uint32_t code, int claimed, size_t contents, struct flags flags)
@@ -1185,7 +1377,7 @@ static int write_own(struct numbers *values, struct output *o, enum tag_class cl
     int good = 1;
     if (class == FONTS) good = write_fonts(values, o);
     if (class == ITEMS || class == CONTAINER) good = write_items(values, o, code);
-    if (class == BLOCK) {
+    if (class == BLOCK || class == GROUP) {
         const struct attribute_list *list = attributes_of(code);
         for (size_t i = 0; good && i < list->count; i++) good = write_attribute(values, o, list->of[i], flags);
     }
@@ -1218,11 +1410,12 @@ static int write_list(struct numbers *from, struct output *o, uint32_t level, un
             if (!write_opaque(&values, o, (uint32_t)code, claimed) || o->len > PAG_FILE_MAX) return 0;
             continue;
         }
-        if (class == CONTAINER && depth == TOP_DEPTH) return 0;
-        size_t place = o->len, contents = place + (claimed ? 6 : 2) + (class == BLOCK);
+        if (depth == TOP_DEPTH && may_have_list(class)) return 0;
+        size_t place = o->len, contents = place + (claimed ? 6 : 2) + (class == BLOCK || class == GROUP);
         o->len = contents;
         if (!write_own(&values, o, class, (uint32_t)code, &flags)) return 0;
-        if (class == CONTAINER && !write_list(from, o, level, depth + 1)) return 0;
+        int has_list = class == CONTAINER || (class == GROUP && (flags.bits & 1)); /* a group's last flag */
+        if (has_list && !write_list(from, o, level, depth + 1)) return 0;
         if (!close_tag(o, place, (uint32_t)code, claimed, contents, flags)) return 0;
         if (o->len > PAG_FILE_MAX) return 0;
         if (class == END) return 1;

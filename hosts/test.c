@@ -18,7 +18,7 @@
 
 enum { GUARD = 64, PAGE = 4096, SMALL_ROOM = 80, RANDOM_FILES = 1500, CHECKED_FILES = 100 };
 
-static const uint32_t LEVELS[] = {0, 1, 2, 4, 5, 6, 8, 9, 10, 12, 13, 14, 1023, 1024, UINT32_MAX};
+static const uint32_t LEVELS[] = {0, 1, 2, 4, 5, 6, 8, 9, 10, 12, 13, 14, 15, 16, 17, 21, 22, 23, 27, 1023, 1024, UINT32_MAX};
 enum { LEVEL_COUNT = sizeof LEVELS / sizeof *LEVELS };
 
 static const uint32_t NEITHER[] = {2, 3, 255, 256, 257, 65536, UINT32_MAX};
@@ -330,7 +330,7 @@ static void try_small_file(struct maker *m, const uint8_t *file, size_t file_len
 }
 
 /* P2 of document 01; tag 2 holding tag 5 holding tag 11, all of them and their Ends by long headers; tag 2 holding opaque tags of 0, 1, 7, 8 and 9 bytes, the
- * last by a long header; and tag 13 with a position and an opacity, then tag 10 with a Bezier frame. */
+ * last by a long header; tag 13 with a position and an opacity, then tag 10 with a Bezier frame; and samples/shapes.pag. */
 static void try_small_files(struct maker *m)
 {
     static const uint8_t P2[] = {0x50, 0x41, 0x47, 1, 0x13, 0, 0, 0, 0, 0xC6, 1, 0xFF, 0x80, 0, 0x80, 0x0A, 3, 0, 0};
@@ -340,10 +340,28 @@ static void try_small_files(struct maker *m)
                                      1, 2, 3, 4, 5, 6, 7, 8, 0x3F, 2, 9, 0, 0, 0, 1, 2, 3, 4, 5, 6, 7, 8, 9, 0, 0, 0, 0};
     static const uint8_t POINTS[] = {0x50, 0x41, 0x47, 1, 0x34, 0, 0, 0, 0, 0x4A, 3, 0x42, 0, 0, 0xA0, 0x41, 0, 0, 0xF0, 0x41, 0x80, 0x9B, 2, 0xE0, 6, 1, 0x80,
                                      0, 0x18, 0, 0, 0, 0, 0, 0, 0x80, 0x3F, 0, 0, 0, 0x40, 0, 0, 0x80, 0xBF, 0x18, 0xFB, 0xC1, 0x71, 0xE8, 0, 0};
+    static const uint8_t SHAPES[] = {0x50, 0x41, 0x47, 1, 0x59, 0, 0, 0, 0, 0x7F, 1, 0x48, 0, 0, 0, 4, 7, 0xFE, 3, 1, 0x40, 0x80, 0x56, 4, 0x5C, 0, 0,
+                                     0xA0, 0x41, 0, 0, 0xF0, 0x41, 1, 0x80, 0, 0x18, 0x3F, 0xF8, 4, 0, 8, 0x0B, 0x90, 0x86, 0xF0, 0x96, 5, 0x12, 0, 1, 2,
+                                     1, 0, 0, 0xA8, 0x61, 0xFF, 0x50, 0xC3, 0xA8, 0x61, 0, 0, 0, 0xA8, 0x61, 0xFF, 0x80, 0, 0xC7, 5, 4, 0x48, 0xFF, 0x80,
+                                     0, 2, 0x30, 0, 0, 0xC2, 3, 0, 0, 0, 0, 0, 0};
     try_small_file(m, P2, sizeof P2);
     try_small_file(m, LONG, sizeof LONG);
     try_small_file(m, PACKED, sizeof PACKED);
     try_small_file(m, POINTS, sizeof POINTS);
+    try_small_file(m, SHAPES, sizeof SHAPES);
+}
+
+/* Groups, with two bytes of flags before their list: the ninth stands at depth 8. */
+static void try_groups_to_depth_8(struct maker *m)
+{
+    uint8_t deep[9 + 9 * 4 + 10 * 2] = {0x50, 0x41, 0x47, 1, sizeof deep};
+    for (size_t depth = 0; depth < 9; depth++) {
+        size_t place = 9 + 4 * depth, body = sizeof deep - place - 2 - 2 * (depth + 1);
+        deep[place] = (uint8_t)(15 * 64 + body);
+        deep[place + 1] = (15 * 64) >> 8;
+        deep[place + 3] = 0x80;
+    }
+    read_in_orders(m, HIGH, deep, sizeof deep);
 }
 
 /* A fault that damage seldom makes: a container at depth 8. */
@@ -356,6 +374,7 @@ static void try_depth_8(struct maker *m)
         deep[place + 1] = (2 * 64) >> 8;
     }
     read_in_orders(m, HIGH, deep, sizeof deep);
+    try_groups_to_depth_8(m);
 }
 
 /* NULL with length 0, for what is read and for what is lent. */

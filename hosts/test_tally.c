@@ -92,7 +92,7 @@ static void compare(uint32_t level, uint32_t order, const uint8_t *file, size_t 
 
 static void random_files(void)
 {
-    static const uint32_t levels[] = {0, 1, 2, 4, 5, 9, 10, 13, 14, 1023, 1024};
+    static const uint32_t levels[] = {0, 1, 2, 4, 5, 9, 10, 13, 14, 15, 20, 1023, 1024};
     struct maker m = {.bytes = file_bytes, .seed = 1907, .any_headers = 1, .all_leaves = 1};
     for (size_t i = 0; i < RANDOM_FILES; i++) {
         m.low = i % 2;
@@ -113,6 +113,8 @@ static void random_files(void)
  * tag of three bytes; three Ends. At level 4 the layer's 11 bytes are its own. */
 static const uint8_t P1[] = {'P', 'A', 'G', 1, 11, 0, 0, 0, 0, 0, 0};
 static const uint8_t NESTED_FILE[] = {'P', 'A', 'G', 1, 32, 0, 0, 0, 0, 0xBF, 0, 15, 0, 0, 0, 0x80, 1, 0x49, 1, 7, 1, 3, 1, 10, 20, 30, 0, 0, 0, 0, 0, 0};
+/* A group with two bytes of its own, in it an ellipse of one byte; two Ends. At level 14 the group's 7 bytes are its own. */
+static const uint8_t GROUP_FILE[] = {'P', 'A', 'G', 1, 20, 0, 0, 0, 0, 0xC7, 3, 0, 0x80, 0x41, 4, 0x80, 0, 0, 0, 0};
 
 static void worked(void)
 {
@@ -123,13 +125,17 @@ static void worked(void)
     if (t.counts[0] != 8 || t.counts[2] != 8 || t.counts[4] != 5 || t.counts[5] != 4) fail("another count", "nested");
     accepted(&t, 4, NESTED_FILE, sizeof NESTED_FILE, "nested at level 4");
     if (t.counts[0] != 12 || t.counts[2] != 16 || t.counts[4] != 5 || t.counts[5] != 15) fail("another count", "nested at level 4");
+    accepted(&t, 1023, GROUP_FILE, sizeof GROUP_FILE, "a group");
+    if (t.counts[0] != 16 || t.counts[15] != 4 || t.counts[17] != 3) fail("another count", "a group");
+    accepted(&t, 14, GROUP_FILE, sizeof GROUP_FILE, "a group at level 14");
+    if (t.counts[0] != 18 || t.counts[15] != 13 || t.counts[17] != 3) fail("another count", "a group at level 14");
     refused(&t, 1024, 2, P1, sizeof P1, PAG_LEVEL_ABOVE_1023, 0, "1 before 24");
     refused(&t, 1023, 2, P1, 8, PAG_ORDER_UNKNOWN, 0, "24 before 2");
     refused(&t, 1023, 0, NULL, 0, PAG_FEWER_THAN_9_BYTES, 0, "no bytes");
     refused(&t, 1023, 0, P1, 9, PAG_LENGTH_FIELD_WRONG, 0, "cut");
     uint64_t all = t.headers;
     for (size_t i = 0; i < CODES; i++) all += t.counts[i];
-    if (all != 11 + 32 + 32) fail("the counts together are not the accepted lengths", "worked files");
+    if (all != 11 + 32 + 32 + 20 + 20) fail("the counts together are not the accepted lengths", "worked files");
 }
 
 /* The limits: 1,000,000 files, and a count of 16,777,216,000,000; tried before all else. */
@@ -163,14 +169,14 @@ static void longest(void)
     uint8_t *f = calloc(1, PAG_FILE_MAX + 1);
     if (!f) exit(2);
     uint32_t body = PAG_FILE_MAX - 9 - 6 - 2;
-    uint8_t head[] = {'P', 'A', 'G', 1, 0, 0, 0, 1, 0, 0x3F, 5, (uint8_t)body, (uint8_t)(body >> 8), (uint8_t)(body >> 16), (uint8_t)(body >> 24)};
+    uint8_t head[] = {'P', 'A', 'G', 1, 0, 0, 0, 1, 0, 0x3F, 7, (uint8_t)body, (uint8_t)(body >> 8), (uint8_t)(body >> 16), (uint8_t)(body >> 24)};
     memcpy(f, head, sizeof head);
     struct tally t = empty();
-    t.counts[20] = FULL_COUNT;
+    t.counts[28] = FULL_COUNT;
     accepted(&t, 1023, f, PAG_FILE_MAX, "the longest file");
-    if (t.counts[20] != FULL_COUNT + PAG_FILE_MAX - 11 || t.counts[0] != 2) fail("another count", "the longest file");
+    if (t.counts[28] != FULL_COUNT + PAG_FILE_MAX - 11 || t.counts[0] != 2) fail("another count", "the longest file");
     f[4] = 1;
-    t.counts[20] = 0;
+    t.counts[28] = 0;
     refused(&t, 1023, 0, f, PAG_FILE_MAX + 1, PAG_LENGTH_FIELD_WRONG, 0, "a byte more");
     free(f);
 }

@@ -60,7 +60,8 @@ def with_canvas(rng, order):
     for _ in range(rng.randint(1, 3)):
         inner = fuzz.any_tag(rng, canvas.COMPOSITION_ATTRIBUTES, fuzz.leaf_body(rng, order, canvas.COMPOSITION_ATTRIBUTES))
         for depth in range(rng.choice((0, 0, 1, 2, 8)), 0, -1):
-            inner = fuzz.any_tag(rng, 2, b'\5' + some_tags(rng, order, depth) + inner + fuzz.end_tag(rng))
+            code, head = fuzz.container_head(rng, order)
+            inner = fuzz.any_tag(rng, code, head + some_tags(rng, order, depth) + inner + fuzz.end_tag(rng))
         tags += some_tags(rng, order, 0) + inner
     return fuzz.file_of(tags + fuzz.end_tag(rng), rng.getrandbits(8))
 

@@ -1,17 +1,14 @@
 """Checks cases.txt against pag_reference: each expectation, the length field,
-and that write gives back the bytes of each accepted file; and the bodies of
-spatial.txt against its body functions.
+and that write gives back the bytes of each accepted file.
 `check_cases.py FILE` checks another file of cases alone."""
 
 import os
 import sys
 
-import fuzz
 import pag_reference
 
 HERE = os.path.dirname(os.path.abspath(__file__))
 CASES = os.path.join(HERE, '..', 'cases.txt')
-SPATIAL = os.path.join(HERE, 'spatial.txt')
 PROVED = 'proved'
 
 
@@ -85,39 +82,18 @@ def disagreements(case):
     return ['%s: %s' % (name, text) for text in found]
 
 
-def spatial_bodies():
-    """[(name, bit order, body or None, kind of expectation, numbers)] of spatial.txt."""
-    bodies = []
-    for name, order, data, expected, _ in fields(SPATIAL):
-        kind, _, numbers = expected.partition(' ')
-        if kind not in ('values', 'fault', 'impossible'):
-            raise ValueError('not an expectation: ' + expected)
-        bodies.append((name, int(order), None if kind == 'impossible' else parse_bytes(data), kind, repeats(numbers, int)))
-    return bodies
-
-
-def spatial_disagreements(name, order, body, kind, numbers):
-    rows = fuzz.SPATIAL_ROWS
-    answer = 'none' if body is None else fuzz.block_read(order, rows, body)
-    written = fuzz.block_written(order, rows, numbers)
-    good = {'values': answer == numbers and written == body, 'fault': [answer] == numbers, 'impossible': written is None}[kind]
-    return [] if good else ['%s: reads as %s, is written as %s, expected %s %s' % (name, answer, written and written.hex(), kind, numbers)]
-
-
 def names_twice(names):
     return ['name twice: ' + name for name in sorted(set(names)) if names.count(name) > 1]
 
 
 def main():
-    cases, bodies = load(*sys.argv[1:2]), [] if sys.argv[1:] else spatial_bodies()
-    found = names_twice([case[0] for case in cases]) + names_twice([body[0] for body in bodies])
+    cases = load(*sys.argv[1:2])
+    found = names_twice([case[0] for case in cases])
     for case in cases:
         found += disagreements(case)
-    for body in bodies:
-        found += spatial_disagreements(*body)
     for text in found:
         print(text)
-    print('%d cases and %d bodies, %d disagreements' % (len(cases), len(bodies), len(found)))
+    print('%d cases, %d disagreements' % (len(cases), len(found)))
     return 1 if found else 0
 
 

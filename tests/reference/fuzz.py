@@ -7,8 +7,8 @@ import sys
 
 import pag_reference as pag
 
-COVERED = (0, 1, 2, 3, 5, 6, 7, 9, 10, 11, 12, 13, 14)
-LEAVES = (1, 3, 6, 7, 9, 10, 11, 12, 13, 14)
+COVERED = (0, 1, 2, 3, 5, 6, 7, *range(9, 28))
+LEAVES = (1, 3, 6, 7, *range(9, 15), *range(16, 28))
 # Lengths of opaque bodies: every filling, and both sides of a whole number and of a long header.
 OPAQUE_LENGTHS = (*range(18), 23, 24, 25, 61, 62, 63, 64, 65, 100, 101)
 
@@ -105,6 +105,20 @@ def grouping(rng):
     return ub(rng.randint(0, 6), 8)
 
 
+def one_of_two(rng):
+    """PolyStarType, CompositeOrder, FillRule, GradientFillType and TrimPathsType."""
+    return ub(rng.randint(0, 1), 8)
+
+
+def one_of_three(rng):
+    """LineCap and LineJoin."""
+    return ub(rng.randint(0, 2), 8)
+
+
+def merge_mode(rng):
+    return ub(rng.randint(0, 4), 8)
+
+
 def point(rng):
     return float_(rng) + float_(rng)
 
@@ -120,6 +134,22 @@ def path(rng):
     coordinates = sum((0, 2, 2, 1, 1, 4, 4, 6)[verb] for verb in verbs)
     fields = spelled(len(verbs)) + row(ub(verb, 3) for verb in verbs)
     return fields + ub(width - 1, 5) + signed_fields(rng, width, coordinates)
+
+
+def stop_places(rng):
+    """The position and the midpoint of a stop: four bytes, of which each two are a number."""
+    return row(byte(rng) for _ in range(4))
+
+
+def gradient(rng):
+    alphas, colors = rng.choice((0, 1, 2, 3, 9)), rng.choice((0, 1, 2, 3, 9))
+    stops = row(stop_places(rng) + byte(rng) for _ in range(alphas)) + row(stop_places(rng) + color(rng) for _ in range(colors))
+    return spelled(alphas) + spelled(colors) + stops
+
+
+def dashes(rng):
+    """Three bits, a flag, and one more where that is set."""
+    return ub(rng.randint(0, 7), 3) + rng.choice((ub(0, 1), ub(1, 1) + ub(0, 1), ub(1, 1) + ub(1, 1)))
 
 
 # ------------------------------------------------------------ bodies
@@ -173,8 +203,30 @@ TRANSFORM = [('Value', point), ('Value', point), ('Value', float_), ('Value', fl
              ('Value', point), ('Value', float_), ('Value', byte)]
 MASK = [('Fixed', u32), ('BitFlag', None), ('Value', mask_mode),
         ('Simple', path), ('Simple', byte), ('Simple', float_)]
+# The attributes of a group before its list.
+GROUP = [('Value', blend_mode), ('Spatial', point), ('Spatial', point), ('MultiDimension', point),
+         ('Simple', float_), ('Simple', float_), ('Simple', float_), ('Simple', byte)]
+ELLIPSE = [('BitFlag', None), ('MultiDimension', point), ('Spatial', point)]
+RECTANGLE = ELLIPSE + [('Simple', float_)]
+POLY_STAR = [('BitFlag', None), ('Value', one_of_two), ('Simple', float_), ('Spatial', point)] + [('Simple', float_)] * 5
+SHAPE_PATH = [('Simple', path)]
+FILL = [('Value', blend_mode), ('Value', one_of_two), ('Value', one_of_two), ('Simple', color), ('Simple', byte)]
+STROKE = [('Value', blend_mode), ('Value', one_of_two), ('Value', one_of_three), ('Value', one_of_three),
+          ('Simple', float_), ('Simple', color), ('Simple', byte), ('Simple', float_)]
+GRADIENT_FILL = [('Value', blend_mode), ('Value', one_of_two), ('Value', one_of_two), ('Value', one_of_two),
+                 ('Spatial', point), ('Spatial', point), ('Simple', gradient), ('Simple', byte)]
+GRADIENT_STROKE = [('Value', blend_mode), ('Value', one_of_two), ('Value', one_of_two), ('Spatial', point), ('Spatial', point),
+                   ('Simple', color), ('Simple', byte), ('Simple', float_), ('Value', one_of_three), ('Value', one_of_three),
+                   ('Simple', float_), ('Custom', dashes)]
+MERGE_PATHS = [('Value', merge_mode)]
+TRIM_PATHS = [('Simple', float_), ('Simple', float_), ('Simple', float_), ('Value', one_of_two)]
+REPEATER = [('Value', one_of_two), ('Simple', float_), ('Simple', float_), ('Spatial', point), ('Spatial', point),
+            ('MultiDimension', point), ('Simple', float_), ('Simple', byte), ('Simple', byte)]
+ROUND_CORNERS = [('Simple', float_)]
+LISTS = {6: LAYER, 9: TEXT, 10: MORE, 13: TRANSFORM, 14: MASK, 16: RECTANGLE, 17: ELLIPSE, 18: POLY_STAR, 19: SHAPE_PATH, 20: FILL, 21: STROKE,
+         22: GRADIENT_FILL, 23: GRADIENT_STROKE, 24: MERGE_PATHS, 25: TRIM_PATHS, 26: REPEATER, 27: ROUND_CORNERS}
 # How many flag bits a kind has at most; the next one is there where the one before it is set.
-FLAG_BITS = {'Fixed': 0, 'BitFlag': 1, 'Value': 1, 'Simple': 2, 'Discrete': 2, 'MultiDimension': 2, 'Spatial': 3}
+FLAG_BITS = {'Fixed': 0, 'BitFlag': 1, 'Value': 1, 'Custom': 1, 'Simple': 2, 'Discrete': 2, 'MultiDimension': 2, 'Spatial': 3}
 
 
 def flag_bits(rng, kind):
@@ -184,7 +236,8 @@ def flag_bits(rng, kind):
     return bits
 
 
-def block(rng, attributes):
+def block(rng, attributes, last_flag=()):
+    """Flags and contents; a group has one flag more behind those of its attributes."""
     flags, contents = [], []
     for kind, data_type in attributes:
         bits = flag_bits(rng, kind)
@@ -194,7 +247,7 @@ def block(rng, attributes):
             contents += pad(keyframed(rng, kind, data_type, has_spatial))
         elif exist and kind != 'BitFlag':
             contents += pad(data_type(rng))
-    return pad(flags) + contents
+    return pad(flags + list(last_flag)) + contents
 
 
 def string(rng):
@@ -218,19 +271,7 @@ def leaf_fields(rng, code):
         return u32(rng)
     if code == 12:
         return u32(rng) + time(rng)
-    return block(rng, {6: LAYER, 9: TEXT, 10: MORE, 13: TRANSFORM, 14: MASK}[code])
-
-
-# Tag 10's rows with its Point made Spatial: no tag has such a row until C-24.
-SPATIAL_ROWS = (pag.BLOCKS[10][0], ('groupingAlignment', 'Spatial', 'Point'))
-
-
-def give_spatial_row():
-    """From here on tag 10 has these rows, in the reference and in what is made here, and files have no leaves but 10 and 13."""
-    global LEAVES
-    pag.BLOCKS[10] = SPATIAL_ROWS
-    MORE[1] = ('Spatial', point)
-    LEAVES = (10, 10, 10, 13)
+    return block(rng, LISTS[code])
 
 
 def leaf_body(rng, order, code):
@@ -267,7 +308,7 @@ def opaque_body(rng, length):
 
 
 def opaque_tag(rng):
-    code = rng.randint(1, 1023) if rng.getrandbits(1) else rng.choice((4, 8, 15, 28, 29))
+    code = rng.randint(1, 1023) if rng.getrandbits(1) else rng.choice((4, 8, 28, 29, 30))
     if code in COVERED:
         code = 1023
     length = rng.choice(OPAQUE_LENGTHS) if rng.random() < 0.9 else rng.randint(0, 700)
@@ -280,11 +321,23 @@ def filling_list(rng, room):
     return any_tag(rng, 8, rng.randbytes(max(0, room - 2 - len(end)))) + end
 
 
+def container_head(rng, order):
+    """The code of a container, and what stands before its list."""
+    code = rng.choice((2, 5, pag.SHAPE_GROUP))
+    if code == pag.SHAPE_GROUP:
+        return code, as_bytes(order, block(rng, GROUP, ub(1, 1)))
+    return code, (rng.randbytes(1) if code == 5 else b'') + as_bytes(order, u32(rng))
+
+
+def group_without_list(rng, order):
+    return any_tag(rng, pag.SHAPE_GROUP, as_bytes(order, block(rng, GROUP, ub(0, 1))))
+
+
 def container(rng, order, depth):
-    """A container, now and then with a body near 63 bytes."""
-    head = b'' if rng.getrandbits(1) else rng.randbytes(1)
-    code = 5 if head else 2
-    head += as_bytes(order, u32(rng))
+    """A container, now and then with a body near 63 bytes, or a group without a list."""
+    if rng.random() < 0.1:
+        return group_without_list(rng, order)
+    code, head = container_head(rng, order)
     if rng.random() < 0.15:
         return any_tag(rng, code, head + filling_list(rng, rng.randint(57, 65) - len(head)))
     return any_tag(rng, code, head + tag_list(rng, order, depth + 1))
@@ -313,7 +366,9 @@ def file_of(tags, compression=0):
 def random_file(rng, order=pag.HIGH_FIRST):
     """A random file that is good at every level in this order."""
     if rng.random() < 0.3:      # one tag alone, so that damage hits its body
-        code = rng.choice(LEAVES)
+        code = rng.choice(LEAVES + (pag.SHAPE_GROUP,))
+        if code == pag.SHAPE_GROUP:
+            return file_of(group_without_list(rng, order) + end_tag(rng), rng.getrandbits(8))
         return file_of(any_tag(rng, code, leaf_body(rng, order, code)) + end_tag(rng), rng.getrandbits(8))
     return file_of(tag_list(rng, order, 0), rng.getrandbits(8))
 
@@ -348,10 +403,11 @@ def raw_cut(rng, data):
 
 
 def wrap(rng, data):
-    """The whole list put into one to nine containers inside each other."""
+    """The whole list put into one to nine containers inside each other: compositions, and groups of one flag in either order."""
     tags = data[9:]
+    code, head = rng.choice(((2, b'\1'), (2, b'\1'), (pag.SHAPE_GROUP, b'\0\x80'), (pag.SHAPE_GROUP, b'\0\1')))
     for _ in range(rng.randint(1, 9)):
-        tags = any_tag(rng, 2, b'\x01' + tags) + end_tag(rng)
+        tags = any_tag(rng, code, head + tags) + end_tag(rng)
     return file_of(tags)
 
 
@@ -486,7 +542,7 @@ def damaged_table(rng, table):
 # ------------------------------------------------------------ self-check
 
 def any_level(rng):
-    return rng.choice((0, 1, 2, 4, 5, 6, 8, 9, 10, 11, 12, 13, 1023, 1023, 1023, 1023))
+    return rng.choice((0, 1, 2, 4, 5, 6, 8, 9, 10, 11, 12, 13, 14, 15, 16, rng.randint(17, 28), *[1023] * 6))
 
 
 def any_order(rng):
@@ -709,14 +765,15 @@ def damaged_values(rng, values):
     return out
 
 
-# Points by every kind that may have them, with others between: no tag has a Spatial row until C-24, so the body functions are tried with rows of their own.
-POINT_ROWS = [('Value', 'byte', byte), ('Value', 'Point', point), ('Fixed', 'Point', point), ('MultiDimension', 'Point', point),
-              ('Spatial', 'Point', point), ('Spatial', 'Point', point), ('Simple', 'Float', float_), ('Discrete', 'Bool', bool_), ('BitFlag', None, None)]
+# Rows of every kind, in lists that no tag has.
+ANY_ROWS = [('Value', 'byte', byte), ('Value', 'Point', point), ('Fixed', 'Point', point), ('MultiDimension', 'Point', point),
+            ('Spatial', 'Point', point), ('Spatial', 'Point', point), ('Simple', 'Float', float_), ('Discrete', 'Bool', bool_), ('BitFlag', None, None),
+            ('Simple', 'Color', color), ('Value', 'Color', color), ('Simple', 'GradientColor', gradient), ('Custom', 'dashes', dashes)]
 
 
 def check_block(rng, tally):
-    """A block of random rows with Spatial ones among them: the same values in both orders, written back; and damaged, as bytes and as values."""
-    rows = rng.choices(POINT_ROWS, k=rng.randint(1, 5))
+    """A block of random rows: the same values in both orders, written back; and damaged, as bytes and as values."""
+    rows = rng.choices(ANY_ROWS, k=rng.randint(1, 5))
     attributes = [('', kind, name) for kind, name, _ in rows]
     seed, bodies = rng.getrandbits(32), []
     for order in (pag.HIGH_FIRST, pag.LOW_FIRST):
@@ -759,7 +816,7 @@ def main(seed=1, good=5000, damaged=20000, tables=10000, fields=20000, blocks=10
     tally = {}
     for _ in range(blocks):
         check_block(rng, tally)
-    print('%d blocks with Spatial rows, and as many damaged ones: %s' % (blocks, show(tally)))
+    print('%d blocks of random rows, and as many damaged ones: %s' % (blocks, show(tally)))
 
 
 if __name__ == '__main__':

@@ -4,9 +4,9 @@
 
 A record is a head of eight bytes (its kind: 0 file, 1 table; its bit order; its level in two bytes; the count of the bytes that follow in four) and a file, or a table's numbers in eight bytes each.
 
-Files are those of tests/cases.txt that fit the program's room, each at its own level and in its own order; those of at most SHORT bytes at LEVELS, too, and at their own level in the other
-order and in one that is neither; and the samples at LEVELS. Tables are those of tests/tables.txt, whose expectations were derived by hand, in their own order, in the other and in one that is neither; and the tables
-of the accepted cases with one number changed. What the program has to print comes from pag_reference: `kept` says that lent memory is as it was, all of it after a refusal, and what is past the count after an acceptance."""
+Files are those of tests/cases.txt that fit the program's room, each at its own level and in its own order; those of at most SHORT bytes at the levels where they begin and cease to be read alike, too, and at their own
+level in the other order and in one that is neither; and the samples at those levels. Tables are those of tests/tables.txt that fit it, whose expectations were derived by hand, in their own order, in the other and in one
+that is neither; and the tables of the accepted cases, each once, with one number changed. What the program has to print comes from pag_reference: `kept` says that lent memory is as it was, all of it after a refusal, and what is past the count after an acceptance."""
 
 import os
 import sys
@@ -14,8 +14,8 @@ import sys
 import check_cases
 import pag_reference
 
-LEVELS = [0, 1, 2, 5, 6, 9, 10, 12, 13, 1023]
-LOW_LEVELS = [13, 1023]
+# Every level up to the highest code that is read, and the top.
+LEVELS = [*range(28), 1023]
 NEITHER = [2, 255]
 TOP_ORDER = 255
 ROOM = 16384
@@ -78,8 +78,14 @@ def other_orders(order, number):
     return [1 - order, NEITHER[number % len(NEITHER)]]
 
 
-def other_levels(order):
-    return {pag_reference.HIGH_FIRST: LEVELS, pag_reference.LOW_FIRST: LOW_LEVELS}.get(order, [])
+def telling_levels(order, data):
+    """Of each row of levels that read a file alike the first and the last; none where the order is neither."""
+    if order not in (pag_reference.HIGH_FIRST, pag_reference.LOW_FIRST):
+        return set()
+    answers = [pag_reference.read(level, order, data) for level in LEVELS]
+    first = {level for i, level in enumerate(LEVELS) if i == 0 or answers[i] != answers[i - 1]}
+    last = {level for i, level in enumerate(LEVELS) if i + 1 == len(LEVELS) or answers[i] != answers[i + 1]}
+    return first | last
 
 
 def packed_places(table):
@@ -112,7 +118,7 @@ def case_records(number, case):
     if len(data) > SHORT:
         yield file_record(level, order, data)
         return
-    for other in sorted({level, *other_levels(order)}):
+    for other in sorted({level} | telling_levels(order, data)):
         yield file_record(other, order, data)
     for other in other_orders(order, number):
         yield file_record(level, other, data)
@@ -123,14 +129,21 @@ def records():
     cases = [case for case in check_cases.load() if len(case[3]) <= ROOM and case[2] <= TOP_ORDER]
     for number, case in enumerate(cases):
         yield from case_records(number, case)
-    for number, (level, order, table) in enumerate(tables()):
+    # A number has eight bytes in a record.
+    for number, (level, order, table) in enumerate(one for one in tables() if 8 * len(one[2]) <= ROOM):
         for other in [order, *other_orders(order, number)]:
             yield table_record(level, other, table)
     for data in samples():
-        for level in LEVELS:
+        for level in sorted(telling_levels(pag_reference.HIGH_FIRST, data)):
             yield file_record(level, pag_reference.HIGH_FIRST, data)
+    yield from changed_records(cases)
+
+
+def changed_records(cases):
+    done = set()
     for _, level, order, _, expected, _ in cases:
-        if expected[0] == 'table' and len(expected[1]) <= CHANGED:
+        if expected[0] == 'table' and len(expected[1]) <= CHANGED and (level, *expected[1]) not in done:
+            done.add((level, *expected[1]))
             for table in changed(expected[1]):
                 yield table_record(level, order, table)
 

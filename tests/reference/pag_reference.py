@@ -1,13 +1,13 @@
 """An independent reference of the PAG reader and writer, made from document 01
 and from document 02's C-18 (bit order), C-11 (long headers on short bodies),
-C-17 (packed opaque bodies) and C-12 (transforms and points).
+C-17 (packed opaque bodies), C-12 (transforms and points) and C-24 (shapes).
 
 `read` and `write` speak packed tables. Beside them stand `read_plain` and
 `write_plain` for the table of document 01, where an opaque tag's values are its
 body bytes, and `pack` and `unpack` between the two.
 
-Lines in quotation marks in the comments are their sentences. "Chapter 4" and
-"chapter 5" are those of source 000.
+Lines in quotation marks in the comments are their sentences. Chapters are those
+of source 000.
 Decision n is point n of docs/DECISIONS.md.
 """
 
@@ -16,15 +16,16 @@ TOP_LEVEL = 1023            # "A level from 0 to 1023 goes with each call"
 LONG_LENGTH = 63            # "Length 63 means that a .. 32-bit body length follows"
 BYTES_A_NUMBER = 8          # C-17: "eight bytes to a number"
 TOP_DEPTH = 8               # "A container at depth 8 is refused."
-TOP_COUNT = 4096            # "Frames are 1 to 4,096; verbs and fonts 0 to 4,096."
+TOP_COUNT = 4096            # "Frames are 1 to 4,096; verbs and fonts 0 to 4,096."; C-24's stops too
 WORD = 1 << 64              # "A negative number is kept modulo 2^64"
 LISTING_BYTES = 32768       # "reads at most 32,768 bytes from standard input"
 LISTING_NUMBERS = 8192      # "needing more than 8,192 numbers is refused by 19"
 
 HIGH_FIRST, LOW_FIRST = 0, 1        # C-18: "high first or low first"
 LINEAR, BEZIER, HOLD = 1, 2, 3      # "1 linear, 2 Bezier, 3 hold"
-CONTAINERS = (2, 5)                 # "Tags 2 and 5 are containers."
-COVERED = (0, 1, 2, 3, 5, 6, 7, 9, 10, 11, 12, 13, 14)
+SHAPE_GROUP = 15
+CONTAINERS = (2, 5, SHAPE_GROUP)    # "Tags 2 and 5 are containers."; C-24: its table gives 15 a tag list
+COVERED = (0, 1, 2, 3, 5, 6, 7, *range(9, 28))
 COORDINATES = (0, 2, 2, 1, 1, 4, 4, 6)  # "Coordinates by verb 0 to 7"
 
 # The data types of bytes with an enumeration, and the numbers listed for each.
@@ -33,6 +34,15 @@ LISTED = {
     'trackMatteType': tuple(range(0, 5)),
     'maskMode': tuple(range(0, 8)),
     'anchorPointGrouping': tuple(range(0, 7)),      # C-12: "0 to 6"
+    # C-24: "the enums of chapter 2"
+    'PolyStarType': (0, 1),
+    'CompositeOrder': (0, 1),
+    'FillRule': (0, 1),
+    'LineCap': (0, 1, 2),
+    'LineJoin': (0, 1, 2),
+    'GradientFillType': (0, 1),
+    'MergePathsMode': (0, 1, 2, 3, 4),
+    'TrimPathsType': (0, 1),
 }
 
 # The kinds with an animatable bit, by the table of AttributeType in chapter 4:
@@ -72,6 +82,80 @@ BLOCKS = {
          ('path', 'Simple', 'Path'),
          ('opacity', 'Simple', 'byte'),
          ('expansion', 'Simple', 'Float')),
+    SHAPE_GROUP: (('blendMode', 'Value', 'blendMode'),
+                  ('anchorPoint', 'Spatial', 'Point'),
+                  ('position', 'Spatial', 'Point'),
+                  ('scale', 'MultiDimension', 'Point'),
+                  ('skew', 'Simple', 'Float'),
+                  ('skewAxis', 'Simple', 'Float'),
+                  ('rotation', 'Simple', 'Float'),
+                  ('opacity', 'Simple', 'byte'),
+                  ('TagBlock', 'Custom', 'TagBlock')),
+    16: (('reversed', 'BitFlag', None),
+         ('size', 'MultiDimension', 'Point'),
+         ('position', 'Spatial', 'Point'),
+         ('roundness', 'Simple', 'Float')),
+    17: (('reversed', 'BitFlag', None),
+         ('size', 'MultiDimension', 'Point'),
+         ('position', 'Spatial', 'Point')),
+    18: (('reversed', 'BitFlag', None),
+         ('polyType', 'Value', 'PolyStarType'),
+         ('points', 'Simple', 'Float'),
+         ('position', 'Spatial', 'Point'),
+         ('rotation', 'Simple', 'Float'),
+         ('innerRadius', 'Simple', 'Float'),
+         ('outerRadius', 'Simple', 'Float'),
+         ('innerRoundness', 'Simple', 'Float'),
+         ('outerRoundness', 'Simple', 'Float')),
+    19: (('shapePath', 'Simple', 'Path'),),
+    20: (('blendMode', 'Value', 'blendMode'),
+         ('composite', 'Value', 'CompositeOrder'),
+         ('fillRule', 'Value', 'FillRule'),
+         ('color', 'Simple', 'Color'),
+         ('opacity', 'Simple', 'byte')),
+    21: (('blendMode', 'Value', 'blendMode'),
+         ('composite', 'Value', 'CompositeOrder'),
+         ('lineCap', 'Value', 'LineCap'),
+         ('lineJoin', 'Value', 'LineJoin'),
+         ('miterLimit', 'Simple', 'Float'),
+         ('color', 'Simple', 'Color'),
+         ('opacity', 'Simple', 'byte'),
+         ('strokeWidth', 'Simple', 'Float')),
+    22: (('blendMode', 'Value', 'blendMode'),
+         ('composite', 'Value', 'CompositeOrder'),
+         ('fillRule', 'Value', 'FillRule'),
+         ('fillType', 'Value', 'GradientFillType'),
+         ('startPoint', 'Spatial', 'Point'),
+         ('endPoint', 'Spatial', 'Point'),
+         ('colors', 'Simple', 'GradientColor'),
+         ('opacity', 'Simple', 'byte')),
+    23: (('blendMode', 'Value', 'blendMode'),
+         ('composite', 'Value', 'CompositeOrder'),
+         ('fillType', 'Value', 'GradientFillType'),
+         ('startPoint', 'Spatial', 'Point'),
+         ('endPoint', 'Spatial', 'Point'),
+         ('color', 'Simple', 'Color'),
+         ('opacity', 'Simple', 'byte'),
+         ('strokeWidth', 'Simple', 'Float'),
+         ('lineCap', 'Value', 'LineCap'),
+         ('lineJoin', 'Value', 'LineJoin'),
+         ('miterLimit', 'Simple', 'Float'),
+         ('dashes', 'Custom', 'dashes')),
+    24: (('mode', 'Value', 'MergePathsMode'),),
+    25: (('start', 'Simple', 'Float'),
+         ('end', 'Simple', 'Float'),
+         ('offset', 'Simple', 'Float'),
+         ('trimType', 'Value', 'TrimPathsType')),
+    26: (('composite', 'Value', 'CompositeOrder'),
+         ('copies', 'Simple', 'Float'),
+         ('offset', 'Simple', 'Float'),
+         ('anchorPoint', 'Spatial', 'Point'),
+         ('position', 'Spatial', 'Point'),
+         ('scale', 'MultiDimension', 'Point'),
+         ('rotation', 'Simple', 'Float'),
+         ('startOpacity', 'Simple', 'byte'),
+         ('endOpacity', 'Simple', 'byte')),
+    27: (('radius', 'Simple', 'Float'),),
 }
 
 # The bodies that are rows of items (1 has its own function).
@@ -309,8 +393,15 @@ class BodyReader:
         magnitude = d // 2
         return (-magnitude if d % 2 else magnitude) % WORD
 
+    def u16(self):
+        """Chapter 1: two bytes, little-endian."""
+        self.align()
+        if self.bytes_left() < 2:
+            raise Fault(13)
+        return self.byte() + 256 * self.byte()
+
     def count(self, least):
-        """A count of frames, verbs or fonts: outside its range is 17."""
+        """A count of frames, verbs, fonts or stops: outside its range is 17."""
         number = self.u32()
         if not least <= number <= TOP_COUNT:
             raise Fault(17)
@@ -367,6 +458,33 @@ def read_path(reader):
     reader.put(*[reader.signed(width) for _ in range(coordinates)])
 
 
+def read_color(reader):
+    reader.put(reader.byte(), reader.byte(), reader.byte())
+
+
+def read_gradient(reader):
+    """Chapter 1's GradientColor: alphaCount, colorCount, AlphaStops (position,
+    midpoint, opacity), ColorStops (position, midpoint, color). C-24: "Alpha and
+    colour stops are at most 4,096 each." """
+    alphas = reader.count(0)
+    colors = reader.count(0)
+    reader.put(alphas, colors)
+    for _ in range(alphas):
+        reader.put(reader.u16(), reader.u16(), reader.byte())
+    for _ in range(colors):
+        reader.put(reader.u16(), reader.u16())
+        read_color(reader)
+
+
+def read_dashes(reader):
+    """The last three rows of 23: "dashLength = UB[3] + 1"; then a flag, and one
+    more "if dashOffsetFlag.exist = 1". """
+    length, exist = reader.unsigned(3) + 1, reader.unsigned(1)
+    reader.put(length, exist)
+    if exist:
+        reader.put(reader.unsigned(1))
+
+
 def read_item(reader, data_type):
     """One item of the given data type, its numbers put to the values."""
     if data_type == 'U32':
@@ -378,7 +496,7 @@ def read_item(reader, data_type):
     elif data_type == 'byte':
         reader.put(reader.byte())
     elif data_type == 'Color':
-        reader.put(reader.byte(), reader.byte(), reader.byte())
+        read_color(reader)
     elif data_type == 'Ratio':
         reader.put(reader.i32())
         reader.put(reader.u32())
@@ -391,6 +509,10 @@ def read_item(reader, data_type):
         read_bool(reader)
     elif data_type == 'Path':
         read_path(reader)
+    elif data_type == 'GradientColor':
+        read_gradient(reader)
+    elif data_type == 'dashes':
+        read_dashes(reader)
     else:
         read_listed(reader, data_type)
 
@@ -416,9 +538,9 @@ def easing_numbers(kind, data_type):
 
 def read_frame_values(reader, kind, data_type, count):
     """"Values: Floats in turn; Bools one bit each; bytes as a width, then
-    UB[width] each, at most 255; Paths in turn." Points by chapter 5: in turn,
-    but of a Spatial attribute their components as a width and unsigned
-    fields."""
+    UB[width] each, at most 255; Paths in turn." By chapter 5 Colors,
+    GradientColors and Points in turn, too; but Points of a Spatial attribute
+    have their components as a width and unsigned fields."""
     if (kind, data_type) == ('Spatial', 'Point'):
         width = reader.width()
         reader.put(width, *[reader.unsigned(width) for _ in range(2 * count)])
@@ -487,8 +609,9 @@ def read_flags(reader, kind):
 
 
 def read_content(reader, kind, data_type, flag):
-    """Every content starts on a whole byte."""
-    if flag == 0 or kind == 'BitFlag':
+    """Every content starts on a whole byte. C-24: "listed tags come last", so
+    the content of a TagBlock is not among the values."""
+    if flag == 0 or kind == 'BitFlag' or data_type == 'TagBlock':
         return
     reader.align()
     if flag == 1:
@@ -514,6 +637,28 @@ def read_fonts(reader):
         read_string(reader)
 
 
+def has_list(code, values):
+    """Does a container with these values have a tag list? The flag of
+    ShapeGroup's last attribute says it: chapter 4, "exist" of a Custom
+    attribute. The others always have one."""
+    return code != SHAPE_GROUP or values[-1] == 1
+
+
+def read_own(order, code, body):
+    """A reader that has taken a container's own part, and stands where its list
+    starts: on a whole byte. Without a list the body is used up there."""
+    reader = BodyReader(order, body)
+    if code == SHAPE_GROUP:
+        read_block(reader, BLOCKS[code])
+    else:
+        for data_type in ITEMS[code]:
+            read_item(reader, data_type)
+    reader.align()
+    if not has_list(code, reader.values) and reader.bytes_left():
+        raise Fault(18)
+    return reader
+
+
 def read_leaf(order, code, body):
     """The values of a read tag that is no container."""
     reader = BodyReader(order, body)
@@ -531,26 +676,18 @@ def read_leaf(order, code, body):
 
 
 def read_body(order, code, body):
-    """The values of a body alone, at level 1023. For 2 and 5 the values are
-    the container's own items; what follows them is not looked at."""
+    """The values of a body alone, at level 1023. For a container they are those
+    of its own part; its list is not looked at."""
     if code not in COVERED:
         return ('values', packed_values(body))
     if code == 0 and body:
         return ('fault', 10)
     try:
         if code in CONTAINERS:
-            return ('values', read_container_items(code, body).values)
+            return ('values', read_own(order, code, body).values)
         return ('values', read_leaf(order, code, body))
     except Fault as fault:
         return ('fault', fault.reason)
-
-
-def read_container_items(code, body):
-    """Byte items, so any order reads them alike."""
-    reader = BodyReader(HIGH_FIRST, body)
-    for data_type in ITEMS[code]:
-        read_item(reader, data_type)
-    return reader
 
 
 def little_endian(data, place, size):
@@ -613,9 +750,10 @@ class FileReader:
             if not tag_is_read(self.level, code):
                 self.put_tag(code, state, self.form.values(body))
             elif code in CONTAINERS:
-                items = read_container_items(code, body)
-                self.put_tag(code, state, items.values)
-                self.tag_list(start + items.bit // 8, end, depth + 1, place)
+                own = read_own(self.order, code, body)
+                self.put_tag(code, state, own.values)
+                if has_list(code, own.values):
+                    self.tag_list(start + own.bit // 8, end, depth + 1, place)
             else:
                 self.put_tag(code, state, read_leaf(self.order, code, body))
         except Fault as fault:
@@ -806,6 +944,31 @@ def write_listed(writer, data_type):
     writer.byte(value)
 
 
+def write_u16(writer):
+    for byte in writer.take(most=65535).to_bytes(2, 'little'):
+        writer.byte(byte)
+
+
+def write_bytes(writer, count):
+    for _ in range(count):
+        writer.byte(writer.take(most=255))
+
+
+def write_gradient(writer):
+    alphas, colors = writer.count(0), writer.count(0)
+    for opacity_or_color, stops in ((1, alphas), (3, colors)):
+        for _ in range(stops):
+            write_u16(writer)
+            write_u16(writer)
+            write_bytes(writer, opacity_or_color)
+
+
+def write_dashes(writer):
+    writer.bits(3, writer.take(1, 8) - 1)
+    if writer.unsigned(1):
+        writer.unsigned(1)
+
+
 def write_item(writer, data_type):
     if data_type == 'U32':
         writer.u32()
@@ -814,10 +977,9 @@ def write_item(writer, data_type):
     elif data_type == 'Time':
         writer.spelled(writer.take())
     elif data_type == 'byte':
-        writer.byte(writer.take(most=255))
+        write_bytes(writer, 1)
     elif data_type == 'Color':
-        for _ in range(3):
-            writer.byte(writer.take(most=255))
+        write_bytes(writer, 3)
     elif data_type == 'Ratio':
         writer.i32()
         writer.u32()
@@ -830,6 +992,10 @@ def write_item(writer, data_type):
         writer.byte(writer.take(most=1))
     elif data_type == 'Path':
         write_path(writer)
+    elif data_type == 'GradientColor':
+        write_gradient(writer)
+    elif data_type == 'dashes':
+        write_dashes(writer)
     else:
         write_listed(writer, data_type)
 
@@ -880,7 +1046,7 @@ def write_keyframed(writer, kind, data_type, flag):
 
 
 def write_content(writer, kind, data_type, flag):
-    if flag == 0 or kind == 'BitFlag':
+    if flag == 0 or kind == 'BitFlag' or data_type == 'TagBlock':
         return
     writer.align()
     if flag == 1:
@@ -890,7 +1056,7 @@ def write_content(writer, kind, data_type, flag):
 
 
 # The flags that a flag number stands for, by kind: as many bits as it has.
-FLAGS_BY_KIND = {'BitFlag': {0: (0,), 1: (1,)}, 'Value': {0: (0,), 1: (1,)}, 'Fixed': {1: ()},
+FLAGS_BY_KIND = {'BitFlag': {0: (0,), 1: (1,)}, 'Value': {0: (0,), 1: (1,)}, 'Custom': {0: (0,), 1: (1,)}, 'Fixed': {1: ()},
                  'Simple': {0: (0,), 1: (1, 0), 3: (1, 1)},
                  'Discrete': {0: (0,), 1: (1, 0), 3: (1, 1)},
                  'MultiDimension': {0: (0,), 1: (1, 0), 3: (1, 1)},
@@ -922,7 +1088,7 @@ def write_fonts(writer):
 
 
 def write_values(order, code, values):
-    """The body, or a container's own items, that reads as these values."""
+    """The body, or a container's own part, that reads as these values."""
     writer = BodyWriter(order, values)
     if code in BLOCKS:
         write_block(writer, BLOCKS[code])
@@ -964,7 +1130,8 @@ def write_list(level, order, numbers, depth, form):
         if is_read and code in CONTAINERS:
             if depth == TOP_DEPTH:
                 raise no_file()
-            body += write_list(level, order, numbers, depth + 1, form)
+            if has_list(code, values):
+                body += write_list(level, order, numbers, depth + 1, form)
         out += write_tag_header(code, len(body), claimed) + body
         if code == 0:
             return bytes(out)

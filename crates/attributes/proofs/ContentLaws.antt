@@ -7,7 +7,7 @@ use borrow.Author.Tests.{eq-eqb, ne-eqb}
 use Rattle.format.specs.Tests.{pick}
 use Rattle.format.specs.Formats.{nothing, times}
 use Rattle.format.specs.Bodies as bodies
-use Rattle.format.specs.Bodies.{DataType, U32s, Times, Floats, Ratios, Bools, Bytes, BlendModes, TrackMatteTypes, MaskModes, Paths, Points, AnchorPointGroupings, value, values, interpolation, interpolations, keyframed, contentOf}
+use Rattle.format.specs.Bodies.{DataType, U32s, Times, Floats, Ratios, Bools, Bytes, BlendModes, Paths, Points, Colors, GradientColors, Enums, Dashes, TagBlocks, value, values, interpolation, interpolations, keyframed, contentOf}
 use Rattle.attributes.specs.Contents.{animatableBy, contentBy, formatBy, interpolated, pointsBy, layoutBy, valuesBy}
 use Rattle.attributes.specs.Rows.{kindOf}
 use Rattle.attributes.specs.declared.Content.{Content}
@@ -25,6 +25,7 @@ animatable-one φ n e = rw (ne-eqb φ 0 n, eq-eqb φ 1 e)
 pub animatable-frames : (φ : ℕ) → (φ ≡ 0 → ⊥) → (φ ≡ 1 → ⊥) → Frames ≡ animatableBy φ
 animatable-frames φ n m = rw (ne-eqb φ 0 n, ne-eqb φ 1 m)
 
+-- (of a Custom one, too)
 pub value-none : (φ : ℕ) → φ ≡ 0 → Nothing ≡ contentBy bodies.Value φ
 value-none φ e = rw (eq-eqb φ 0 e)
 
@@ -44,18 +45,19 @@ content-format k d φ e = by k ∙ ap (formatBy k d φ) (sym e)
     some j false true = refl
     some j false false = refl
 
-    one : (a : Bool) → pick a nothing (value d) ≡ formatBy bodies.Value d φ (pick a Nothing One)
-    one true = refl
-    one false = refl
+    one : (j : bodies.Kind) (a : Bool) → pick a nothing (value d) ≡ formatBy j d φ (pick a Nothing One)
+    one j true = refl
+    one j false = refl
 
     by : (k : bodies.Kind) → contentOf k d φ ≡ formatBy k d φ (contentBy k φ)
-    by bodies.Value = one (eqb φ 0)
+    by bodies.Value = one bodies.Value (eqb φ 0)
     by bodies.Fixed = refl
     by bodies.BitFlag = refl
     by bodies.Simple = some bodies.Simple (eqb φ 0) (eqb φ 1)
     by bodies.Discrete = some bodies.Discrete (eqb φ 0) (eqb φ 1)
     by bodies.MultiDimension = some bodies.MultiDimension (eqb φ 0) (eqb φ 1)
     by bodies.Spatial = some bodies.Spatial (eqb φ 0) (eqb φ 1)
+    by bodies.Custom = one bodies.Custom (eqb φ 0)
 
 -- what a `match` on it tells
 pub content-told : (k : bodies.Kind) (d : DataType) (φ : ℕ) {c : Content} (told : Content) → c ≡ contentBy k φ → c ≡ told → contentOf k d φ ≡ formatBy k d φ told
@@ -70,6 +72,7 @@ interpolations-are bodies.Simple n = refl
 interpolations-are bodies.Discrete n = refl
 interpolations-are bodies.MultiDimension n = refl
 interpolations-are bodies.Spatial n = refl
+interpolations-are bodies.Custom n = refl
 
 pub interpolations-some : (k : bodies.Kind) (n : ℕ) → true ≡ interpolated k → interpolations k n ≡ times n interpolation
 interpolations-some k n e = interpolations-are k n ∙ ap (λ (c : Bool). pick c (times n interpolation) nothing) (sym e)
@@ -88,6 +91,7 @@ values-are k d n e = by d ∙ ap (valuesBy d n) (sym e)
     points bodies.Discrete = refl
     points bodies.MultiDimension = refl
     points bodies.Spatial = refl
+    points bodies.Custom = refl
 
     by : (d : DataType) → values k d n ≡ valuesBy d n (layoutBy k d)
     by U32s = refl
@@ -97,11 +101,13 @@ values-are k d n e = by d ∙ ap (valuesBy d n) (sym e)
     by Bools = refl
     by Bytes = refl
     by BlendModes = refl
-    by TrackMatteTypes = refl
-    by MaskModes = refl
     by Paths = refl
     by Points = points k
-    by AnchorPointGroupings = refl
+    by Colors = refl
+    by GradientColors = refl
+    by (Enums top) = refl
+    by Dashes = refl
+    by TagBlocks = refl
 
 -- what a `match` on the layout tells
 pub values-told : (k : bodies.Kind) (d : DataType) (n : ℕ) {y : Layout} (told : Layout) → y ≡ layoutBy k d → y ≡ told → values k d n ≡ valuesBy d n told

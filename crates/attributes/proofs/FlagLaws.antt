@@ -1,6 +1,6 @@
--- The constant rows are the definitions' lists; flag bits one by one; and the flags of all rows, step by step. Assumes nothing.
+-- The rows of a block, one by one; flag bits; and the flags of all rows, step by step. Assumes nothing.
 use Prim.Native.Nat.{ℕ, zero, suc, _+_, _-_, _*_, _^_, _≤_, _<_}
-use mathlib.Core.List.{List, [], _∷_, map}
+use mathlib.Core.List.{List, [], _∷_}
 use mathlib.Core.Path.{_≡_, refl, ap, sym, _∙_}
 use mathlib.Core.Bool as truth
 use mathlib.Core.Bool.{true, false}
@@ -8,8 +8,8 @@ use native.Mathlib.Numerals.{add-one}
 use native.Mathlib.Omega.{arith}
 use native.Mathlib.Nat.{pow-suc}
 use lib.Pow.{pow-pos}
-use lib.ListN.{length, getD, set, take, length-set, List·getD-map}
-use lib.Seq.{sets-eq, slice-cons, slice-empty, length-slice, take-at}
+use lib.ListN.{length, getD, set, take, length-set}
+use lib.Seq.{sets-eq, take-at}
 use lib.Dec.{eqb}
 use borrow.Author.Tests.{ne-eqb}
 use Rattle.format.specs.Tests.{pick}
@@ -29,82 +29,26 @@ use Rattle.bits.specs.declared.Got.{Got}
 use Rattle.bits.specs.declared.Got.the-variants.{Value as GotValue, Fault as GotFault}
 use Rattle.table.specs.State.{State, shownOver}
 use Rattle.table.proofs.EngineLaws.{state, after-none, then-one, then-never}
-use Rattle.attributes.specs.Rows.{kindOf, attributeOf, allAttributes, attributesOf, rowsAt, rowsFrom, AreRows}
+use Rattle.attributes.specs.Rows.{kindOf, attributeOf, noRow, rowsFrom}
 use Rattle.attributes.specs.declared.Attribute.{Attribute}
-use Rattle.attributes.specs.declared.Rows.{Rows}
 use Rattle.attributes.specs.declared.Kind.{Kind}
-use Rattle.attributes.specs.declared.Kind.the-variants.{Value, Fixed, BitFlag, Simple, Discrete, MultiDimension, Spatial}
-use Rattle.attributes.specs.declared.DataType.{DataType}
-use Rattle.attributes.specs.declared.DataType.the-variants.{U32, Time, Float, Ratio, Bool, Byte, BlendMode, TrackMatteType, MaskMode, Path, Point, AnchorPointGrouping}
 
--- ---- the constant rows
+-- ---- the rows of a block
+abbrev pub rowAt : List Attribute → ℕ → Attribute
+rowAt rows i = getD rows i noRow
 
--- the definitions' attributes in the code's words
-abbrev codeKind : bodies.Kind → Kind
-codeKind bodies.Value = Value
-codeKind bodies.Fixed = Fixed
-codeKind bodies.BitFlag = BitFlag
-codeKind bodies.Simple = Simple
-codeKind bodies.Discrete = Discrete
-codeKind bodies.MultiDimension = MultiDimension
-codeKind bodies.Spatial = Spatial
+-- the rows from here on are the row here and the rows after it
+pub rows-next : {i count : ℕ} (rows : List Attribute) → i < count → rowsFrom rows i (count - i) ≡ attributeOf (rowAt rows i) ∷ rowsFrom rows (i + 1) (count - (i + 1))
+rows-next {i} {count} rows h =
+    let n : count - i ≡ suc (count - suc i) = omega arith in
+    rw (add-one i, n)
 
-abbrev codeType : bodies.DataType → DataType
-codeType bodies.U32s = U32
-codeType bodies.Times = Time
-codeType bodies.Floats = Float
-codeType bodies.Ratios = Ratio
-codeType bodies.Bools = Bool
-codeType bodies.Bytes = Byte
-codeType bodies.BlendModes = BlendMode
-codeType bodies.TrackMatteTypes = TrackMatteType
-codeType bodies.MaskModes = MaskMode
-codeType bodies.Paths = Path
-codeType bodies.Points = Point
-codeType bodies.AnchorPointGroupings = AnchorPointGrouping
+pub rows-none : (rows : List Attribute) (count : ℕ) → rowsFrom rows count (count - count) ≡ []
+rows-none rows count = let n : count - count ≡ 0 = omega arith in rw n
 
-abbrev codeRow : bodies.Attribute → Attribute
-codeRow a = record { kind = codeKind (a .kind); data_type = codeType (a .dataType) }
-
--- what would stand past the table; nobody reads it
-abbrev noRow : Attribute
-noRow = record { kind = Value; data_type = U32 }
-
--- the row at an index of the table, in the code's words
-abbrev pub rowAt : ℕ → Attribute
-rowAt i = getD (map codeRow allAttributes) i noRow
-
--- THE table: its rows, read back, compute to the lists; so the rows from here are the row here and the rows after it
-pub rows-next : {row end : ℕ} → row < end → end ≤ 30 → rowsFrom row end ≡ attributeOf (rowAt row) ∷ rowsFrom (row + 1) end
-rows-next {row} {end} h l =
-    slice-cons row end allAttributes (attributeOf noRow) h l ∙ rw (List·getD-map attributeOf (map codeRow allAttributes) row noRow, add-one row)
-
--- the rows of a code are its list
-pub rows-are : (code : ℕ) (r : Rows) → r ≡ rowsAt code → AreRows (r .start) (r .end) × (rowsFrom (r .start) (r .end) ≡ attributesOf code)
-unfolding attributesOf
-rows-are code r e = rw e (go (eqb code 6) (eqb code 9) (eqb code 10) (eqb code 13) (eqb code 14))
-  where
-    at : (a b c d e : truth.Bool) → Rows
-    at a b c d e =
-        pick a (record { start = 0; end = 9 })
-        (pick b (record { start = 9; end = 15 })
-        (pick c (record { start = 15; end = 17 })
-        (pick d (record { start = 17; end = 24 })
-        (pick e (record { start = 24; end = 30 })
-        (record { start = 0; end = 0 })))))
-
-    go : (a b c d e : truth.Bool) → AreRows (at a b c d e .start) (at a b c d e .end)
-        × (rowsFrom (at a b c d e .start) (at a b c d e .end)
-        ≡ pick a bodies.layerAttributes (pick b bodies.textPathOption (pick c bodies.textMoreOption (pick d bodies.transform2D (pick e bodies.maskBlock [])))))
-    go true b c d e = (record { up = omega arith; few = omega arith; inside = omega arith }, refl)
-    go false true c d e = (record { up = omega arith; few = omega arith; inside = omega arith }, refl)
-    go false false true d e = (record { up = omega arith; few = omega arith; inside = omega arith }, refl)
-    go false false false true e = (record { up = omega arith; few = omega arith; inside = omega arith }, refl)
-    go false false false false true = (record { up = omega arith; few = omega arith; inside = omega arith }, refl)
-    go false false false false false = (record { up = omega arith; few = omega arith; inside = omega arith }, refl)
-
-pub rows-many : {start end : ℕ} → AreRows start end → length (rowsFrom start end) ≡ end - start
-rows-many {start} {end} a = length-slice start end allAttributes (a .inside)
+pub rows-many : (rows : List Attribute) (i n : ℕ) → length (rowsFrom rows i n) ≡ n
+rows-many rows i zero = refl
+rows-many rows i (suc n) = ap suc (rows-many rows (suc i) n)
 
 -- ---- flag bits
 
@@ -208,48 +152,54 @@ unfolding run readItem
 fixed-is o b p = refl
 
 -- ---- the flags of all rows, one after the other
-module _ (o : Order) (s t₀ : List ℕ) (start end p₀ : ℕ) where
+module _ (o : Order) (s t₀ : List ℕ) (rows : List Attribute) (count p₀ : ℕ) where
   abbrev flagsFrom : ℕ → ℕ → Reading
-  flagsFrom row p = run o s (allFlags (rowsFrom row end)) p
+  flagsFrom i p = run o s (allFlags (rowsFrom rows i (count - i))) p
+
+  abbrev whole : State
+  whole = shownOver t₀ 0 (run o s (allFlags (rowsFrom rows 0 count)) p₀)
 
   -- the whole from the start is what is left from here
-  pub record Going (t : List ℕ) (p row j : ℕ) : Type 0 where
+  pub record Going (t : List ℕ) (p i : ℕ) : Type 0 where
     pub size : length t ≡ length t₀
-    pub rest : shownOver t₀ 0 (flagsFrom start p₀) ≡ shownOver t j (flagsFrom row p)
+    pub rest : whole ≡ shownOver t i (flagsFrom i p)
     pub place : PlaceIn s p
-    pub below : row ≤ end
-    pub stored : j ≤ row
+    pub below : i ≤ count
+
+  pub flags-start : PlaceIn s p₀ → Going t₀ p₀ 0
+  flags-start h = let n : count - 0 ≡ count = omega arith in record { size = refl; rest = rw n; place = h; below = omega arith }
 
   -- the kind of the row here tells its flag
-  module _ {t : List ℕ} {p row j : ℕ} (some : row < end) (rows : end ≤ 30) (g : Going t p row j) where
+  module _ {t : List ℕ} {p i : ℕ} (some : i < count) (g : Going t p i) where
     abbrev flagHere : Item
-    flagHere = flagsOf (kindOf (rowAt row .kind))
+    flagHere = flagsOf (kindOf (rowAt rows i .kind))
 
-    flags-here : flagsFrom row p ≡ run o s (item flagHere ▸ allFlags (rowsFrom (row + 1) end)) p
+    abbrev restHere : List bodies.Attribute
+    restHere = rowsFrom rows (i + 1) (count - (i + 1))
+
+    flags-here : flagsFrom i p ≡ run o s (item flagHere ▸ allFlags restHere) p
     unfolding allFlags
-    flags-here = ap (λ (l : List bodies.Attribute). run o s (allFlags l) p) (rows-next some rows)
+    flags-here = ap (λ (l : List bodies.Attribute). run o s (allFlags l) p) (rows-next rows some)
 
-    pub flags-next : {v q : ℕ} {u : List ℕ} → showNum (num v q) ≡ run o s (item flagHere) p → u ≡ set t j v → Going u q (row + 1) (j + 1)
+    pub flags-next : {v q : ℕ} {u : List ℕ} → showNum (num v q) ≡ run o s (item flagHere) p → u ≡ set t i v → Going u q (i + 1)
     flags-next {v} {q} {u} e d =
         let l : (p ≤ q) × (q ≤ 8 * length s) = run-le o s (item flagHere) p q (g .place .0) (ap (λ (r : Reading). r .ended) (sym e)) in
         record {
-          size = ap length d ∙ length-set t j v ∙ g .size;
-          rest = g .rest ∙ ap (shownOver t j) flags-here ∙ sym (then-one o s t j (item flagHere) (λ xs. allFlags (rowsFrom (row + 1) end)) p (sym e) d refl);
+          size = ap length d ∙ length-set t i v ∙ g .size;
+          rest = g .rest ∙ ap (shownOver t i) flags-here ∙ sym (then-one o s t i (item flagHere) (λ xs. allFlags restHere) p (sym e) d refl);
           place = (l .1, g .place .1);
           below = omega arith;
-          stored = omega (arith, g .stored);
         }
 
-    pub flags-stop : {e : ℕ} → showNum (bad e) ≡ run o s (item flagHere) p → state t j (Fault e) ≡ shownOver t₀ 0 (flagsFrom start p₀)
-    flags-stop e =
-        then-never o s t j (item flagHere) (λ xs. allFlags (rowsFrom (row + 1) end)) p (sym e) ∙ sym (g .rest ∙ ap (shownOver t j) flags-here)
+    pub flags-stop : {e : ℕ} → showNum (bad e) ≡ run o s (item flagHere) p → state t i (Fault e) ≡ whole
+    flags-stop e = then-never o s t i (item flagHere) (λ xs. allFlags restHere) p (sym e) ∙ sym (g .rest ∙ ap (shownOver t i) flags-here)
 
-  pub flags-done : {t : List ℕ} {p row j : ℕ} → end ≤ row → Going t p row j → state t j (At p) ≡ shownOver t₀ 0 (flagsFrom start p₀)
+  pub flags-done : {t : List ℕ} {p i : ℕ} → count ≤ i → Going t p i → state t i (At p) ≡ whole
   unfolding run allFlags
-  flags-done {t} {p} {row} {j} h g =
-      let z : row ≡ end = omega (arith, g .below) in
-      let n : rowsFrom row end ≡ [] = rw z (slice-empty end allAttributes) in
-      sym (g .rest ∙ rw n (after-none t j p))
+  flags-done {t} {p} {i} h g =
+      let z : i ≡ count = omega (arith, g .below) in
+      let n : rowsFrom rows i (count - i) ≡ [] = rw z (rows-none rows count) in
+      sym (g .rest ∙ rw n (after-none t i p))
 
 -- ---- for callers
 
@@ -258,16 +208,16 @@ pub ended-is : (t : List ℕ) (k : ℕ) (r : Reading) {u : List ℕ} {j : ℕ} {
 unfolding shownOver
 ended-is t k r e = ap (λ (s : State). s .ended) (sym e)
 
--- lent room for nine flags holds, from index 0 on, the flags that were shown
-module _ (o : Order) {start end : ℕ} (b f : List ℕ) (p : ℕ) {u : List ℕ} {j q : ℕ} (rows : AreRows start end) (lent : 9 ≤ length f)
-    (e : state u j (At q) ≡ shownOver f 0 (run o b (allFlags (rowsFrom start end)) p)) where
-  pub flags-in : take (end - start) u ≡ run o b (allFlags (rowsFrom start end)) p .shown
+-- lent room for the flags of a block holds, from index 0 on, the flags that were shown
+module _ (o : Order) (rows : List Attribute) (count : ℕ) (b f : List ℕ) (p : ℕ) {u : List ℕ} {j q : ℕ} (lent : count ≤ length f)
+    (e : state u j (At q) ≡ shownOver f 0 (run o b (allFlags (rowsFrom rows 0 count)) p)) where
+  pub flags-in : take count u ≡ run o b (allFlags (rowsFrom rows 0 count)) p .shown
   unfolding shownOver
   flags-in =
-      let φs : List ℕ = run o b (allFlags (rowsFrom start end)) p .shown in
-      let n : length φs ≡ end - start = as-many o (rowsFrom start end) b p q (ended-is f 0 (run o b (allFlags (rowsFrom start end)) p) e) ∙ rows-many rows in
-      let m : 0 + length φs ≤ length f = omega (arith, rows .few, n) in
-      ap (λ (s : State). take (end - start) (s .table)) e ∙ rw (sets-eq φs f 0 m) (take-at φs _ (end - start) n)
+      let φs : List ℕ = run o b (allFlags (rowsFrom rows 0 count)) p .shown in
+      let n : length φs ≡ count = as-many o (rowsFrom rows 0 count) b p q (ended-is f 0 (run o b (allFlags (rowsFrom rows 0 count)) p) e) ∙ rows-many rows 0 count in
+      let m : 0 + length φs ≤ length f = omega (arith, n) in
+      ap (λ (s : State). take count (s .table)) e ∙ rw (sets-eq φs f 0 m) (take-at φs _ count n)
 
-  pub flags-read : run o b (allFlags (rowsFrom start end)) p ≡ shows (take (end - start) u) q
-  flags-read = λ i. record { shown = sym flags-in i; ended = ended-is f 0 (run o b (allFlags (rowsFrom start end)) p) e i }
+  pub flags-read : run o b (allFlags (rowsFrom rows 0 count)) p ≡ shows (take count u) q
+  flags-read = λ i. record { shown = sym flags-in i; ended = ended-is f 0 (run o b (allFlags (rowsFrom rows 0 count)) p) e i }

@@ -4,7 +4,7 @@ use mathlib.Core.Bool.{Bool, true, false}
 use lib.Dec.{leb, eqb}
 use Rattle.format.specs.Tests.{pick}
 use Rattle.format.specs.Formats.{Item, Format, nothing, item, only, _▹_, times, the}
-use Rattle.format.specs.Bodies.{Kind, Value, Fixed, BitFlag, Simple, Discrete, MultiDimension, Spatial, DataType, U32s, Times, Floats, Ratios, Bools, Bytes, BlendModes, TrackMatteTypes, MaskModes, Paths, Points, AnchorPointGroupings, value, keyframed}
+use Rattle.format.specs.Bodies.{Kind, Value, Fixed, BitFlag, Simple, Discrete, MultiDimension, Spatial, Custom, DataType, U32s, Times, Floats, Ratios, Bools, Bytes, BlendModes, Paths, Points, Colors, GradientColors, Enums, Dashes, TagBlocks, value, keyframed}
 use Rattle.attributes.specs.declared.Content.{Content}
 use Rattle.attributes.specs.declared.Content.the-variants.{Nothing, One, Frames}
 use Rattle.attributes.specs.declared.Layout.{Layout}
@@ -14,7 +14,7 @@ use Rattle.attributes.specs.declared.Layout.the-variants.{InTurn, Bits, 
 abbrev pub animatableBy : ℕ → Content
 animatableBy φ = pick (eqb φ 0) Nothing (pick (eqb φ 1) One Frames)
 
--- a Value has one if its bit is set; a Fixed always; a BitFlag never
+-- a Value or a Custom one has one if its bit is set; a Fixed always; a BitFlag never
 abbrev pub contentBy : Kind → ℕ → Content
 contentBy Value φ = pick (eqb φ 0) Nothing One
 contentBy Fixed φ = One
@@ -23,6 +23,7 @@ contentBy Simple φ = animatableBy φ
 contentBy Discrete φ = animatableBy φ
 contentBy MultiDimension φ = animatableBy φ
 contentBy Spatial φ = animatableBy φ
+contentBy Custom φ = pick (eqb φ 0) Nothing One
 
 -- its format
 abbrev pub formatBy : Kind → DataType → ℕ → Content → Format
@@ -41,6 +42,7 @@ interpolated Simple = true
 interpolated Discrete = false
 interpolated MultiDimension = true
 interpolated Spatial = true
+interpolated Custom = false
 
 -- Points in turn, but for those of a Spatial attribute
 abbrev pub pointsBy : Kind → Layout
@@ -51,6 +53,7 @@ pointsBy Simple = InTurn
 pointsBy Discrete = InTurn
 pointsBy MultiDimension = InTurn
 pointsBy Spatial = PointFields
+pointsBy Custom = InTurn
 
 abbrev pub layoutBy : Kind → DataType → Layout
 layoutBy k U32s = InTurn
@@ -60,11 +63,13 @@ layoutBy k Ratios = InTurn
 layoutBy k Bools = Bits
 layoutBy k Bytes = ByteFields
 layoutBy k BlendModes = InTurn
-layoutBy k TrackMatteTypes = InTurn
-layoutBy k MaskModes = InTurn
 layoutBy k Paths = InTurn
 layoutBy k Points = pointsBy k
-layoutBy k AnchorPointGroupings = InTurn
+layoutBy k Colors = InTurn
+layoutBy k GradientColors = InTurn
+layoutBy k (Enums top) = InTurn
+layoutBy k Dashes = InTurn
+layoutBy k TagBlocks = InTurn
 
 -- n values so
 abbrev pub valuesBy : DataType → ℕ → Layout → Format

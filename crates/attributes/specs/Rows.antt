@@ -1,17 +1,17 @@
--- The constant table of attributes, in the words of the definitions.
-use Prim.Native.Nat.{ℕ, _+_, _≤_}
-use mathlib.Core.List.{List, [], _++_}
+-- The constant rows of attributes, in the words of the definitions.
+use Prim.Native.Nat.{ℕ, zero, suc, _≤_}
+use mathlib.Core.List.{List, [], _∷_}
+use mathlib.Core.Path.{_≡_}
+use lib.ListN.{getD}
 use lib.Dec.{eqb}
-use lib.Seq.{slice}
 use Rattle.format.specs.Tests.{pick}
 use Rattle.format.specs.Bodies as bodies
-use Rattle.format.specs.Bodies.{layerAttributes, textPathOption, textMoreOption, transform2D, maskBlock}
+use Rattle.format.specs.Bodies.{layerAttributes, textPathOption, textMoreOption, transform2D, maskBlock, shapeGroup, rectangle, ellipse, polyStar, shapePath, fillBlock, stroke, gradientFill, gradientStroke, mergePaths, trimPaths, repeater, roundCorners}
 use Rattle.attributes.specs.declared.Attribute.{Attribute}
 use Rattle.attributes.specs.declared.DataType.{DataType}
-use Rattle.attributes.specs.declared.DataType.the-variants.{U32, Time, Float, Ratio, Bool, Byte, BlendMode, TrackMatteType, MaskMode, Path, Point, AnchorPointGrouping}
+use Rattle.attributes.specs.declared.DataType.the-variants.{U32, Time, Float, Ratio, Bool, Byte, BlendMode, Path, Point, Color, GradientColor, Enum, Dashes, TagBlock}
 use Rattle.attributes.specs.declared.Kind.{Kind}
-use Rattle.attributes.specs.declared.Kind.the-variants.{Value, Fixed, BitFlag, Simple, Discrete, MultiDimension, Spatial}
-use Rattle.attributes.specs.declared.Rows.{Rows}
+use Rattle.attributes.specs.declared.Kind.the-variants.{Value, Fixed, BitFlag, Simple, Discrete, MultiDimension, Spatial, Custom}
 
 abbrev pub kindOf : Kind → bodies.Kind
 kindOf Value = bodies.Value
@@ -21,6 +21,7 @@ kindOf Simple = bodies.Simple
 kindOf Discrete = bodies.Discrete
 kindOf MultiDimension = bodies.MultiDimension
 kindOf Spatial = bodies.Spatial
+kindOf Custom = bodies.Custom
 
 abbrev pub typeOf : DataType → bodies.DataType
 typeOf U32 = bodies.U32s
@@ -30,24 +31,27 @@ typeOf Ratio = bodies.Ratios
 typeOf Bool = bodies.Bools
 typeOf Byte = bodies.Bytes
 typeOf BlendMode = bodies.BlendModes
-typeOf TrackMatteType = bodies.TrackMatteTypes
-typeOf MaskMode = bodies.MaskModes
 typeOf Path = bodies.Paths
 typeOf Point = bodies.Points
-typeOf AnchorPointGrouping = bodies.AnchorPointGroupings
+typeOf Color = bodies.Colors
+typeOf GradientColor = bodies.GradientColors
+typeOf (Enum top) = bodies.Enums top
+typeOf Dashes = bodies.Dashes
+typeOf TagBlock = bodies.TagBlocks
 
 abbrev pub attributeOf : Attribute → bodies.Attribute
 attributeOf a = record { kind = kindOf (a .kind); dataType = typeOf (a .data_type) }
 
--- the lists of 6, 9, 10, 13 and 14, one after the other
-abbrev pub allAttributes : List bodies.Attribute
-allAttributes = layerAttributes ++ textPathOption ++ textMoreOption ++ transform2D ++ maskBlock
+-- what would stand past the rows; nobody reads it
+abbrev pub noRow : Attribute
+noRow = record { kind = Value; data_type = U32 }
 
--- the rows from start on, up to end
-abbrev pub rowsFrom : ℕ → ℕ → List bodies.Attribute
-rowsFrom start end = slice start end allAttributes
+-- n rows from row i on
+abbrev pub rowsFrom : List Attribute → ℕ → ℕ → List bodies.Attribute
+rowsFrom rows i zero = []
+rowsFrom rows i (suc n) = attributeOf (getD rows i noRow) ∷ rowsFrom rows (suc i) n
 
--- the list of a tag; the others have none
+-- the list of a tag that is a block; the others have none
 unfoldable pub attributesOf : ℕ → List bodies.Attribute
 attributesOf code =
     pick (eqb code 6) layerAttributes
@@ -55,20 +59,22 @@ attributesOf code =
     (pick (eqb code 10) textMoreOption
     (pick (eqb code 13) transform2D
     (pick (eqb code 14) maskBlock
-    []))))
+    (pick (eqb code 15) shapeGroup
+    (pick (eqb code 16) rectangle
+    (pick (eqb code 17) ellipse
+    (pick (eqb code 18) polyStar
+    (pick (eqb code 19) shapePath
+    (pick (eqb code 20) fillBlock
+    (pick (eqb code 21) stroke
+    (pick (eqb code 22) gradientFill
+    (pick (eqb code 23) gradientStroke
+    (pick (eqb code 24) mergePaths
+    (pick (eqb code 25) trimPaths
+    (pick (eqb code 26) repeater
+    (pick (eqb code 27) roundCorners
+    [])))))))))))))))))
 
--- its rows in the table: the first, and the one after the last
-abbrev pub rowsAt : ℕ → Rows
-rowsAt code =
-    pick (eqb code 6) (record { start = 0; end = 9 })
-    (pick (eqb code 9) (record { start = 9; end = 15 })
-    (pick (eqb code 10) (record { start = 15; end = 17 })
-    (pick (eqb code 13) (record { start = 17; end = 24 })
-    (pick (eqb code 14) (record { start = 24; end = 30 })
-    (record { start = 0; end = 0 })))))
-
--- rows of the table, at most nine of them
-pub record AreRows (start end : ℕ) : Type 0 where
-  pub up : start ≤ end
-  pub few : end ≤ start + 9
-  pub inside : end ≤ 30
+-- the first rows, count of them and at most twelve, are these attributes
+pub record Attributes (rows : List Attribute) (count : ℕ) (attrs : List bodies.Attribute) : Type 0 where
+  pub few : count ≤ 12
+  pub are : rowsFrom rows 0 count ≡ attrs

@@ -1,4 +1,4 @@
-// The attribute lists of tags 6, 9, 10, 13 and 14 as constant rows of kind and data type, their flags, and what their kinds and data types tell.
+// The attributes of a block, their flags, and what their kinds and data types tell.
 ghost use mathlib.Core.Path.{_≡_};
 ghost use Prim.Native.Nat.{_≤_};
 ghost use Rattle.format.specs.Formats.{item};
@@ -7,8 +7,11 @@ ghost use Rattle.format.specs.Bodies.{flagsOf, allFlags, dimensions as dimensio
 ghost use Rattle.bits.specs.Places.{PlaceIn, numOf, orderOf};
 ghost use Rattle.table.specs.State.{shownOver};
 ghost use Rattle.table.specs.Run.{runLeaves};
-ghost use Rattle.attributes.specs.Rows.{kindOf, typeOf, rowsAt, rowsFrom, AreRows};
+ghost use Rattle.attributes.specs.Rows.{kindOf, typeOf, rowsFrom};
 ghost use Rattle.attributes.specs.Contents.{animatableBy, contentBy, interpolated, pointsBy, layoutBy};
+
+pub mod blocks;
+
 use bits::BitPlace;
 use bits::Got;
 use bits::Order;
@@ -22,8 +25,10 @@ pub enum Kind {
     Discrete,
     MultiDimension,
     Spatial,
+    Custom,
 }
 
+// An Enum goes from 0 to its top.
 pub enum DataType {
     U32,
     Time,
@@ -32,11 +37,13 @@ pub enum DataType {
     Bool,
     Byte,
     BlendMode,
-    TrackMatteType,
-    MaskMode,
     Path,
     Point,
-    AnchorPointGrouping,
+    Color,
+    GradientColor,
+    Enum(u8),
+    Dashes,
+    TagBlock,
 }
 
 pub struct Attribute {
@@ -44,152 +51,10 @@ pub struct Attribute {
     pub data_type: DataType,
 }
 
-// Rows of the table: the first, and the one after the last.
-pub struct Rows {
-    pub start: usize,
-    pub end: usize,
-}
-
-pub const ATTRIBUTES: [Attribute; 30] = [
-    // 6: isActive, autoOrientation, parent, stretch, startTime, blendMode, trackMatteType, timeRemap, duration
-    Attribute {
-        kind: Kind::BitFlag,
-        data_type: DataType::Bool,
-    },
-    Attribute {
-        kind: Kind::BitFlag,
-        data_type: DataType::Bool,
-    },
-    Attribute {
-        kind: Kind::Value,
-        data_type: DataType::U32,
-    },
-    Attribute {
-        kind: Kind::Value,
-        data_type: DataType::Ratio,
-    },
-    Attribute {
-        kind: Kind::Value,
-        data_type: DataType::Time,
-    },
-    Attribute {
-        kind: Kind::Value,
-        data_type: DataType::BlendMode,
-    },
-    Attribute {
-        kind: Kind::Value,
-        data_type: DataType::TrackMatteType,
-    },
-    Attribute {
-        kind: Kind::Simple,
-        data_type: DataType::Float,
-    },
-    Attribute {
-        kind: Kind::Fixed,
-        data_type: DataType::Time,
-    },
-    // 9: path, reversed, perpendicular, forceAlignment, firstMargin, lastMargin
-    Attribute {
-        kind: Kind::Value,
-        data_type: DataType::U32,
-    },
-    Attribute {
-        kind: Kind::Discrete,
-        data_type: DataType::Bool,
-    },
-    Attribute {
-        kind: Kind::Discrete,
-        data_type: DataType::Bool,
-    },
-    Attribute {
-        kind: Kind::Discrete,
-        data_type: DataType::Bool,
-    },
-    Attribute {
-        kind: Kind::Simple,
-        data_type: DataType::Float,
-    },
-    Attribute {
-        kind: Kind::Simple,
-        data_type: DataType::Float,
-    },
-    // 10: anchorPointGrouping, groupingAlignment
-    Attribute {
-        kind: Kind::Value,
-        data_type: DataType::AnchorPointGrouping,
-    },
-    Attribute {
-        kind: Kind::MultiDimension,
-        data_type: DataType::Point,
-    },
-    // 13: anchorPoint, position, xPosition, yPosition, scale, rotation, opacity
-    Attribute {
-        kind: Kind::Value,
-        data_type: DataType::Point,
-    },
-    Attribute {
-        kind: Kind::Value,
-        data_type: DataType::Point,
-    },
-    Attribute {
-        kind: Kind::Value,
-        data_type: DataType::Float,
-    },
-    Attribute {
-        kind: Kind::Value,
-        data_type: DataType::Float,
-    },
-    Attribute {
-        kind: Kind::Value,
-        data_type: DataType::Point,
-    },
-    Attribute {
-        kind: Kind::Value,
-        data_type: DataType::Float,
-    },
-    Attribute {
-        kind: Kind::Value,
-        data_type: DataType::Byte,
-    },
-    // 14: id, inverted, maskMode, path, opacity, expansion
-    Attribute {
-        kind: Kind::Fixed,
-        data_type: DataType::U32,
-    },
-    Attribute {
-        kind: Kind::BitFlag,
-        data_type: DataType::Bool,
-    },
-    Attribute {
-        kind: Kind::Value,
-        data_type: DataType::MaskMode,
-    },
-    Attribute {
-        kind: Kind::Simple,
-        data_type: DataType::Path,
-    },
-    Attribute {
-        kind: Kind::Simple,
-        data_type: DataType::Byte,
-    },
-    Attribute {
-        kind: Kind::Simple,
-        data_type: DataType::Float,
-    },
-];
-
-// The rows of a tag that is an attribute block; the others have none.
-pub fn rows_of(code: u32) -> Rows
-    ensures { λ r. ⌜ r ≡ rowsAt code ⌝ }
-{
-    match code {
-        6 => Rows { start: 0, end: 9 },
-        9 => Rows { start: 9, end: 15 },
-        10 => Rows { start: 15, end: 17 },
-        13 => Rows { start: 17, end: 24 },
-        14 => Rows { start: 24, end: 30 },
-        _ => Rows { start: 0, end: 0 },
-    }
+// The attributes of a block, in order: the first `count` of twelve rows. A walk takes these alone into its local, and not the rows of all tags.
+pub struct Block {
+    pub rows: [Attribute; 12],
+    pub count: usize,
 }
 
 // An exist bit; if set, an animatable bit.
@@ -243,21 +108,21 @@ fn read_flag(order: Order, kind: Kind, body: &[u8], at: BitPlace) -> Got
         Kind::Discrete => read_two_flags(order, body, at),
         Kind::MultiDimension => read_two_flags(order, body, at),
         Kind::Spatial => read_three_flags(order, body, at),
+        Kind::Custom => bits::fields::read_ub(order, body, at, 1),
     }
 }
 
-// The flags of all rows, in order.
-pub fn read_flags(order: Order, rows: Rows, body: &[u8], at: BitPlace, flags: &mut [u64]) -> Run
-    requires { ⌜ AreRows (rows .start) (rows .end) × PlaceIn (now body) (at .0) ⌝ }
-    ensures { λ r. ⌜ runLeaves (now (flags .exit)) r ≡ shownOver (now (flags .entry)) 0 (run (orderOf order) (now (body .entry)) (allFlags (rowsFrom (rows .start) (rows .end))) (at .0)) ⌝ }
+// The flags of all attributes of a block, in order.
+pub fn read_flags(order: Order, block: Block, body: &[u8], at: BitPlace, flags: &mut [u64]) -> Run
+    requires { ⌜ (block .count ≤ 12) × PlaceIn (now body) (at .0) ⌝ }
+    ensures { λ r. ⌜ runLeaves (now (flags .exit)) r ≡ shownOver (now (flags .entry)) 0 (run (orderOf order) (now (body .entry)) (allFlags (rowsFrom (block .rows) 0 (block .count))) (at .0)) ⌝ }
 {
-    let attributes = ATTRIBUTES;
-    let end = rows.end;
+    let rows = block.rows;
+    let count = block.count;
     let mut place = at;
-    let mut row = rows.start;
     let mut index = 0;
-    while row < end {
-        let attribute = attributes[row];
+    while index < count {
+        let attribute = rows[index];
         let kind = attribute.kind;
         let r = read_flag(order, kind, body, place);
         match r {
@@ -269,7 +134,6 @@ pub fn read_flags(order: Order, rows: Rows, body: &[u8], at: BitPlace, flags: &m
                 return Run::Stop(why, index);
             }
         }
-        row += 1;
         index += 1;
     }
     Run::Done(place, index)
@@ -295,7 +159,7 @@ fn animatable(flag: u64) -> Content
     Content::Frames
 }
 
-// By its flag number: a Value has one if its bit is set, a Fixed always, a BitFlag never.
+// By its flag number: a Value or a Custom one has one if its bit is set, a Fixed always, a BitFlag never.
 pub fn content_of(kind: Kind, flag: u64) -> Content
     ensures { λ r. ⌜ r ≡ contentBy (kindOf kind) flag ⌝ }
 {
@@ -311,6 +175,11 @@ pub fn content_of(kind: Kind, flag: u64) -> Content
         Kind::Discrete => animatable(flag),
         Kind::MultiDimension => animatable(flag),
         Kind::Spatial => animatable(flag),
+        Kind::Custom => if flag == 0 {
+            Content::Nothing
+        } else {
+            Content::One
+        },
     }
 }
 
@@ -326,6 +195,7 @@ pub fn has_interpolations(kind: Kind) -> bool
         Kind::Discrete => false,
         Kind::MultiDimension => true,
         Kind::Spatial => true,
+        Kind::Custom => false,
     }
 }
 
@@ -349,6 +219,7 @@ fn points_layout(kind: Kind) -> Layout
         Kind::Discrete => Layout::InTurn,
         Kind::MultiDimension => Layout::InTurn,
         Kind::Spatial => Layout::PointFields,
+        Kind::Custom => Layout::InTurn,
     }
 }
 
@@ -364,11 +235,13 @@ pub fn layout_of(kind: Kind, what: DataType) -> Layout
         DataType::Bool => Layout::Bits,
         DataType::Byte => Layout::ByteFields,
         DataType::BlendMode => Layout::InTurn,
-        DataType::TrackMatteType => Layout::InTurn,
-        DataType::MaskMode => Layout::InTurn,
         DataType::Path => Layout::InTurn,
         DataType::Point => points_layout(kind),
-        DataType::AnchorPointGrouping => Layout::InTurn,
+        DataType::Color => Layout::InTurn,
+        DataType::GradientColor => Layout::InTurn,
+        DataType::Enum(_) => Layout::InTurn,
+        DataType::Dashes => Layout::InTurn,
+        DataType::TagBlock => Layout::InTurn,
     }
 }
 
@@ -384,11 +257,13 @@ fn dimensions(what: DataType) -> usize
         DataType::Bool => 1,
         DataType::Byte => 1,
         DataType::BlendMode => 1,
-        DataType::TrackMatteType => 1,
-        DataType::MaskMode => 1,
         DataType::Path => 1,
         DataType::Point => 2,
-        DataType::AnchorPointGrouping => 1,
+        DataType::Color => 1,
+        DataType::GradientColor => 1,
+        DataType::Enum(_) => 1,
+        DataType::Dashes => 1,
+        DataType::TagBlock => 1,
     }
 }
 
@@ -404,5 +279,6 @@ pub fn curves(kind: Kind, what: DataType) -> usize
         Kind::Discrete => 1,
         Kind::MultiDimension => dimensions(what),
         Kind::Spatial => 1,
+        Kind::Custom => 1,
     }
 }

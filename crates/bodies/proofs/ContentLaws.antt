@@ -1,12 +1,13 @@
 -- Attribute blocks: an attribute's content by its kind and flag number, and the rows of a block one after the other.
-use Prim.Native.Nat.{ℕ, suc, _+_, _-_, _*_, _≤_, _<_}
+use Prim.Native.Nat.{ℕ, zero, suc, _+_, _-_, _*_, _≤_, _<_}
 use mathlib.Core.List.{List, [], _∷_}
 use mathlib.Core.Path.{_≡_, refl, ap, ap₂, sym, _∙_}
+use native.Mathlib.Numerals.{add-one}
 use native.Mathlib.Omega.{arith}
 use lib.ListN.{length, getD, take}
-use lib.Seq.{slice, slice-cons, slice-empty}
+use lib.Seq.{sets, slice, slice-cons}
 use Rattle.format.specs.Bits.{Order}
-use Rattle.format.specs.Reading.{At, Fault, Reading, shows}
+use Rattle.format.specs.Reading.{Ending, At, Fault, Reading, shows}
 use Rattle.format.specs.Formats.{Item, Format, nothing, item, _▸_}
 use Rattle.format.specs.Items.{run, readItem}
 use Rattle.format.specs.Bodies as bodies
@@ -21,8 +22,9 @@ use Rattle.table.specs.declared.Run.{Run}
 use Rattle.table.specs.declared.Run.the-variants.{Done, Stop}
 use Rattle.table.proofs.EngineLaws.{state, after-none, after-stop, alike-assoc}
 use Rattle.table.proofs.RunLaws.{run-done, run-stop}
-use Rattle.attributes.specs.Rows.{attributeOf, allAttributes, rowsFrom, AreRows}
-use Rattle.attributes.proofs.FlagLaws.{rowAt, rows-next}
+use Rattle.attributes.specs.Rows.{attributeOf, rowsFrom}
+use Rattle.attributes.specs.declared.Attribute.{Attribute}
+use Rattle.attributes.proofs.FlagLaws.{rowAt, rows-next, rows-none}
 
 -- ---- a content: none, so nothing was read and nothing stored; or what stands of it was read
 module _ (o : Order) (b t : List ℕ) (k p : ℕ) where
@@ -56,33 +58,29 @@ row-fits o b t a φ m k {u} {p} {j} {q} h e =
     ((l .1, h .0 .1), omega (arith, n, c, h .1))
 
 -- the loop: the whole from the start is what is left from here
-module _ (o : Order) (s t₀ flags : List ℕ) (k start end p₀ : ℕ) where
+module _ (o : Order) (s t₀ flags : List ℕ) (k : ℕ) (block : List Attribute) (count p₀ : ℕ) where
   abbrev rowsAt : ℕ → Format
-  rowsAt row = rows (rowsFrom row end) (slice (row - start) (end - start) flags)
+  rowsAt row = rows (rowsFrom block row (count - row)) (slice row count flags)
 
   abbrev whole : State
-  whole = shownOver t₀ k (run o s (rows (rowsFrom start end) (take (end - start) flags)) p₀)
+  whole = shownOver t₀ k (run o s (rows (rowsFrom block 0 count) (take count flags)) p₀)
 
   pub record Going (t : List ℕ) (p j row : ℕ) : Type 0 where
     pub size : length t ≡ length t₀
     pub same : whole ≡ shownOver t j (run o s (rowsAt row) p)
-    pub fits : Fits s p (j + (end - row))
-    pub from : start ≤ row
-    pub below : row ≤ end
+    pub fits : Fits s p (j + (count - row))
+    pub below : row ≤ count
 
   -- the row here has the flag number φ; R is the answer of the call that read it
-  module _ {t : List ℕ} {p j row φ : ℕ} (some : row < end) (inside : end ≤ 30) (lent : end - start ≤ length flags)
-      (flag : φ ≡ getD flags (row - start) 0) (g : Going t p j row) where
+  module _ {t : List ℕ} {p j row φ : ℕ} (some : row < count) (lent : count ≤ length flags) (flag : φ ≡ getD flags row 0) (g : Going t p j row) where
     abbrev attributeHere : bodies.Attribute
-    attributeHere = attributeOf (rowAt row)
+    attributeHere = attributeOf (rowAt block row)
 
     rows-here : run o s (rowsAt row) p ≡ run o s (rowOf attributeHere φ ▸ rowsAt (row + 1)) p
     unfolding rows
     rows-here =
-        let n : suc (row - start) ≡ row + 1 - start = omega (arith, g .from) in
-        let f : slice (row - start) (end - start) flags ≡ φ ∷ slice (row + 1 - start) (end - start) flags =
-        slice-cons (row - start) (end - start) flags 0 (omega (arith, g .from)) lent ∙ rw (flag, n) in
-        ap₂ (λ (l : List bodies.Attribute) (φs : List ℕ). run o s (rows l φs) p) (rows-next some inside) f
+        let f : slice row count flags ≡ φ ∷ slice (row + 1) count flags = slice-cons row count flags 0 some lent ∙ rw (flag, add-one row) in
+        ap₂ (λ (l : List bodies.Attribute) (φs : List ℕ). run o s (rows l φs) p) (rows-next block some) f
         ∙ sym (alike-assoc (item (Item.echo φ)) (content attributeHere φ) (rowsAt (row + 1)) o s p)
 
     module _ {u : List ℕ} {R : Run} (ran : runLeaves u R ≡ shownOver t j (run o s (rowOf attributeHere φ) p)) where
@@ -90,26 +88,29 @@ module _ (o : Order) (s t₀ flags : List ℕ) (k start end p₀ : ℕ) where
       rows-next-row z e = record {
         size = z ∙ g .size;
         same = g .same ∙ ap (shownOver t j) rows-here ∙ sym (run-done o s t j (rowOf attributeHere φ) p ran (λ xs. rowsAt (row + 1)) e refl);
-        fits = row-fits o s t attributeHere φ (end - (row + 1)) j (g .fits .0, omega (arith, g .fits .1)) (ap (runLeaves u) (sym e) ∙ ran);
-        from = omega (arith, g .from);
+        fits = row-fits o s t attributeHere φ (count - (row + 1)) j (g .fits .0, omega (arith, g .fits .1)) (ap (runLeaves u) (sym e) ∙ ran);
         below = omega arith;
       }
 
       pub rows-stop : {e i : ℕ} → R ≡ Stop e i → runLeaves u R ≡ whole
       rows-stop e = run-stop o s t j (rowOf attributeHere φ) p ran (λ xs. rowsAt (row + 1)) e ∙ sym (g .same ∙ ap (shownOver t j) rows-here)
 
-  pub rows-done : {t : List ℕ} {p j row : ℕ} → end ≤ row → Going t p j row → state t j (At p) ≡ whole
+  pub rows-done : {t : List ℕ} {p j row : ℕ} → count ≤ row → Going t p j row → state t j (At p) ≡ whole
   unfolding run rows
   rows-done {t} {p} {j} {row} h g =
-      let z : row ≡ end = omega (arith, g .below) in
-      let n : rowsFrom row end ≡ [] = rw z (slice-empty end allAttributes) in
+      let z : row ≡ count = omega (arith, g .below) in
+      let n : rowsFrom block row (count - row) ≡ [] = rw z (rows-none block count) in
       sym (g .same ∙ rw n (after-none t j p))
 
   -- at the start all flags are left
-  pub rows-start : AreRows start end → Fits s p₀ (k + 9) → Going t₀ p₀ k start
-  rows-start r h =
-      let n : start - start ≡ 0 = omega arith in
-      record { size = refl; same = rw n; fits = (h .0, omega (arith, h .1, r .few)); from = omega arith; below = r .up }
+  pub rows-start : count ≤ 12 → Fits s p₀ (k + 12) → Going t₀ p₀ k 0
+  rows-start few h = let n : count - 0 ≡ count = omega arith in record { size = refl; same = rw n; fits = (h .0, omega (arith, h .1)); below = omega arith }
+
+-- ---- the first rows of a block
+pub rows-first : (block : List Attribute) (i m n : ℕ) → m ≤ n → rowsFrom block i m ≡ take m (rowsFrom block i n)
+rows-first block i zero n h = refl
+rows-first block i (suc m) zero h = absurd (omega arith)
+rows-first block i (suc m) (suc n) h = ap (λ (l : List bodies.Attribute). attributeOf (rowAt block i) ∷ l) (rows-first block (suc i) m n (omega arith))
 
 -- ---- a block: its flags, and then its rows
 module _ (o : Order) (b t : List ℕ) (k p : ℕ) (attrs : List bodies.Attribute) where
@@ -126,3 +127,8 @@ pub flags-fit : (o : Order) (b : List ℕ) (attrs : List bodies.Attribute) {φs 
 flags-fit o b attrs {φs} {p} {q} e h =
     let l : (p ≤ q) × (q ≤ 8 * length b) = run-le o b (allFlags attrs) p q (h .0 .0) (ap (λ (r : Reading). r .ended) e) in
     ((l .1, h .0 .1), omega (arith, l .0, h .1))
+
+-- the lent room that a run of flags leaves
+pub flags-left : (f : List ℕ) (r : Reading) {u : List ℕ} {j : ℕ} {z : Ending} → state u j z ≡ shownOver f 0 r → u ≡ sets f 0 (r .shown)
+unfolding shownOver
+flags-left f r e = ap (λ (s : State). s .table) e

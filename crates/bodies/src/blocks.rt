@@ -1,20 +1,21 @@
 // Attribute blocks: the flags of all attributes, then each attribute's flag number and content.
 ghost use mathlib.Core.Path.{_≡_};
-ghost use Prim.Native.Nat.{_+_, _-_, _≤_};
+ghost use Prim.Native.Nat.{_+_, _≤_};
 ghost use lib.ListN.{length, take};
+ghost use lib.Seq.{sets};
 ghost use Rattle.format.specs.Formats.{Item, item, _▸_};
 ghost use Rattle.format.specs.Items.{run};
-ghost use Rattle.format.specs.Bodies.{contentOf, content, rows as rowsOf, readBlock};
+ghost use Rattle.format.specs.Bodies.{contentOf, content, allFlags, rows as rowsOf, readBlock};
 ghost use Rattle.table.specs.State.{shownOver};
 ghost use Rattle.table.specs.Run.{runLeaves};
 ghost use Rattle.table.specs.Fields.{Fits};
-ghost use Rattle.attributes.specs.Rows.{kindOf, typeOf, attributeOf, rowsFrom, AreRows};
+ghost use Rattle.attributes.specs.Rows.{kindOf, typeOf, attributeOf, rowsFrom};
 ghost use Rattle.bits.specs.Places.{orderOf};
 use attributes::Attribute;
+use attributes::Block;
 use attributes::Content;
 use attributes::DataType;
 use attributes::Kind;
-use attributes::Rows;
 use bits::BitPlace;
 use bits::Order;
 use table::Run;
@@ -68,28 +69,27 @@ fn read_attribute(
     read_content(order, kind, what, flag, body, at, table, from + 1)
 }
 
-// The rows' attributes in order, with the flag numbers that were read for them.
+// The attributes of a block in order, with the flag numbers that were read for them.
 pub fn read_contents(
     order: Order,
-    rows: Rows,
+    block: Block,
     flags: &[u64],
     body: &[u8],
     at: BitPlace,
     table: &mut [u64],
     from: usize,
 ) -> Run
-    requires { ⌜ AreRows (rows .start) (rows .end) × (9 ≤ length (now flags)) × Fits (now body) (at .0) (from + 9) ⌝ }
-    ensures { λ r. ⌜ runLeaves (now (table .exit)) r ≡ shownOver (now (table .entry)) from (run (orderOf order) (now (body .entry)) (rowsOf (rowsFrom (rows .start) (rows .end)) (take (rows .end - rows .start) (now (flags .entry)))) (at .0)) ⌝ }
+    requires { ⌜ (block .count ≤ 12) × (12 ≤ length (now flags)) × Fits (now body) (at .0) (from + 12) ⌝ }
+    ensures { λ r. ⌜ runLeaves (now (table .exit)) r ≡ shownOver (now (table .entry)) from (run (orderOf order) (now (body .entry)) (rowsOf (rowsFrom (block .rows) 0 (block .count)) (take (block .count) (now (flags .entry)))) (at .0)) ⌝ }
 {
-    let attributes = attributes::ATTRIBUTES;
-    let start = rows.start;
-    let end = rows.end;
+    let rows = block.rows;
+    let count = block.count;
     let mut place = at;
     let mut index = from;
-    let mut row = start;
-    while row < end {
-        let flag = flags[row - start];
-        let attribute = attributes[row];
+    let mut row = 0;
+    while row < count {
+        let flag = flags[row];
+        let attribute = rows[row];
         let r = read_attribute(order, attribute, flag, body, place, table, index);
         let Run::Done(next, behind) = r else {
             return r;
@@ -101,22 +101,22 @@ pub fn read_contents(
     Run::Done(place, index)
 }
 
-// An attribute block.
+// An attribute block. Its flag numbers stay in the lent flags.
 pub(crate) fn read_block(
     order: Order,
-    rows: Rows,
+    block: Block,
     body: &[u8],
     at: BitPlace,
+    flags: &mut [u64],
     table: &mut [u64],
     from: usize,
 ) -> Run
-    requires { ⌜ AreRows (rows .start) (rows .end) × Fits (now body) (at .0) (from + 9) ⌝ }
-    ensures { λ r. ⌜ runLeaves (now (table .exit)) r ≡ shownOver (now (table .entry)) from (readBlock (orderOf order) (now (body .entry)) (rowsFrom (rows .start) (rows .end)) (at .0)) ⌝ }
+    requires { ⌜ (block .count ≤ 12) × (12 ≤ length (now flags)) × Fits (now body) (at .0) (from + 12) ⌝ }
+    ensures { λ r. ⌜ (runLeaves (now (table .exit)) r ≡ shownOver (now (table .entry)) from (readBlock (orderOf order) (now (body .entry)) (rowsFrom (block .rows) 0 (block .count)) (at .0))) × (now (flags .exit) ≡ sets (now (flags .entry)) 0 (run (orderOf order) (now (body .entry)) (allFlags (rowsFrom (block .rows) 0 (block .count))) (at .0) .shown)) ⌝ }
 {
-    let mut flags = [0u64; 9];
-    let r = attributes::read_flags(order, rows, body, at, &mut flags);
+    let r = attributes::read_flags(order, block, body, at, flags);
     match r {
-        Run::Done(next, _) => read_contents(order, rows, &flags, body, next, table, from),
+        Run::Done(next, _) => read_contents(order, block, flags, body, next, table, from),
         Run::Stop(why, _) => Run::Stop(why, from),
     }
 }

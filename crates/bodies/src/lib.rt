@@ -1,13 +1,14 @@
 // The body of a tag that is read: its values into the lent table, and its end.
 ghost use mathlib.Core.Path.{_≡_};
-ghost use Prim.Native.Nat.{_<_, _^_};
+ghost use mathlib.Core.Bool.{false};
+ghost use Prim.Native.Nat.{_≤_, _<_, _^_};
 ghost use lib.ListN.{length};
-ghost use Rattle.format.specs.Bodies.{readPart, toEnd, readBody};
+ghost use Rattle.format.specs.Bodies.{readPart, readBody};
+ghost use Rattle.bits.specs.Places.{orderOf};
 ghost use Rattle.table.specs.State.{shownOver};
 ghost use Rattle.table.specs.Run.{runLeaves};
-ghost use Rattle.bodies.specs.Leaf.{isBlock, bodyBy, leafBody};
-ghost use Rattle.bodies.specs.Shown.{shownLeaves, usedUpAt};
-ghost use Rattle.bits.specs.Places.{orderOf};
+ghost use Rattle.bodies.specs.Leaf.{isBlock, bodyBy, leafBody, group, containerBody, hasListIn, ownPart};
+ghost use Rattle.bodies.specs.Shown.{Inside, finished, Finishes, Shows};
 
 pub mod blocks;
 
@@ -17,9 +18,11 @@ use bits::BytePlace;
 use bits::Order;
 use table::Run;
 
-// After the values of a tag: the byte of its body where they end, and the index behind what was stored; or a reason.
+// After the values of a tag: the byte of its body where they end, and the index behind what was stored. Its body is used up; or its list is still to be read,
+// from that byte on. Or a reason.
 pub enum Shown {
     Done(BytePlace, usize),
+    Open(BytePlace, usize),
     Stop(u32, usize),
 }
 
@@ -27,12 +30,13 @@ pub enum Shown {
 pub fn is_block(code: u32) -> bool
     ensures { λ r. ⌜ r ≡ isBlock code ⌝ }
 {
+    if 13 <= code {
+        return code <= 27;
+    }
     match code {
         6 => true,
         9 => true,
         10 => true,
-        13 => true,
-        14 => true,
         _ => false,
     }
 }
@@ -50,11 +54,13 @@ fn read_part(
     ensures { λ r. ⌜ runLeaves (now (table .exit)) r ≡ shownOver (now (table .entry)) from (readPart (orderOf order) (now (body .entry)) (bodyBy block code) 0) ⌝ }
 {
     if block {
+        let mut flags = [0u64; 12];
         return blocks::read_block(
             order,
-            attributes::rows_of(code),
+            attributes::blocks::block_of(code),
             body,
             BitPlace(0),
+            &mut flags,
             table,
             from,
         );
@@ -62,37 +68,30 @@ fn read_part(
     fixed::read_fixed(order, code, body, BitPlace(0), table, from)
 }
 
-// Its items, and zero bits up to a whole byte (15).
-pub fn read_to_end(
-    order: Order,
-    block: bool,
-    code: u32,
-    body: &[u8],
-    table: &mut [u64],
-    from: usize,
-) -> Shown
-    requires { ⌜ (length (now body) < 2 ^ 60) × (from < 2 ^ 61) ⌝ }
-    ensures { λ r. ⌜ shownLeaves (now (table .exit)) r ≡ shownOver (now (table .entry)) from (toEnd (orderOf order) (now (body .entry)) (bodyBy block code)) ⌝ }
+// At a whole byte of a body of this size: its list follows; or nothing more may follow (18).
+fn at_byte(list: bool, size: usize, end: BytePlace, behind: usize) -> Shown
+    ensures { λ r. ⌜ r ≡ finished list size end behind ⌝ }
 {
-    match read_part(order, block, code, body, table, from) {
-        Run::Stop(why, behind) => Shown::Stop(why, behind),
-        Run::Done(next, behind) => match bits::align(order, body, next) {
-            Aligned::Unclean => Shown::Stop(15, behind),
-            Aligned::Clean(end, _) => Shown::Done(end, behind),
-        },
+    if list {
+        return Shown::Open(end, behind);
+    }
+    if end.0 == size {
+        Shown::Done(end, behind)
+    } else {
+        Shown::Stop(18, behind)
     }
 }
 
-// Nothing more may follow in a body of this size (18).
-fn used_up(size: usize, shown: Shown) -> Shown
-    ensures { λ r. ⌜ r ≡ usedUpAt size shown ⌝ }
+// After the items of a body: zero bits up to a whole byte (15). There its list follows, or nothing more.
+fn finish(order: Order, body: &[u8], items: Run, list: bool) -> Shown
+    requires { ⌜ Inside (now body) items ⌝ }
+    ensures { λ r. ⌜ Finishes (orderOf order) (now (body .entry)) items list r ⌝ }
 {
-    match shown {
-        Shown::Stop(why, behind) => Shown::Stop(why, behind),
-        Shown::Done(end, behind) => if end.0 == size {
-            Shown::Done(end, behind)
-        } else {
-            Shown::Stop(18, behind)
+    match items {
+        Run::Stop(why, behind) => Shown::Stop(why, behind),
+        Run::Done(next, behind) => match bits::align(order, body, next) {
+            Aligned::Unclean => Shown::Stop(15, behind),
+            Aligned::Clean(end, _) => at_byte(list, body.len(), end, behind),
         },
     }
 }
@@ -100,8 +99,31 @@ fn used_up(size: usize, shown: Shown) -> Shown
 // The body of a leaf tag: its items, zero bits up to a whole byte (15), and nothing more (18).
 pub fn read_body(order: Order, code: u32, body: &[u8], table: &mut [u64], from: usize) -> Shown
     requires { ⌜ (length (now body) < 2 ^ 60) × (from < 2 ^ 61) ⌝ }
-    ensures { λ r. ⌜ shownLeaves (now (table .exit)) r ≡ shownOver (now (table .entry)) from (readBody (orderOf order) (leafBody code) (now (body .entry))) ⌝ }
+    ensures { λ r. ⌜ Shows (now (table .entry)) from (readBody (orderOf order) (leafBody code) (now (body .entry))) false (now (table .exit)) r ⌝ }
 {
-    let shown = read_to_end(order, is_block(code), code, body, table, from);
-    used_up(body.len(), shown)
+    let items = read_part(order, is_block(code), code, body, table, from);
+    finish(order, body, items, false)
+}
+
+// A ShapeGroup: it has a list where the flag of its last attribute, the TagBlock, is set. The walk that counts stores no values, so the flag is taken from the lent flags.
+fn read_group(order: Order, body: &[u8], table: &mut [u64], from: usize) -> Shown
+    requires { ⌜ (length (now body) < 2 ^ 60) × (from < 2 ^ 61) ⌝ }
+    ensures { λ r. ⌜ Shows (now (table .entry)) from (ownPart (orderOf order) group (now (body .entry))) (hasListIn (orderOf order) group (now (body .entry))) (now (table .exit)) r ⌝ }
+{
+    let mut flags = [0u64; 12];
+    let block = attributes::blocks::block_of(15);
+    let items = blocks::read_block(order, block, body, BitPlace(0), &mut flags, table, from);
+    finish(order, body, items, flags[8] == 1)
+}
+
+// The own part of a container: its items, and zero bits up to the whole byte where its list starts (15). A group without a list ends like a leaf.
+pub fn read_container(order: Order, code: u32, body: &[u8], table: &mut [u64], from: usize) -> Shown
+    requires { ⌜ (length (now body) < 2 ^ 60) × (from < 2 ^ 61) ⌝ }
+    ensures { λ r. ⌜ Shows (now (table .entry)) from (ownPart (orderOf order) (containerBody code) (now (body .entry))) (hasListIn (orderOf order) (containerBody code) (now (body .entry))) (now (table .exit)) r ⌝ }
+{
+    if code == 15 {
+        return read_group(order, body, table, from);
+    }
+    let items = read_part(order, false, code, body, table, from);
+    finish(order, body, items, true)
 }

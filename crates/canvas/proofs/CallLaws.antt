@@ -1,5 +1,6 @@
 -- The public call: what it answers, by what looking through the tags at depth 0 gave.
 use Prim.Native.Nat.{ℕ, _+_, _-_, _*_, _^_, _≤_, _<_}
+use mathlib.Core.Bool.{false}
 use mathlib.Core.List.{List, [], _∷_, _++_, append-nil}
 use mathlib.Core.Path.{_≡_, refl, ap, ap₂, sym, subst, _∙_}
 use native.Mathlib.Omega.{arith}
@@ -9,15 +10,15 @@ use lib.Dec.{eqb}
 use borrow.Author.Tests.{ne-eqb}
 use Rattle.format.specs.Tests.{pick}
 use Rattle.format.specs.Bits.{Order, orderNamed}
-use Rattle.format.specs.Reading.{Ending, At, Fault}
-use Rattle.format.specs.Bodies.{Body, compositionAttributes, fixed, toEnd, usedUp, readBody}
+use Rattle.format.specs.Reading.{At}
+use Rattle.format.specs.Bodies.{Body, compositionAttributes, fixed, readBody}
 use Rattle.format.specs.FileAndTags as paper
 use Rattle.format.specs.FileAndTags.{classOf, Walk, broken, file, walkList}
 use Rattle.format.specs.Reasons.{startFault, walkFile}
 use Rattle.format.proofs.StartLaws.{good-start}
 use Rattle.table.specs.State.{State, shownOver}
-use Rattle.fixed.specs.Fixed.{fixedOf}
-use Rattle.bodies.specs.Shown.{shownLeaves}
+use Rattle.bodies.specs.Leaf.{leafBody}
+use Rattle.bodies.specs.Shown.{Shows}
 use Rattle.bodies.specs.declared.Shown.{Shown}
 use Rattle.classes.specs.Classes.{Classed}
 use Rattle.classes.specs.declared.Scope.the-variants.{All}
@@ -31,16 +32,8 @@ use Rattle.canvas.specs.declared.Seen.the-variants as seen
 use Rattle.canvas.specs.declared.Spot.{Spot}
 use Rattle.canvas.specs.declared.Looked.{Looked}
 use Rattle.canvas.specs.declared.Looked.the-variants as looked
+use Rattle.canvas.proofs.LookLaws.{leaf-is}
 use Rattle.canvas.proofs.SureLaws.{SureEnd, Sure, canvas-sure}
-
--- ---- a body shows what its items show
-body-shown : (o : Order) (y : Body) (b : List ℕ) → readBody o y b .shown ≡ toEnd o b y .shown
-unfolding readBody
-body-shown o y b = go (toEnd o b y .shown) (toEnd o b y .ended)
-  where
-    go : (xs : List ℕ) (z : Ending) → usedUp (8 * length b) xs z .shown ≡ xs
-    go xs (At p) = refl
-    go xs (Fault e) = refl
 
 -- ---- seven values over seven zeros
 over-zeros : (xs : List ℕ) → length xs ≡ 7 → sets zeros 0 xs ≡ xs
@@ -48,9 +41,11 @@ over-zeros xs h =
     let d : drop (0 + length xs) zeros ≡ [] = rw h in
     sets-eq xs zeros 0 (omega (arith, h)) ∙ ap (λ (ys : List ℕ). xs ++ ys) d ∙ append-nil xs
 
-pub filled-is : (o : Order) (body : List ℕ) (h : ℕ) {t : List ℕ} (R : Shown) → shownLeaves t R ≡ shownOver zeros 0 (toEnd o body (fixed (fixedOf 3))) → record { seen = seen.Found; values = t; headers = h } ≡ filled o body h
+pub filled-is : (o : Order) (body : List ℕ) (h : ℕ) {t : List ℕ} (R : Shown) → Shows zeros 0 (readBody o (leafBody 3) body) false t R → record { seen = seen.Found; values = t; headers = h } ≡ filled o body h
 unfolding shownOver
-filled-is o body h R e = ap (λ (s : State). record { seen = seen.Found; values = s .table; headers = h }) e
+filled-is o body h R e =
+    ap (λ (s : State). record { seen = seen.Found; values = s .table; headers = h }) (e .left)
+    ∙ ap (λ (y : Body). record { seen = seen.Found; values = sets zeros 0 (readBody o y body .shown); headers = h }) leaf-is
 
 -- the answer that a walk gives
 abbrev pub answers : Canvas → CanvasSize
@@ -113,12 +108,11 @@ module _ (order level : ℕ) (f : List ℕ) where
             ap (λ (r : List ℕ). take (j - i) (drop (i - 9) r)) (piece-rest 9 f) ∙ ap (take (j - i)) (drop-drop (i - 9) 9 f ∙ ap (λ (m : ℕ). drop m f) n)
 
         pub call-found : {r : CanvasSize} → r ≡ filled o (piece i j f) (s .headers) → r ≡ answers (canvasFile order level f)
-        unfolding fixedOf
         call-found {r} q =
             let g : readBody o (fixed compositionAttributes) (piece i j f) .ended ≡ At (at .0 .place) = sym (ap (λ (x : List ℕ). readBody o (fixed compositionAttributes) x .ended) body-is) ∙ at .0 .good in
             let n : length (readBody o (fixed compositionAttributes) (piece i j f) .shown) ≡ 7 = subst (SureEnd 7 (readBody o (fixed compositionAttributes) (piece i j f) .shown)) g (canvas-sure o (piece i j f)) in
-            let v : sets zeros 0 (toEnd o (piece i j f) (fixed compositionAttributes) .shown) ≡ readBody o (fixed compositionAttributes) (piece i j f) .shown =
-            ap (sets zeros 0) (sym (body-shown o (fixed compositionAttributes) (piece i j f))) ∙ over-zeros (readBody o (fixed compositionAttributes) (piece i j f) .shown) n in
+            let v : sets zeros 0 (readBody o (fixed compositionAttributes) (piece i j f) .shown) ≡ readBody o (fixed compositionAttributes) (piece i j f) .shown =
+            over-zeros (readBody o (fixed compositionAttributes) (piece i j f) .shown) n in
             let w : canvasFile order level f .seen ≡ found (readBody o (fixed compositionAttributes) (piece i j f) .shown) = at .1 ∙ ap (λ (x : List ℕ). found (readBody o (fixed compositionAttributes) x .shown)) body-is in
             q ∙ ap (λ (vs : List ℕ). record { seen = seen.Found; values = vs; headers = s .headers }) v ∙ told-as w (at .2)
 

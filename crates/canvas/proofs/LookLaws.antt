@@ -32,14 +32,14 @@ use Rattle.classes.specs.declared.Scope.{Scope}
 use Rattle.classes.specs.declared.Scope.the-variants.{All, Lists}
 use Rattle.headers.specs.Heads.{headBy}
 use Rattle.headers.proofs.HeadLaws.{head-by}
-use Rattle.tags.specs.Shown.{valuesOf}
-use Rattle.tags.proofs.TagLaws.{values-le}
+use Rattle.tags.specs.Shown.{valuesOf, listOf}
+use Rattle.tags.proofs.TagLaws.{list-container, values-le}
 use Rattle.bits.specs.declared.BytePlace.{BytePlace}
 use Rattle.lists.specs.Lists.{byteAt, ownerOf, classIn, classesIn, Tabled}
 use Rattle.lists.specs.declared.Owner.{Owner}
 use Rattle.lists.proofs.ListLaws.{piece, length-piece, drop-take, pred-is, positive, walkOf, insideOf, fair-in, with-named, within-is}
 use Rattle.canvas.specs.Canvas.{isCanvas, Seen, found, none, refused, Canvas, canvas, more, seenIn, canvasIn, canvasOf}
-use Rattle.canvas.specs.Looking.{isLooked, judgedClass, judgedBy, judgedEnd, judgedAt, judgedIn, afterEnd, bodyAt, Stands, Looks, Bounds}
+use Rattle.canvas.specs.Looking.{isLooked, judgedClass, standsAt, judgedBy, judgedEnd, judgedAt, judgedIn, afterEnd, bodyAt, Stands, Looks, Bounds}
 use Rattle.canvas.specs.declared.Body.{Body}
 use Rattle.canvas.specs.declared.Spot.{Spot}
 use Rattle.canvas.specs.declared.Judged.{Judged}
@@ -111,7 +111,7 @@ canvas-class ns k = subst (λ (c : Class). (c ≡ Opaque) ⊎ (c ≡ Fixed)) (sy
     go Lists true = inl refl
     go Lists false = inl refl
 
-leaf-is : leafBody 3 ≡ fixed compositionAttributes
+pub leaf-is : leafBody 3 ≡ fixed compositionAttributes
 unfolding leafBody fixedOf
 leaf-is = refl
 
@@ -184,6 +184,9 @@ module _ (o : Order) (ns : List ℕ) (depths : ℕ) (own : paper.Owner) (a : ℕ
       abbrev c : Class
       c = classIn ns code
 
+      abbrev list : Bool
+      list = listOf o c code body
+
       abbrev later : Bool → Walk
       later b = afterTag b own (a + stop) (drop stop r) (walkList o (classesIn ns) depths own)
 
@@ -209,7 +212,7 @@ module _ (o : Order) (ns : List ℕ) (depths : ℕ) (own : paper.Owner) (a : ℕ
       headed-later b = headed-after o (classesIn ns) depths b own (a + stop) (drop stop r)
 
       -- what looking at the tag gives, whose inside has the walk w
-      tag-looked : (w : Walk) → walkOf R c (a + i) (a + start) body (valuesOf o c code body .ended) ≡ w
+      tag-looked : (w : Walk) → walkOf R list (a + i) (a + start) body (valuesOf o c code body .ended) ≡ w
           → canvasOf (from i) ≡ canvasOf (chain (tag ∷ w .tags) (w .ended) (later (ends c)))
       tag-looked w e = ap canvasOf tag-is ∙ ap (λ (v : Walk). canvasOf (chain (tag ∷ v .tags) (v .ended) (later (ends c)))) e
 
@@ -220,7 +223,7 @@ module _ (o : Order) (ns : List ℕ) (depths : ℕ) (own : paper.Owner) (a : ℕ
       looks-is e = state-looked c code size len ∙ e
 
       -- another tag, with nothing in it
-      other : {e : Bool} → looks ≡ false → ends c ≡ e → walkOf R c (a + i) (a + start) body (valuesOf o c code body .ended) ≡ noTags whole → canvasOf (from i) ≡ more 1 (canvasOf (later e))
+      other : {e : Bool} → looks ≡ false → ends c ≡ e → walkOf R list (a + i) (a + start) body (valuesOf o c code body .ended) ≡ noTags whole → canvasOf (from i) ≡ more 1 (canvasOf (later e))
       unfolding canvasIn
       other {e} n q w =
           tag-looked (noTags whole) w
@@ -228,7 +231,7 @@ module _ (o : Order) (ns : List ℕ) (depths : ℕ) (own : paper.Owner) (a : ℕ
           ∙ ap (λ (x : Bool). more 1 (canvasOf (later x))) q
 
       -- a container
-      container-looked : looks ≡ false → ends c ≡ false → (w : Walk) → walkOf R c (a + i) (a + start) body (valuesOf o c code body .ended) ≡ w
+      container-looked : looks ≡ false → ends c ≡ false → (w : Walk) → walkOf R list (a + i) (a + start) body (valuesOf o c code body .ended) ≡ w
           → canvasOf (from i) ≡ more 1 (thenLook (canvasOf w) (canvasOf (from stop)))
       unfolding canvasIn
       container-looked n q w e =
@@ -244,7 +247,7 @@ module _ (o : Order) (ns : List ℕ) (depths : ℕ) (own : paper.Owner) (a : ℕ
           go (fault e n) z = rw z
 
       -- the tag's body faults
-      faulty : {e : ℕ} → (looks ≡ true → 13 ≤ e) → walkOf R c (a + i) (a + start) body (valuesOf o c code body .ended) ≡ broken e (a + i) → canvasOf (from i) ≡ canvas (refused e (a + i)) 1
+      faulty : {e : ℕ} → (looks ≡ true → 13 ≤ e) → walkOf R list (a + i) (a + start) body (valuesOf o c code body .ended) ≡ broken e (a + i) → canvasOf (from i) ≡ canvas (refused e (a + i)) 1
       unfolding canvasIn
       faulty {e} h w = tag-looked (broken e (a + i)) w ∙ go looks refl
         where
@@ -253,7 +256,7 @@ module _ (o : Order) (ns : List ℕ) (depths : ℕ) (own : paper.Owner) (a : ℕ
           go false q = rw q
 
       -- it is the one that is looked for
-      canvas-found : looks ≡ true → walkOf R c (a + i) (a + start) body (valuesOf o c code body .ended) ≡ noTags whole → canvasOf (from i) ≡ canvas (found (valuesOf o c code body .shown)) 1
+      canvas-found : looks ≡ true → walkOf R list (a + i) (a + start) body (valuesOf o c code body .ended) ≡ noTags whole → canvasOf (from i) ≡ canvas (found (valuesOf o c code body .shown)) 1
       unfolding canvasIn
       canvas-found n w =
           tag-looked (noTags whole) w
@@ -281,22 +284,15 @@ module _ (o : Order) (ns : List ℕ) (depths : ℕ) (own : paper.Owner) (a : ℕ
           let f : readBody o (fixed compositionAttributes) body .ended ≡ Fault e = sym (ap (λ (x : Reading). x .ended) v) ∙ q in
           subst (SureEnd 7 (readBody o (fixed compositionAttributes) body .shown)) f (canvas-sure o body)
 
-      walk-fault : {e : ℕ} (d : Class) → walkOf R d (a + i) (a + start) body (Fault e) ≡ broken e (a + i)
-      walk-fault Opaque = refl
-      walk-fault End = refl
-      walk-fault Container = refl
-      walk-fault Fixed = refl
-      walk-fault Attributes = refl
-
       abbrev bodyOf : ℕ → Body
-      bodyOf p = record { start = byteAt start; list = byteAt (start + p / 8); stop = byteAt stop }
+      bodyOf p = standsAt start (p / 8) stop
 
-      -- a class, and an ending
-      walk-as : {p : ℕ} {d : Class} → c ≡ d → z ≡ At p → walkOf R c (a + i) (a + start) body z ≡ walkOf R d (a + i) (a + start) body (At p)
-      walk-as e q = ap₂ (λ (d : Class) (y : Ending). walkOf R d (a + i) (a + start) body y) e q
+      -- with a list or without, and an ending
+      walk-as : {p : ℕ} {l : Bool} → list ≡ l → z ≡ At p → walkOf R list (a + i) (a + start) body z ≡ walkOf R l (a + i) (a + start) body (At p)
+      walk-as e q = ap₂ (λ (l : Bool) (y : Ending). walkOf R l (a + i) (a + start) body y) e q
 
-      told-next : {p : ℕ} {d : Class} → c ≡ d → z ≡ At p → looks ≡ false → ends d ≡ false → walkOf R d (a + i) (a + start) body (At p) ≡ noTags whole → Told i (judged.Next (byteAt stop))
-      told-next e q n f w = (omega (arith, fits .0), stop-fits, other {e = false} n (ap ends e ∙ f) (walk-as e q ∙ w))
+      told-next : {p : ℕ} → list ≡ false → z ≡ At p → looks ≡ false → ends c ≡ false → Told i (judged.Next (byteAt stop))
+      told-next e q n f = (omega (arith, fits .0), stop-fits, other {e = false} n f (walk-as e q))
 
       list-room : (p : ℕ) → p ≤ 8 * length body → drop (p / 8) body ≡ piece (start + p / 8) stop r
       list-room p l =
@@ -304,20 +300,21 @@ module _ (o : Order) (ns : List ℕ) (depths : ℕ) (own : paper.Owner) (a : ℕ
           let q′ : i + (size + p / 8) ≡ start + p / 8 = omega arith in
           drop-take (p / 8) len (drop size (drop i r)) ∙ rw (q, drop-drop (p / 8) size (drop i r), drop-drop (size + p / 8) i r) (ap (λ (v : ℕ). take (stop - (start + p / 8)) (drop v r)) q′)
 
-      told-open : {p : ℕ} → c ≡ Container → z ≡ At p → looks ≡ false → Told i (judged.Open (bodyOf p))
-      told-open {p} e q n =
+      told-open : {p : ℕ} → list ≡ true → z ≡ At p → looks ≡ false → Told i (judged.Open (bodyOf p))
+      told-open {p} h q n =
+          let e : c ≡ Container = list-container o c code body h in
           let l : p ≤ 8 * length body = values-le o c code body p q in
           let d : pick true (eqb depths 0) false ≡ false = subst (λ (b : Bool). pick b (eqb depths 0) false ≡ false) (with-named c code .1 ∙ ap contains e) (fits .3) in
           let m : a + start + p / 8 ≡ a + (start + p / 8) = omega arith in
-          let w : walkOf R c (a + i) (a + start) body z ≡ inner i (start + p / 8) stop = walk-as e q ∙ rw (m, list-room p l) in
+          let w : walkOf R list (a + i) (a + start) body z ≡ inner i (start + p / 8) stop = walk-as h q ∙ rw (m, list-room p l) in
           (positive depths (eqb-false depths 0 d), omega (arith, fits .0), omega (arith, l, body-length), stop-fits, container-looked n (ap ends e) (inner i (start + p / 8) stop) w)
 
-      told-class : {p : ℕ} → z ≡ At p → looks ≡ false → (d : Class) → c ≡ d → Told i (judgedClass d (bodyOf p))
-      told-class q n Opaque e = told-next e q n refl refl
-      told-class q n End e = (stop-fits, other {e = true} n (ap ends e) (walk-as e q))
-      told-class q n Container e = told-open e q n
-      told-class q n Fixed e = told-next e q n refl refl
-      told-class q n Attributes e = told-next e q n refl refl
+      told-class : {p : ℕ} → list ≡ false → z ≡ At p → looks ≡ false → (d : Class) → c ≡ d → Told i (judgedClass d (byteAt stop))
+      told-class f q n Opaque e = told-next f q n (ap ends e)
+      told-class f q n End e = (stop-fits, other {e = true} n (ap ends e) (walk-as f q))
+      told-class f q n Container e = told-next f q n (ap ends e)
+      told-class f q n Fixed e = told-next f q n (ap ends e)
+      told-class f q n Attributes e = told-next f q n (ap ends e)
 
       told-canvas : {p : ℕ} → z ≡ At p → isLooked c code ≡ true → Told i (judged.Canvas (bodyOf p))
       told-canvas {p} q h =
@@ -330,16 +327,17 @@ module _ (o : Order) (ns : List ℕ) (depths : ℕ) (own : paper.Owner) (a : ℕ
               place = p;
               good = rw body-at (sym (ap (λ (x : Reading). x .ended) v) ∙ q);
             },
-            canvas-found (looks-is h) (walk-as (l .1) q) ∙ rw (body-at, v),
+            canvas-found (looks-is h) (walk-as (ap (λ (d : Class). listOf o d code body) (l .1)) q) ∙ rw (body-at, v),
           )
 
-      told-end : (y : Ending) → z ≡ y → Told i (judgedEnd c code start stop y)
-      told-end (Fault e) q = faulty (fault-reason q) (ap (walkOf R c (a + i) (a + start) body) q ∙ walk-fault c)
-      told-end (At p) q = go (isLooked c code) refl
+      told-end : (y : Ending) → z ≡ y → Told i (judgedEnd c list code start stop y)
+      told-end (Fault e) q = faulty (fault-reason q) (ap (walkOf R list (a + i) (a + start) body) q)
+      told-end (At p) q = go (isLooked c code) refl list refl
         where
-          go : (b : Bool) → isLooked c code ≡ b → Told i (pick b (judged.Canvas (bodyOf p)) (judgedClass c (bodyOf p)))
-          go true h = told-canvas q h
-          go false h = told-class q (looks-is h) c refl
+          go : (b : Bool) → isLooked c code ≡ b → (l : Bool) → list ≡ l → Told i (pick b (judged.Canvas (bodyOf p)) (pick l (judged.Open (bodyOf p)) (judgedClass c (byteAt stop))))
+          go true h l e = told-canvas q h
+          go false h true e = told-open e q (looks-is h)
+          go false h false e = told-class e q (looks-is h) c refl
 
     -- the class of its code
     abbrev C : Class
@@ -354,7 +352,7 @@ module _ (o : Order) (ns : List ℕ) (depths : ℕ) (own : paper.Owner) (a : ℕ
         go : (g : Head) → readHead (classesIn ns) depths (drop i r) ≡ g → Told i (judgedAt o C r i g)
         go (noHead e) q = told-none q
         go (head code len size) q =
-            subst (λ (n : ℕ). Told i (judgedEnd (classIn ns n) code (i + size) (i + size + len) (valuesOf o (classIn ns n) code (take len (drop size (drop i r))) .ended))) (fits q .4)
+            subst (λ (n : ℕ). Told i (judgedAt o (classIn ns n) r i (head code len size))) (fits q .4)
             (told-end q (valuesOf o (classIn ns code) code (take len (drop size (drop i r))) .ended) refl)
 
   -- ---- h₀ headers were read before the list, and h so far: at i

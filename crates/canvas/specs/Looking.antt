@@ -10,17 +10,17 @@ use Rattle.format.specs.Tests.{pick, _and_}
 use Rattle.format.specs.Bits.{Order}
 use Rattle.format.specs.Reading.{Ending, At, Fault}
 use Rattle.format.specs.Items.{toByte}
-use Rattle.format.specs.Bodies.{compositionAttributes, fixed, toEnd, readBody}
+use Rattle.format.specs.Bodies.{compositionAttributes, fixed, readBody}
 use Rattle.format.specs.FileAndTags as paper
 use Rattle.format.specs.FileAndTags.{le16, isRead, blame}
+use Rattle.bits.specs.declared.BytePlace.{BytePlace}
 use Rattle.classes.specs.Classes as classes
 use Rattle.classes.specs.declared.Class.{Class}
 use Rattle.classes.specs.declared.Class.the-variants as class
-use Rattle.fixed.specs.Fixed.{fixedOf}
 use Rattle.headers.specs.Heads.{headBy}
 use Rattle.lists.specs.Lists.{byteAt, ownerOf, classIn}
 use Rattle.lists.specs.declared.Owner.{Owner}
-use Rattle.tags.specs.Shown.{valuesOf}
+use Rattle.tags.specs.Shown.{valuesOf, listOf}
 use Rattle.canvas.specs.Canvas as wanted
 use Rattle.canvas.specs.declared.CanvasSize.{CanvasSize}
 use Rattle.canvas.specs.declared.Seen.{Seen}
@@ -37,27 +37,32 @@ use Rattle.canvas.specs.declared.Looked.the-variants as looked
 abbrev pub isLooked : Class → ℕ → Bool
 isLooked class code = eqb code 3 and not (eqb (isRead (classes.bare class)) 0)
 
--- any other tag, by its class
-abbrev pub judgedClass : Class → Body → Judged
-judgedClass class.Opaque body = judged.Next (body .stop)
-judgedClass class.End body = judged.Last (body .stop)
-judgedClass class.Container body = judged.Open body
-judgedClass class.Fixed body = judged.Next (body .stop)
-judgedClass class.Attributes body = judged.Next (body .stop)
+-- any other tag, by its class, if it has no list; it ends at `stop`
+abbrev pub judgedClass : Class → BytePlace → Judged
+judgedClass class.Opaque stop = judged.Next stop
+judgedClass class.End stop = judged.Last stop
+judgedClass class.Container stop = judged.Next stop
+judgedClass class.Fixed stop = judged.Next stop
+judgedClass class.Attributes stop = judged.Next stop
 
-abbrev pub judgedBy : Class → ℕ → Body → Judged
-judgedBy class code body = pick (isLooked class code) (judged.Canvas body) (judgedClass class body)
+-- by whether it has a list
+abbrev pub judgedBy : Class → Bool → ℕ → Body → Judged
+judgedBy class list code body = pick (isLooked class code) (judged.Canvas body) (pick list (judged.Open body) (judgedClass class (body .stop)))
 
--- its body stands from `start` up to `stop`, and ended so
-abbrev pub judgedEnd : Class → ℕ → ℕ → ℕ → Ending → Judged
-judgedEnd class code start stop (At p) = judgedBy class code (record { start = byteAt start; list = byteAt (start + toByte p); stop = byteAt stop })
-judgedEnd class code start stop (Fault e) = judged.Faulty e
+-- its body stands from `start` up to `stop`, and a list in it p bytes behind its start
+abbrev pub standsAt : ℕ → ℕ → ℕ → Body
+standsAt start p stop = record { start = byteAt start; list = byteAt (start + p); stop = byteAt stop }
+
+-- and ended so
+abbrev pub judgedEnd : Class → Bool → ℕ → ℕ → ℕ → Ending → Judged
+judgedEnd class list code start stop (At p) = judgedBy class list code (standsAt start (toByte p) stop)
+judgedEnd class list code start stop (Fault e) = judged.Faulty e
 
 -- the tag at i of the list r, by its header
 abbrev pub judgedAt : Order → Class → List ℕ → ℕ → paper.Head → Judged
 judgedAt o class r i (paper.noHead e) = judged.NoTag e
 judgedAt o class r i (paper.head code len size) =
-    judgedEnd class code (i + size) (i + size + len) (valuesOf o class code (take len (drop size (drop i r))) .ended)
+    judgedEnd class (listOf o class code (take len (drop size (drop i r)))) code (i + size) (i + size + len) (valuesOf o class code (take len (drop size (drop i r))) .ended)
 
 -- by its header, and the class that its code has among these
 abbrev pub judgedIn : Order → List ℕ → ℕ → List ℕ → ℕ → Judged
@@ -109,4 +114,4 @@ told (wanted.refused e n) h = bare (seen.Refused e n) h
 
 -- with the values of a body
 abbrev pub filled : Order → List ℕ → ℕ → CanvasSize
-filled o body h = record { seen = seen.Found; values = sets zeros 0 (toEnd o body (fixed (fixedOf 3)) .shown); headers = h }
+filled o body h = record { seen = seen.Found; values = sets zeros 0 (readBody o (fixed compositionAttributes) body .shown); headers = h }

@@ -4,11 +4,11 @@ ghost use Prim.Native.Nat.{_+_, _≤_, _<_, _^_};
 ghost use lib.ListN.{length};
 ghost use Rattle.format.specs.FileAndTags.{head, walkList};
 ghost use Rattle.bits.specs.Places.{orderOf};
-ghost use Rattle.bodies.specs.Shown.{shownEnd};
-ghost use Rattle.tags.specs.Shown.{valuesOf};
+ghost use Rattle.bodies.specs.Shown.{shownEnd, isOpen, opens};
+ghost use Rattle.tags.specs.Shown.{valuesOf, listOf};
 ghost use Rattle.lists.specs.Lists.{ownerOf, classesIn, Tabled};
 ghost use Rattle.canvas.specs.Canvas.{canvasOf, canvasFile};
-ghost use Rattle.canvas.specs.Looking.{isLooked, judgedBy, judgedAt, judgedIn, afterEnd, Looks, Bounds, bare, filled, told};
+ghost use Rattle.canvas.specs.Looking.{isLooked, judgedBy, standsAt, judgedAt, judgedIn, afterEnd, Looks, Bounds, bare, filled, told};
 use bits::BytePlace;
 use bits::Order;
 use bodies::Shown;
@@ -80,18 +80,21 @@ fn is_looked(class: Class, code: u32) -> bool
     }
 }
 
-// A tag whose body is good, by its class.
-fn by_class(class: Class, code: u32, body: Body) -> Judged
-    ensures { λ r. ⌜ r ≡ judgedBy class code body ⌝ }
+// A tag whose body is good, by its class and by whether it has a list.
+fn by_class(class: Class, list: bool, code: u32, body: Body) -> Judged
+    ensures { λ r. ⌜ r ≡ judgedBy class list code body ⌝ }
 {
     if is_looked(class, code) {
         return Judged::Canvas(body);
+    }
+    if list {
+        return Judged::Open(body);
     }
     let stop = body.stop;
     match class {
         Class::Opaque => Judged::Next(stop),
         Class::End => Judged::Last(stop),
-        Class::Container => Judged::Open(body),
+        Class::Container => Judged::Next(stop),
         Class::Fixed => Judged::Next(stop),
         Class::Attributes => Judged::Next(stop),
     }
@@ -100,15 +103,28 @@ fn by_class(class: Class, code: u32, body: Body) -> Judged
 // The values of a tag are judged, by its class, and nothing is stored: where they end in its body, for a container where its list starts; or a reason.
 fn judge_values(order: Order, class: Class, code: u32, body: &[u8]) -> Shown
     requires { ⌜ length (now body) ≤ 16777216 ⌝ }
-    ensures { λ r. ⌜ shownEnd r ≡ valuesOf (orderOf order) class code (now (body .entry)) .ended ⌝ }
+    ensures { λ r. ⌜ (shownEnd r ≡ valuesOf (orderOf order) class code (now (body .entry)) .ended) × (isOpen r ≡ opens (listOf (orderOf order) class code (now (body .entry))) (shownEnd r)) ⌝ }
 {
     let mut none = [0u64; 1];
     match class {
         Class::Opaque => Shown::Done(BytePlace(0), 0),
         Class::End => Shown::Done(BytePlace(0), 0),
-        Class::Container => bodies::read_to_end(order, false, code, body, &mut none[..0], 0),
+        Class::Container => bodies::read_container(order, code, body, &mut none[..0], 0),
         Class::Fixed => bodies::read_body(order, code, body, &mut none[..0], 0),
         Class::Attributes => bodies::read_body(order, code, body, &mut none[..0], 0),
+    }
+}
+
+// A body from a place of the room up to another, with a list this far behind its start.
+fn stands_at(start: usize, list: BytePlace, stop: usize) -> Body
+    requires { ⌜ start + list .0 < 2 ^ 60 ⌝ }
+    ensures { λ r. ⌜ r ≡ standsAt start (list .0) stop ⌝ }
+{
+    let behind = start + list.0;
+    Body {
+        start: BytePlace(start),
+        list: BytePlace(behind),
+        stop: BytePlace(stop),
     }
 }
 
@@ -122,18 +138,8 @@ fn judge_body(order: Order, class: Class, header: Header, room: &[u8], place: By
     let stop = start + header.length as usize;
     match judge_values(order, class, code, &room[start..stop]) {
         Shown::Stop(why, _) => Judged::Faulty(why),
-        Shown::Done(next, _) => {
-            let list = start + next.0;
-            by_class(
-                class,
-                code,
-                Body {
-                    start: BytePlace(start),
-                    list: BytePlace(list),
-                    stop: BytePlace(stop),
-                },
-            )
-        }
+        Shown::Done(next, _) => by_class(class, false, code, stands_at(start, next, stop)),
+        Shown::Open(next, _) => by_class(class, true, code, stands_at(start, next, stop)),
     }
 }
 
@@ -251,7 +257,7 @@ fn with(order: Order, body: &[u8], headers: usize) -> CanvasSize
     ensures { λ r. ⌜ r ≡ filled (orderOf order) (now (body .entry)) headers ⌝ }
 {
     let mut values = [0u64; 7];
-    bodies::read_to_end(order, false, 3, body, &mut values, 0);
+    bodies::read_body(order, 3, body, &mut values, 0);
     CanvasSize {
         seen: Seen::Found,
         values: values,

@@ -9,7 +9,6 @@ use lib.Dec.{ltb}
 use borrow.Author.Tests.{lt-ltb, le-ltb, ltb-true, ltb-false}
 use Rattle.format.specs.Tests.{pick}
 use Rattle.format.specs.Bits.{Order}
-use Rattle.format.specs.Formats.{Format}
 use Rattle.format.specs.Bodies.{Body, fixed, attributes}
 use Rattle.format.specs.FileAndTags as paper
 use Rattle.format.specs.FileAndTags.{opaque, end, container, known, codes, classOf, isEnd, isContainer, isRead}
@@ -27,14 +26,14 @@ use Rattle.classes.proofs.Table.{at, at-grid}
 pub is-end : (c : paper.Class) → named c ≡ End → c ≡ end
 is-end opaque e = cc
 is-end end e = refl
-is-end (container f) e = cc
+is-end (container y) e = cc
 is-end (known (fixed f)) e = cc
 is-end (known (attributes rows)) e = cc
 
 pub is-opaque : (c : paper.Class) → named c ≡ Opaque → c ≡ opaque
 is-opaque opaque e = refl
 is-opaque end e = cc
-is-opaque (container f) e = cc
+is-opaque (container y) e = cc
 is-opaque (known (fixed f)) e = cc
 is-opaque (known (attributes rows)) e = cc
 
@@ -42,7 +41,7 @@ is-opaque (known (attributes rows)) e = cc
 rules-named : (c : paper.Class) → (isEnd c ≡ ends (named c)) × (isContainer c ≡ contains (named c)) × (isRead c ≡ isRead (bare (named c)))
 rules-named opaque = (refl, refl, refl)
 rules-named end = (refl, refl, refl)
-rules-named (container f) = (refl, refl, refl)
+rules-named (container y) = (refl, refl, refl)
 rules-named (known (fixed f)) = (refl, refl, refl)
 rules-named (known (attributes rows)) = (refl, refl, refl)
 
@@ -69,7 +68,7 @@ unfolding classOf
 up-to-level level code h = rw (le-ltb level code h)
 
 -- no code past the listed ones has another class
-pub past-codes : (level code : ℕ) → 15 ≤ code → classOf level code ≡ opaque
+pub past-codes : (level code : ℕ) → 28 ≤ code → classOf level code ≡ opaque
 past-codes level code h = go (ltb level code) refl
   where
     go : (z : Bool) → ltb level code ≡ z → classOf level code ≡ opaque
@@ -88,17 +87,17 @@ spelt y l Attributes code = known (y code)
 
 -- y and l are right at each listed code
 abbrev pub Right : (ℕ → Body) → (ℕ → paper.Class) → Type 0
-Right y l = codes ≡ tab (λ k. spelt y l (named (getD codes k opaque)) k) 0 15
+Right y l = codes ≡ tab (λ k. spelt y l (named (getD codes k opaque)) k) 0 28
 
 pub by-code : (y : ℕ → Body) (l : ℕ → paper.Class) → Right y l → (level code : ℕ) → classOf level code ≡ spelt y l (classAt level code) code
-by-code y l r level code = go (ltb level code) refl (ltb code 15) refl
+by-code y l r level code = go (ltb level code) refl (ltb code 28) refl
   where
-    go : (z : Bool) → ltb level code ≡ z → (z′ : Bool) → ltb code 15 ≡ z′ → classOf level code ≡ spelt y l (classAt level code) code
+    go : (z : Bool) → ltb level code ≡ z → (z′ : Bool) → ltb code 28 ≡ z′ → classOf level code ≡ spelt y l (classAt level code) code
     go true e z′ e′ = rw (above-level level code (ltb-true level code e))
-    go false e false e′ = rw (past-codes level code (ltb-false code 15 e′))
+    go false e false e′ = rw (past-codes level code (ltb-false code 28 e′))
     go false e true e′ =
         rw (up-to-level level code (ltb-false level code e))
-        (at (λ k. spelt y l (named (getD codes k opaque)) k) opaque 15 codes r code (ltb-true code 15 e′))
+        (at (λ k. spelt y l (named (getD codes k opaque)) k) opaque 28 codes r code (ltb-true code 28 e′))
 
 -- as a caller has it: any y and l that pass the test
 module _ (y : ℕ → Body) (l : ℕ → paper.Class) (r : Right y l) (level code : ℕ) where
@@ -117,7 +116,7 @@ pub named-skimmed : (scope : Scope) (c : paper.Class) → named (skimmed scope c
 named-skimmed All c = refl
 named-skimmed Lists opaque = refl
 named-skimmed Lists end = refl
-named-skimmed Lists (container f) = refl
+named-skimmed Lists (container y) = refl
 named-skimmed Lists (known (fixed f)) = refl
 named-skimmed Lists (known (attributes rows)) = refl
 
@@ -130,14 +129,14 @@ pub end-skimmed : (scope : Scope) (c : paper.Class) → isEnd (skimmed scope c) 
 end-skimmed All c = refl
 end-skimmed Lists opaque = refl
 end-skimmed Lists end = refl
-end-skimmed Lists (container f) = refl
+end-skimmed Lists (container y) = refl
 end-skimmed Lists (known y) = refl
 
 pub container-skimmed : (scope : Scope) (c : paper.Class) → isContainer (skimmed scope c) ≡ isContainer c
 container-skimmed All c = refl
 container-skimmed Lists opaque = refl
 container-skimmed Lists end = refl
-container-skimmed Lists (container f) = refl
+container-skimmed Lists (container y) = refl
 container-skimmed Lists (known y) = refl
 
 -- and a list needs no more room
@@ -148,11 +147,11 @@ fair-by o scope level code = go scope (classOf level code) (fair-class o level c
     go All c h = h
     go Lists opaque h = tt
     go Lists end h = tt
-    go Lists (container f) h = h
+    go Lists (container y) h = h
     go Lists (known y) h = tt
 
 -- by its name and the code
-module _ (y : ℕ → Body) (l : ℕ → Format) where
+module _ (y l : ℕ → Body) where
   spelt-skimmed : (scope : Scope) (class : Class) (code : ℕ) → skimmed scope (spelt y (λ k. container (l k)) class code) ≡ spelt y (λ k. container (l k)) (takenAs scope class) code
   spelt-skimmed All class code = refl
   spelt-skimmed Lists Opaque code = refl

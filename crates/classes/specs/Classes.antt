@@ -20,7 +20,7 @@ use Rattle.classes.specs.declared.Scope.the-variants.{All, Lists}
 abbrev pub named : paper.Class → Class
 named paper.opaque = Opaque
 named paper.end = End
-named (paper.container f) = Container
+named (paper.container y) = Container
 named (paper.known (fixed f)) = Fixed
 named (paper.known (attributes rows)) = Attributes
 
@@ -35,7 +35,7 @@ allClasses = grid (λ code. named (getD codes code paper.opaque)) 32 32
 abbrev pub bare : Class → paper.Class
 bare Opaque = paper.opaque
 bare End = paper.end
-bare Container = paper.container nothing
+bare Container = paper.container (fixed nothing)
 bare Fixed = paper.known (fixed nothing)
 bare Attributes = paper.known (attributes [])
 
@@ -53,7 +53,7 @@ abbrev pub skimmed : Scope → paper.Class → paper.Class
 skimmed All c = c
 skimmed Lists paper.opaque = paper.opaque
 skimmed Lists paper.end = paper.end
-skimmed Lists (paper.container f) = paper.container f
+skimmed Lists (paper.container y) = paper.container y
 skimmed Lists (paper.known y) = paper.opaque
 
 -- by name

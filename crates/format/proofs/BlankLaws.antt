@@ -11,19 +11,16 @@ use native.Mathlib.Omega.{arith}
 use Rattle.format.specs.Tests.{pick}
 use Rattle.format.specs.Bits.{Order, bitAt, orderNamed}
 use Rattle.format.specs.Reading.{Ending, At, Fault}
-use Rattle.format.specs.Formats.{Format}
-use Rattle.format.specs.Items.{run}
-use Rattle.format.specs.FileAndTags.{le16, le32, compression, Class, opaque, end, container, known, classOf, isEnd, isContainer, isRead, longOnShort, stateOf, eights, packed, Tag, Outcome, whole, fault, Walk, chain, Head, head, noHead, rawHead, passes, readHead, Owner, file, inside, TagInside, front, opened, within, afterTag, oneTag, walk, walkList}
+use Rattle.format.specs.Bodies.{Body, toEnd, readBody}
+use Rattle.format.specs.FileAndTags.{le16, le32, compression, Class, opaque, end, container, known, classOf, isEnd, isContainer, isRead, longOnShort, stateOf, eights, packed, Tag, Outcome, whole, fault, Walk, chain, Head, head, noHead, rawHead, passes, readHead, Owner, file, inside, TagInside, leaf, hasList, opened, within, afterTag, oneTag, walk, walkList}
 use Rattle.format.specs.TableOfNumbers.{numbers, table, isOpaque, showing, tagTable}
 use Rattle.format.specs.Levels.{endOf}
 use Rattle.format.specs.Reasons.{startFault, walkFile, Result, gives, result, readFile, readTags, accepted, accepts, refusesWith, into}
 use Rattle.format.specs.Blanking.{InOpaque, here, later, Blanked, InPacked, inThis, inNext, SameBut, zeroed, zeroedTag, Unreached, SameResult, bothRefuse, bothGive}
-use Rattle.format.specs.WritingFormats.{unrun}
 use Rattle.format.specs.WritingItems.{wrote}
 use Rattle.format.specs.Possible.{this}
 use Rattle.format.proofs.BitLaws.{Has}
-use Rattle.format.proofs.ItemLaws.{round-trip}
-use Rattle.format.proofs.ListTrip.{front-whole}
+use Rattle.format.proofs.BodyLaws.{endR, endW, trip-end, end-whole}
 use Rattle.format.proofs.StartLaws.{GoodStart, good-start, start-good}
 use Rattle.format.proofs.StateLaws.{state-opaque}
 use Rattle.format.proofs.Trip.{There, Back}
@@ -133,18 +130,18 @@ module _ (r r′ : List ℕ) (long : length r′ ≡ length r) where
       let p = passed class left (rawHead r) code len size q in
       ap (passes class left r′) (same-raw code len size (p .0) h ∙ sym (p .0)) ∙ p .1
 
--- ---- a format depends on the bytes that it used
+-- ---- the own part of a tag depends on the bytes that it used
 module _ (o : Order) (b b′ : List ℕ) (long : length b′ ≡ length b) (k : ℕ) (same : (i : ℕ) → i < k → getD b′ i 0 ≡ getD b i 0) where
   has-same : (p : ℕ) (bs : List Bool) → p + length bs ≤ 8 * k → Has o b p bs → Has o b′ p bs
   unfolding bitAt
   has-same p [] l h = rw long h
   has-same p (x ∷ bs) l h = (rw (same (p / 8) (omega arith)) (h .0), has-same (suc p) bs (omega arith) (h .1))
 
-  run-same : (f : Format) (q : ℕ) → q ≤ 8 * k → run o b f 0 .ended ≡ At q → run o b′ f 0 ≡ run o b f 0
-  run-same f q l e =
-      let u : There o b 0 q (run o b f 0 .shown) (λ ns p. unrun o f ns p) = rw e at (round-trip o f .there b 0 (omega arith)) in
-      let w : unrun o f (run o b f 0 .shown ++ []) 0 ≡ this (wrote (run o b f 0 .shown) (u .bits) []) = u .again [] in
-      let v : Back o (run o b f 0 .shown ++ []) (run o b f 0 .shown) (u .bits) [] 0 (λ b p. run o b f p) = rw w at (round-trip o f .back (run o b f 0 .shown ++ []) 0) in
+  own-same : (y : Body) (q : ℕ) → q ≤ 8 * k → toEnd o b y .ended ≡ At q → toEnd o b′ y ≡ toEnd o b y
+  own-same y q l e =
+      let u : There o b 0 q (toEnd o b y .shown) (endW o y) = rw e at (trip-end o y .there b 0 (omega arith)) in
+      let w : endW o y (toEnd o b y .shown ++ []) 0 ≡ this (wrote (toEnd o b y .shown) (u .bits) []) = u .again [] in
+      let v : Back o (toEnd o b y .shown ++ []) (toEnd o b y .shown) (u .bits) [] 0 (endR o y) = rw w at (trip-end o y .back (toEnd o b y .shown ++ []) 0) in
       v .reads b′ (has-same 0 (u .bits) (omega (arith, u .ends)) (u .has)) ∙ sym (v .reads b (u .has))
 
 -- ---- what is left of a walk without the packed bytes
@@ -199,15 +196,18 @@ module _ (o : Order) (class : ℕ → Class) where
     same-within opaque a s body body′ l n h = (refl, zeroed-packed body body′ n)
     same-within end a s body body′ l n h = (refl, refl)
     same-within (known y) a s body body′ l n h = rw (alike-none s body body′ (h refl)) (refl, refl)
-    same-within (container f) a s body body′ l n h = go (run o body (front f) 0 .ended) refl (h refl)
+    same-within (container y) a s body body′ l n h = test (hasList y (toEnd o body y .shown)) refl (h refl)
       where
-        go : (z : Ending) → run o body (front f) 0 .ended ≡ z → Alike s (opened R a s body (run o body (front f) 0 .shown) (run o body (front f) 0 .ended) .walk .tags) body body′
-            → SameInside (container f) (within o R (container f) a s body) (within o R (container f) a s body′)
-        go (Fault e) q u = rw (alike-none s body body′ (rw q at u)) (refl, refl)
-        go (At p) q u = rw (run-same o body body′ n (p / 8) front-same (front f) p (omega (arith, ends)) q, q) (lists (inside a) (s + p / 8) (drop (p / 8) body) (drop (p / 8) body′) (omega arith) rest, refl)
+        Same : TagInside → TagInside → Type 0
+        Same i i′ = SameInside (container y) i i′
+
+        go : (z : Ending) → toEnd o body y .ended ≡ z → hasList y (toEnd o body y .shown) ≡ true → Alike s (opened R a s body (toEnd o body y .shown) (toEnd o body y .ended) .walk .tags) body body′
+            → Same (within o R (container y) a s body) (within o R (container y) a s body′)
+        go (Fault e) q t u = rw (alike-none s body body′ (rw q at u)) (refl, refl)
+        go (At p) q t u = rw (own-same o body body′ n (p / 8) front-same y p (omega (arith, ends)) q, t, q) (lists (inside a) (s + p / 8) (drop (p / 8) body) (drop (p / 8) body′) (omega arith) rest, refl)
           where
             ends : 8 * (p / 8) ≡ p
-            ends = rw q at (front-whole o f body)
+            ends = rw q at (end-whole o y body)
 
             opens : Alike s (R (inside a) (s + p / 8) (drop (p / 8) body) .tags) body body′
             opens = rw q at u
@@ -221,6 +221,12 @@ module _ (o : Order) (class : ℕ → Class) where
               long = rw (length-drop (p / 8) body′, length-drop (p / 8) body, n);
               same = λ i k. rw (getD-drop (p / 8) body′ i 0, getD-drop (p / 8) body i 0) (opens .same (p / 8 + i) (subst (λ (m : ℕ). InOpaque m (R (inside a) (s + p / 8) (drop (p / 8) body) .tags) → ⊥) (omega arith) k));
             }
+
+        test : (c : Bool) → hasList y (toEnd o body y .shown) ≡ c
+            → Alike s (pick c (opened R a s body (toEnd o body y .shown) (toEnd o body y .ended)) (leaf a (readBody o y body)) .walk .tags) body body′
+            → Same (within o R (container y) a s body) (within o R (container y) a s body′)
+        test true t u = go (toEnd o body y .ended) refl t u
+        test false t u = rw (alike-none s body body′ u) (refl, refl)
 
   same-after : (next : ℕ → List ℕ → Walk) (e : Bool) (c : Owner) (b : ℕ) (q q′ : List ℕ) → (Alike b (next b q .tags) q q′ → zeroedWalk (next b q′) ≡ zeroedWalk (next b q))
       → Alike b (afterTag e c b q next .tags) q q′ → zeroedWalk (afterTag e c b q′ next) ≡ zeroedWalk (afterTag e c b q next)

@@ -11,7 +11,7 @@ use Rattle.format.specs.Bits.{Order}
 use Rattle.format.specs.Reading.{Ending, At, Fault, Reading}
 use Rattle.format.specs.Formats.{Item, Format, nothing, item, only, _▹_}
 use Rattle.format.specs.Items.{readItem, readFlag, Num, num, bad, showNum, run}
-use Rattle.format.specs.Bodies.{Kind, Value, Fixed, BitFlag, Simple, Discrete, MultiDimension, Spatial, Attribute, flagsOf, content, allFlags, rows, handOn, readBlock}
+use Rattle.format.specs.Bodies.{Kind, Value, Fixed, BitFlag, Simple, Discrete, MultiDimension, Spatial, Custom, Attribute, flagsOf, content, allFlags, rows, handOn, readBlock}
 use Rattle.format.specs.Possible.{Possible, this, cannot}
 use Rattle.format.specs.WritingItems.{Written, wrote, writeItem}
 use Rattle.format.specs.WritingFormats.{passing, adjoin, onward, unrun}
@@ -68,6 +68,7 @@ same-item o Item.align ns p q = (refl, refl)
 same-item o (Item.UB n) ns p q = same-refl (writeItem o (Item.UB n) ns p)
 same-item o (Item.SB n) ns p q = same-refl (writeItem o (Item.SB n) ns p)
 same-item o Item.width ns p q = same-refl (writeItem o Item.width ns p)
+same-item o Item.dashLength ns p q = same-refl (writeItem o Item.dashLength ns p)
 same-item o Item.U32 ns p q = same-refl (writeItem o Item.U32 ns p)
 same-item o Item.U64 ns p q = same-refl (writeItem o Item.U64 ns p)
 same-item o Item.I32 ns p q = same-refl (writeItem o Item.I32 ns p)
@@ -186,6 +187,7 @@ module _ (o : Order) where
       by Discrete h = go (readFlag o b p 2) h
       by MultiDimension h = go (readFlag o b p 2) h
       by Spatial h = go (readFlag o b p 3) h
+      by Custom h = go (readFlag o b p 1) h
 
   pub as-many : (attrs : List Attribute) (b : List ℕ) (p q : ℕ) → run o b (allFlags attrs) p .ended ≡ At q → length (run o b (allFlags attrs) p .shown) ≡ length attrs
   unfolding run allFlags

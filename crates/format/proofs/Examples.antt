@@ -189,7 +189,7 @@ neither-examples = refl
 -- ---- Long headers on short bodies (C-11). "The state of a tag gains 2 when a long header carries a body below 63 …; End may come this way with
 -- length 0." A long header is code × 64 + 63 in two bytes, and the length in four.
 
-abbrev zeros : ℕ → List ℕ
+abbrev pub zeros : ℕ → List ℕ
 zeros zero = []
 zeros (suc n) = 0 ∷ zeros n
 

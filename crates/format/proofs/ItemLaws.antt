@@ -123,8 +123,8 @@ unextend-extend n u = go (ltb (u * 2) (2 ^ n)) refl
 pub num-sb : (o : Order) (n : ℕ) → NumTrip o (λ b p. mapNum (signExtend n) (readUB o b p n)) (undo (signExtend n) (unextend n) (spellUB o n))
 num-sb o n = num-map o _ _ (signExtend n) (unextend n) (λ b p v q e. unextend-extend n v) (num-ub o n)
 
-pub num-width : (o : Order) → NumTrip o (λ b p. mapNum suc (readUB o b p 5)) (undo suc pred (spellUB o 5))
-num-width o = num-map o _ _ suc pred (λ b p v q e. refl) (num-ub o 5)
+pub num-suc : (o : Order) (n : ℕ) → NumTrip o (λ b p. mapNum suc (readUB o b p n)) (undo suc pred (spellUB o n))
+num-suc o n = num-map o _ _ suc pred (λ b p v q e. refl) (num-ub o n)
 
 -- a field, and what is read after it
 has-field : (o : Order) (b : List ℕ) (p n v : ℕ) (bs : List Bool) → v < 2 ^ n → Has o b p (dig o n v ++ bs)
@@ -523,7 +523,8 @@ unfolding readItem writeItem
 trip-item o Item.align = trip-align o
 trip-item o (Item.UB n) = trip-num o _ _ (num-ub o n)
 trip-item o (Item.SB n) = trip-num o _ _ (num-sb o n)
-trip-item o Item.width = trip-num o _ _ (num-width o)
+trip-item o Item.width = trip-num o _ _ (num-suc o 5)
+trip-item o Item.dashLength = trip-num o _ _ (num-suc o 3)
 trip-item o Item.U32 = trip-num o _ _ (num-var o 15 (lit< tt) 4)
 trip-item o Item.U64 = trip-num o _ _ (num-var o 1 (lit< tt) 9)
 trip-item o Item.I32 = trip-num o _ _ (num-i32 o)

@@ -13,13 +13,12 @@ use native.Mathlib.Omega.{arith}
 use Rattle.format.specs.Tests.{pick}
 use Rattle.format.specs.Bits.{Order, orderNamed}
 use Rattle.format.specs.Reading.{Ending, At, Fault}
-use Rattle.format.specs.Formats.{Format}
-use Rattle.format.specs.Items.{run}
-use Rattle.format.specs.Bodies.{readBody}
-use Rattle.format.specs.FileAndTags.{Class, opaque, end, container, known, codes, classOf, isEnd, isContainer, longOnShort, stateOf, packed, Tag, Outcome, whole, fault, Walk, broken, chain, Head, head, noHead, rawHead, passes, readHead, Owner, file, inside, TagInside, endAt, noTags, front, opened, within, afterTag, tagThen, oneTag, walk, walkList}
+use Rattle.format.specs.Bodies.{Body, toEnd, readBody}
+use Rattle.format.specs.FileAndTags.{Class, opaque, end, container, known, codes, classOf, isEnd, isContainer, longOnShort, stateOf, packed, Tag, Outcome, whole, fault, Walk, broken, chain, Head, head, noHead, rawHead, passes, readHead, Owner, file, inside, TagInside, endAt, noTags, hasList, leaf, opened, within, afterTag, tagThen, oneTag, walk, walkList}
 use Rattle.format.specs.Reasons.{startFault, walkFile}
 use Rattle.format.specs.Levels.{endOf, veil, hideFrom, hide, InHidden, here, later, Refuses, alike, apart, Levels}
-use Rattle.format.proofs.WalkLaws.{run-le, RawFits, raw-fits, Between, between-wider, FaultIn, Before, before-later, Placed, placed-within, placed-after, placed}
+use Rattle.format.proofs.WalkLaws.{RawFits, raw-fits, Between, between-wider, FaultIn, Before, before-later, Placed, placed-within, placed-after, placed}
+use Rattle.format.proofs.BodyLaws.{end-le}
 use Rattle.format.proofs.StateLaws.{state-veiled}
 use Rattle.format.proofs.StartLaws.{good-start}
 use Rattle.format.proofs.Absurd.{clash}
@@ -215,6 +214,9 @@ module _ (ch cl : ℕ → Class) (lo : ℕ)
           (tagThen d code a size (length body) st (within o (RH left) C a (a + size) body) Hw .ended)
       kin-class left B C d code a size st body Hw Lw small pos p v y = by C
         where
+          KinIn : TagInside → TagInside → Type 0
+          KinIn i j = Kin lo f a (tagThen d code a size (length body) st i Hw) (tagThen d code a size (length body) st j Lw) (tagThen d code a size (length body) st i Hw .ended)
+
           sure : (vs : List ℕ) (Hi Li : Walk) → Between (a + size) (a + size + length body) (Hi .tags) → Kin lo f (a + size) Hi Li (Hi .ended)
               → Kin lo f a (tagThen d code a size (length body) st (record { values = vs; walk = Hi }) Hw) (tagThen d code a size (length body) st (record { values = vs; walk = Li }) Lw)
               (tagThen d code a size (length body) st (record { values = vs; walk = Hi }) Hw .ended)
@@ -227,24 +229,30 @@ module _ (ch cl : ℕ → Class) (lo : ℕ)
           nest xs k Hi Li u x = sure xs Hi Li (between-wider (a + size + k) (a + size + length body) (a + size) (a + size + length body) (Hi .tags) (omega arith) (omega arith) u)
               (kin-start lo f (a + size) (a + size + k) (a + size + length body) Hi Li (Hi .ended) (omega arith) u x)
 
-          deep : (g : Format) (xs : List ℕ) (z : Ending) → run o body (front g) 0 .ended ≡ z
+          deep : (y : Body) (xs : List ℕ) (z : Ending) → toEnd o body y .ended ≡ z
               → Kin lo f a (tagThen d code a size (length body) st (opened (RH left) a (a + size) body xs z) Hw) (tagThen d code a size (length body) st (opened (RL left) a (a + size) body xs z) Lw)
               (tagThen d code a size (length body) st (opened (RH left) a (a + size) body xs z) Hw .ended)
-          deep g xs (Fault e) eq = sure xs (broken e a) (broken e a) tt (inl refl)
-          deep g xs (At q) eq =
-              let l : (0 ≤ q) × (q ≤ 8 * length body) = run-le o body (front g) 0 q (omega arith) eq in
-              let m : q / 8 ≤ length body = omega (arith, l .1) in
+          deep y xs (Fault e) eq = sure xs (broken e a) (broken e a) tt (inl refl)
+          deep y xs (At q) eq =
+              let m : q / 8 ≤ length body = omega (arith, end-le o y body q eq) in
               let n : a + size + q / 8 + length (drop (q / 8) body) ≡ a + size + length body = rw length-drop (omega arith) in
               nest xs (q / 8) (RH left (inside a) (a + size + q / 8) (drop (q / 8) body)) (RL left (inside a) (a + size + q / 8) (drop (q / 8) body))
               (rw n at (puts left (inside a) (a + size + q / 8) (drop (q / 8) body) (omega arith) .tags))
               (kins left (inside a) (a + size + q / 8) (drop (q / 8) body) (omega arith) (part-drop f (a + size) (q / 8) body m p))
 
+          flat : (y : Body) → KinIn (leaf a (readBody o y body)) (leaf a (readBody o y body))
+          flat y = sure (readBody o y body .shown) (noTags (endAt a (readBody o y body .ended))) (noTags (endAt a (readBody o y body .ended))) tt (kin-none lo f (a + size) (endAt a (readBody o y body .ended)))
+
+          test : (c : Bool) (i j x : TagInside) → KinIn i j → KinIn x x → KinIn (pick c i x) (pick c j x)
+          test true i j x u w = u
+          test false i j x u w = w
+
           by : (C : Class) → Kin lo f a (tagThen d code a size (length body) st (within o (RH left) C a (a + size) body) Hw) (tagThen d code a size (length body) st (within o (RL left) C a (a + size) body) Lw)
               (tagThen d code a size (length body) st (within o (RH left) C a (a + size) body) Hw .ended)
           by opaque = sure (packed body) (noTags whole) (noTags whole) tt (refl, refl)
           by end = sure [] (noTags whole) (noTags whole) tt (refl, refl)
-          by (known y) = sure (readBody o y body .shown) (noTags (endAt a (readBody o y body .ended))) (noTags (endAt a (readBody o y body .ended))) tt (kin-none lo f (a + size) (endAt a (readBody o y body .ended)))
-          by (container g) = deep g (run o body (front g) 0 .shown) (run o body (front g) 0 .ended) refl
+          by (known y) = flat y
+          by (container y) = test (hasList y (toEnd o body y .shown)) _ _ _ (deep y (toEnd o body y .shown) (toEnd o body y .ended) refl) (flat y)
 
       module _ (left : ℕ) (c : Owner) (a : ℕ) (r : List ℕ) (h : Before c a) (p : Part f a r) where
         abbrev Goal : Head → Head → Type 0
@@ -333,7 +341,7 @@ abbrev Going : List Class → Type 0
 Going [] = Unit {0}
 Going (opaque ∷ l) = Going l
 Going (end ∷ l) = ⊥
-Going (container f ∷ l) = Going l
+Going (container y ∷ l) = Going l
 Going (known y ∷ l) = Going l
 
 going-on : (l : List Class) → Going l → (n : ℕ) → isEnd (getD l n opaque) ≡ false
@@ -341,8 +349,8 @@ going-on [] h n = refl
 going-on (end ∷ l) h n = absurd h
 going-on (opaque ∷ l) h zero = refl
 going-on (opaque ∷ l) h (suc n) = going-on l h n
-going-on (container f ∷ l) h zero = refl
-going-on (container f ∷ l) h (suc n) = going-on l h n
+going-on (container y ∷ l) h zero = refl
+going-on (container y ∷ l) h (suc n) = going-on l h n
 going-on (known y ∷ l) h zero = refl
 going-on (known y ∷ l) h (suc n) = going-on l h n
 

@@ -1,6 +1,7 @@
 -- The theorems: document 01's examples; the round trip; two levels of one file; the plain table and the packed one; how much room tables need; the reasons of refusals; a good start; what an answer says.
 pub mod Examples
 pub mod TransformExamples
+pub mod ShapeExamples
 pub mod Tested
 pub mod RoundTrip
 pub mod Promises

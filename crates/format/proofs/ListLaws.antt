@@ -11,13 +11,13 @@ use Rattle.format.specs.Tests.{pick}
 use Rattle.format.specs.Bits.{Order}
 use Rattle.format.specs.Reading.{Ending, At, Fault}
 use Rattle.format.specs.Formats.{the}
-use Rattle.format.specs.Items.{run}
-use Rattle.format.specs.FileAndTags.{Class, opaque, end, container, known, isEnd, Walk, broken, Head, head, noHead, stateOf, readHead, Owner, inside, blame, TagInside, front, opened, within, afterTag, tagThen, oneTag, walk, walkList}
-use Rattle.format.specs.WritingFormats.{unrun}
+use Rattle.format.specs.Bodies.{toEnd, readBody}
+use Rattle.format.specs.FileAndTags.{Class, opaque, end, container, known, isEnd, Walk, broken, Head, head, noHead, stateOf, readHead, Owner, inside, blame, TagInside, leaf, hasList, opened, within, afterTag, tagThen, oneTag, walk, walkList}
 use Rattle.format.specs.Possible.{Possible, this, cannot}
-use Rattle.format.specs.WritingBodies.{wholeBytes, writeBody}
+use Rattle.format.specs.WritingBodies.{writeBody}
 use Rattle.format.specs.WritingFiles.{Made, made, claims, fitsState, spellHead, fitsHead, unpackedAs, bodyOf, joined, fronted, fill, outTag, headed, outOne, unwalk, unwalkList}
 use Rattle.format.proofs.WalkLaws.{Fits, head-fits}
+use Rattle.format.proofs.Absurd.{either-way}
 
 -- ---- reading
 module _ (o : Order) (class : ℕ → Class) where
@@ -28,7 +28,8 @@ module _ (o : Order) (class : ℕ → Class) where
     within-alike left opaque a s body l = refl
     within-alike left end a s body l = refl
     within-alike left (known y) a s body l = refl
-    within-alike left (container f) a s body l = go (run o body (front f) 0 .shown) (run o body (front f) 0 .ended)
+    within-alike left (container y) a s body l =
+        ap (λ (i : TagInside). pick (hasList y (toEnd o body y .shown)) i (leaf a (readBody o y body))) (go (toEnd o body y .shown) (toEnd o body y .ended))
       where
         go : (xs : List ℕ) (z : Ending) → opened (R left) a s body xs z ≡ opened (R′ left) a s body xs z
         go xs (Fault e) = refl
@@ -107,12 +108,12 @@ module _ (o : Order) (class : ℕ → Class) where
     short-fill left opaque s n vs ys = short-body left s n vs ys (unpackedAs vs)
     short-fill left end s n vs ys = short-pick _ (eqb n 0) (this (made (s ∷ n ∷ vs) [] ys)) (omega arith)
     short-fill left (known y) s n vs ys = short-body left s n vs ys (writeBody o y vs)
-    short-fill left (container f) s n vs ys = go (eqb left 0) (wholeBytes o (unrun o (front f) vs 0))
+    short-fill left (container y) s n vs ys =
+        either-way (Short (length ys)) (eqb left 0) tt (either-way (Short (length ys)) (hasList y vs) (go (writeBody o y vs)) (short-body left s n vs ys (writeBody o y vs)))
       where
-        go : (c : Bool) (b : Possible (List ℕ)) → Short (length ys) (pick c cannot (fronted (s ∷ n ∷ vs) b (U (pred left) ys)))
-        go true b = tt
-        go false cannot = tt
-        go false (this b) = short-joined (length ys) (s ∷ n ∷ vs) b (U (pred left) ys) (short (pred left) ys)
+        go : (b : Possible (List ℕ)) → Short (length ys) (fronted (s ∷ n ∷ vs) b (U (pred left) ys))
+        go cannot = tt
+        go (this b) = short-joined (length ys) (s ∷ n ∷ vs) b (U (pred left) ys) (short (pred left) ys)
 
     short-tag : (left : ℕ) (cl : Class) (ns : List ℕ) → Short (length ns) (outTag o (U (pred left)) left cl ns)
     short-tag left cl [] = tt
@@ -145,8 +146,8 @@ module _ (o : Order) (class : ℕ → Class) where
     fill-alike left opaque s n vs ys l = refl
     fill-alike left end s n vs ys l = refl
     fill-alike left (known y) s n vs ys l = refl
-    fill-alike left (container f) s n vs ys l =
-        ap (λ (x : Possible Made). pick (eqb left 0) cannot (fronted (s ∷ n ∷ vs) (wholeBytes o (unrun o (front f) vs 0)) x)) (alike (pred left) ys l)
+    fill-alike left (container y) s n vs ys l =
+        ap (λ (x : Possible Made). pick (eqb left 0) cannot (pick (hasList y vs) (fronted (s ∷ n ∷ vs) (writeBody o y vs) x) (bodyOf (s ∷ n ∷ vs) (writeBody o y vs) ys))) (alike (pred left) ys l)
 
     tag-alike : (left : ℕ) (cl : Class) (ns : List ℕ) → length ns ≤ m → outTag o (U (pred left)) left cl ns ≡ outTag o (U′ (pred left)) left cl ns
     tag-alike left cl [] l = refl

@@ -9,28 +9,22 @@ use lib.Dec.{ltb, leb, eqb}
 use borrow.Author.Tests.{ltb-true, leb-true, eqb-true, lt-ltb, le-ltb, le-leb}
 use native.Mathlib.Omega.{arith}
 use Rattle.format.specs.Tests.{pick}
-use Rattle.format.specs.Bits.{AllBytes, Order, ub}
-use Rattle.format.specs.Reading.{Ending, At, Fault, shows, stop}
-use Rattle.format.specs.Formats.{Format, the}
-use Rattle.format.specs.Items.{skipped, readItem, run}
-use Rattle.format.specs.Bodies.{readBody}
-use Rattle.format.specs.FileAndTags.{Class, opaque, end, container, known, isEnd, isContainer, isRead, longOnShort, stateOf, packed, Tag, Outcome, whole, fault, Walk, chain, Head, head, noHead, rawHead, passes, readHead, Owner, inside, TagInside, front, opened, within, atEnd, afterTag, tagThen, oneTag, walkList}
+use Rattle.format.specs.Bits.{AllBytes, Order}
+use Rattle.format.specs.Reading.{Ending, At, Fault, Reading, shows}
+use Rattle.format.specs.Formats.{the}
+use Rattle.format.specs.Bodies.{Body, toEnd, readBody}
+use Rattle.format.specs.FileAndTags.{Class, opaque, end, container, known, isEnd, isContainer, isRead, longOnShort, stateOf, packed, Tag, Outcome, whole, fault, Walk, chain, Head, head, noHead, rawHead, passes, readHead, Owner, inside, TagInside, leaf, hasList, opened, within, atEnd, afterTag, tagThen, oneTag, walkList}
 use Rattle.format.specs.TableOfNumbers.{numbers}
 use Rattle.format.specs.Possible.{Possible, this, cannot}
-use Rattle.format.specs.WritingItems.{Written, wrote, writeItem}
-use Rattle.format.specs.WritingFormats.{unrun}
-use Rattle.format.specs.WritingBodies.{bytesOf, writeBody}
-use Rattle.format.specs.WritingFiles.{Made, made, claims, fitsState, spellHead, fitsHead, unpackedAs, joined, fill, outTag, headed, outOne, unwalkList}
-use Rattle.format.proofs.BitLaws.{length-dig}
-use Rattle.format.proofs.BodyLaws.{body-there, body-back, ReadIf}
-use Rattle.format.proofs.ByteLaws.{has-bytes-of, bytes-of-bytes, length-bytes-of, bytes-append, bytes-take, bytes-drop, has-more, bytes-of-front}
+use Rattle.format.specs.WritingBodies.{writeBody}
+use Rattle.format.specs.WritingFiles.{Made, made, claims, fitsState, spellHead, fitsHead, unpackedAs, bodyOf, joined, fill, outTag, headed, outOne, unwalkList}
+use Rattle.format.proofs.BodyLaws.{body-shown, front-there, front-back, body-there, body-back, ReadIf}
+use Rattle.format.proofs.ByteLaws.{bytes-append, bytes-take, bytes-drop}
 use Rattle.format.proofs.EngineLaws.{numbers-append}
 use Rattle.format.proofs.HeadLaws.{Lengths, head-back, claim-back, HeadIf, head-there, spell-two, spell-bytes}
-use Rattle.format.proofs.ItemLaws.{round-trip}
 use Rattle.format.proofs.StateLaws.{state-fits, state-claims}
 use Rattle.format.proofs.PackLaws.{unpacked-there, PackedIf, unpacked-back}
 use Rattle.format.proofs.ListLaws.{list-nil, list-one, unlist-nil, unlist-one}
-use Rattle.format.proofs.Trip.{There, Back, has-le}
 use Rattle.format.proofs.WalkLaws.{Fits, head-fits}
 use Rattle.format.proofs.Absurd.{clash}
 
@@ -52,35 +46,6 @@ abbrev pub Again : (List ℕ → Possible Made) → List ℕ → List ℕ → Ty
 Again W xs b = (ys : List ℕ) → W (xs ++ ys) ≡ this (made xs b ys)
 
 module _ (o : Order) where
-  -- the front of a container is whole bytes
-  abbrev WholeEnd : Ending → Type 0
-  WholeEnd (At p) = 8 * (p / 8) ≡ p
-  WholeEnd (Fault e) = Unit {0}
-
-  pub front-whole : (f : Format) (b : List ℕ) → WholeEnd (run o b (front f) 0 .ended)
-  unfolding run readItem
-  front-whole f b = go (run o b f 0 .ended) refl
-    where
-      skip : (m : ℕ) (c : Bool) → WholeEnd (pick c (shows [] (m + skipped m)) (stop 15) .ended)
-      skip m true = omega arith
-      skip m false = tt
-
-      go : (z : Ending) → run o b f 0 .ended ≡ z → WholeEnd (run o b (front f) 0 .ended)
-      go (Fault e) eq = rw eq tt
-      go (At m) eq = rw eq (skip m (eqb (ub o b m (skipped m)) 0))
-
-  abbrev WholeBits : Possible Written → Type 0
-  WholeBits (this (wrote xs bs ys)) = 8 * (length bs / 8) ≡ length bs
-  WholeBits cannot = Unit {0}
-
-  front-bits : (f : Format) (ns : List ℕ) → WholeBits (unrun o (front f) ns 0)
-  unfolding unrun writeItem
-  front-bits f ns = go (unrun o f ns 0) refl
-    where
-      go : (w : Possible Written) → unrun o f ns 0 ≡ w → WholeBits (unrun o (front f) ns 0)
-      go cannot eq = rw eq tt
-      go (this (wrote xs bs ys)) eq = rw eq (rw (length-append, length-dig) (omega arith))
-
   -- values, and the numbers of the list inside
   again-fill : (W : List ℕ → Possible Made) (left : ℕ) (cl : Class) (s : ℕ) (vs cs body : List ℕ) → fitsState cl s ≡ true
       → ((ys : List ℕ) → fill o W left cl s (length vs) vs (cs ++ ys) ≡ this (made (s ∷ length vs ∷ (vs ++ cs)) body ys)) → Again (outTag o W left cl) (s ∷ length vs ∷ (vs ++ cs)) body
@@ -95,6 +60,20 @@ module _ (o : Order) (class : ℕ → Class) where
       → WholeIf (walkList o class left c a r .ended) (Again (unwalkList o class left) (numbers (walkList o class left c a r .tags)) r)
 
   module _ (n : ℕ) (lists : ListThere n) where
+    -- a tag that is written as its body alone
+    leaf-there : (left : ℕ) (cl : Class) (y : Body) (st a : ℕ) (body : List ℕ) → fitsState cl st ≡ true → AllBytes body
+        → ((ys : List ℕ) → fill o (unwalkList o class (pred left)) left cl st (length (readBody o y body .shown)) (readBody o y body .shown) ys
+        ≡ bodyOf (st ∷ length (readBody o y body .shown) ∷ readBody o y body .shown) (writeBody o y (readBody o y body .shown)) ys)
+        → WholeIf (leaf a (readBody o y body) .walk .ended) (Again (outTag o (unwalkList o class (pred left)) left cl) (inNumbers st (leaf a (readBody o y body))) body)
+    leaf-there left cl y st a body k h fills = go (readBody o y body .ended) refl (body-there o y body h)
+      where
+        go : (z : Ending) → readBody o y body .ended ≡ z → ReadIf o y body (readBody o y body .shown) (readBody o y body .ended)
+            → WholeIf (leaf a (readBody o y body) .walk .ended) (Again (outTag o (unwalkList o class (pred left)) left cl) (inNumbers st (leaf a (readBody o y body))) body)
+        go (Fault e) eq u = rw eq tt
+        go (At q) eq u =
+            let v : writeBody o y (readBody o y body .shown) ≡ this body = rw eq at u in
+            rw eq (again-fill o (unwalkList o class (pred left)) left cl st (readBody o y body .shown) [] body k (λ ys. fills ys ∙ rw (v, append-nil)))
+
     tag-there : (left : ℕ) (cl : Class) (st a s : ℕ) (body : List ℕ) → fitsState cl st ≡ true → length body ≤ n → AllBytes body
         → pick (isEnd cl) (ltb 0 (length body)) false ≡ false → pick (isContainer cl) (eqb left 0) false ≡ false
         → WholeIf (within o (walkList o class (pred left)) cl a s body .walk .ended)
@@ -104,16 +83,8 @@ module _ (o : Order) (class : ℕ → Class) where
     tag-there left end st a s [] k l h he hc = again-fill o (unwalkList o class (pred left)) left end st [] [] [] k (λ ys. refl)
     tag-there left end st a s (x ∷ body) k l h he hc =
         absurd (let t : ltb 0 (suc (length body)) ≡ true = lt-ltb 0 (suc (length body)) (omega arith) in clash cc)
-    tag-there left (known y) st a s body k l h he hc = go (readBody o y body .ended) refl (body-there o y body h)
-      where
-        go : (z : Ending) → readBody o y body .ended ≡ z → ReadIf o y body (readBody o y body .shown) (readBody o y body .ended)
-            → WholeIf (within o (walkList o class (pred left)) (known y) a s body .walk .ended)
-            (Again (outTag o (unwalkList o class (pred left)) left (known y)) (inNumbers st (within o (walkList o class (pred left)) (known y) a s body)) body)
-        go (Fault e) eq u = rw eq tt
-        go (At q) eq u =
-            let v : writeBody o y (readBody o y body .shown) ≡ this body = rw eq at u in
-            rw eq (again-fill o (unwalkList o class (pred left)) left (known y) st (readBody o y body .shown) [] body k (λ ys. rw (v, append-nil)))
-    tag-there left (container f) st a s body k l h he hc = go (run o body (front f) 0 .ended) refl
+    tag-there left (known y) st a s body k l h he hc = leaf-there left (known y) y st a body k h (λ ys. refl)
+    tag-there left (container y) st a s body k l h he hc = test (hasList y (toEnd o body y .shown)) refl
       where
         R : Owner → ℕ → List ℕ → Walk
         R = walkList o class (pred left)
@@ -121,29 +92,27 @@ module _ (o : Order) (class : ℕ → Class) where
         W : List ℕ → Possible Made
         W = unwalkList o class (pred left)
 
+        xs : List ℕ
+        xs = toEnd o body y .shown
+
         goal : TagInside → Type 0
-        goal i = WholeIf (i .walk .ended) (Again (outTag o W left (container f)) (inNumbers st i) body)
+        goal i = WholeIf (i .walk .ended) (Again (outTag o W left (container y)) (inNumbers st i) body)
 
-        inner : (p : ℕ) (xs cs : List ℕ) → 8 * (p / 8) ≡ p → There o body 0 p xs (λ ns p. unrun o (front f) ns p) → Again W cs (drop (p / 8) body)
-            → Again (outTag o W left (container f)) (st ∷ length xs ∷ (xs ++ cs)) body
-        inner p xs cs v u i = again-fill o W left (container f) st xs cs body k (λ ys.
-            let q : unrun o (front f) xs 0 ≡ this (wrote xs (u .bits) []) = rw append-nil at (u .again []) in
-            let n : length (u .bits) / 8 ≡ p / 8 = omega (arith, u .ends) in
-            let z : bytesOf o (p / 8) (u .bits) ≡ take (p / 8) body = bytes-of-front o (p / 8) body (u .bits) h (omega (arith, u .ends, has-le o body 0 (u .bits) (u .has))) (omega (arith, u .ends)) (u .has) in
-            rw (hc, q, n, z, i ys, take-append-drop (p / 8) body))
-
-        deep : (p : ℕ) (xs : List ℕ) → There o body 0 p xs (λ ns p. unrun o (front f) ns p) → 8 * (p / 8) ≡ p → (w : Walk)
-            → WholeIf (w .ended) (Again W (numbers (w .tags)) (drop (p / 8) body)) → goal (record { values = xs; walk = w })
-        deep p xs u v w = at (w .ended)
+        deep : (p : ℕ) → toEnd o body y .ended ≡ At p → hasList y xs ≡ true → (w : Walk) → WholeIf (w .ended) (Again W (numbers (w .tags)) (drop (p / 8) body)) → goal (record { values = xs; walk = w })
+        deep p eq t w = at (w .ended)
           where
-            at : (z : Outcome) → WholeIf z (Again W (numbers (w .tags)) (drop (p / 8) body)) → WholeIf z (Again (outTag o W left (container f)) (st ∷ length xs ∷ (xs ++ numbers (w .tags))) body)
-            at (fault e y) i = tt
-            at whole i = inner p xs (numbers (w .tags)) v u i
+            at : (z : Outcome) → WholeIf z (Again W (numbers (w .tags)) (drop (p / 8) body)) → WholeIf z (Again (outTag o W left (container y)) (st ∷ length xs ∷ (xs ++ numbers (w .tags))) body)
+            at (fault e n) i = tt
+            at whole i = again-fill o W left (container y) st xs (numbers (w .tags)) body k (λ ys. rw (hc, t, front-there o y body p h eq, i ys, take-append-drop (p / 8) body))
 
-        go : (z : Ending) → run o body (front f) 0 .ended ≡ z → goal (opened R a s body (run o body (front f) 0 .shown) (run o body (front f) 0 .ended))
-        go (Fault e) eq = rw eq tt
-        go (At p) eq = rw eq (deep p (run o body (front f) 0 .shown) (rw eq at (round-trip o (front f) .there body 0 (omega arith))) (rw eq at (front-whole o f body))
-            (R (inside a) (s + p / 8) (drop (p / 8) body)) (lists (pred left) (inside a) (s + p / 8) (drop (p / 8) body) (rw length-drop (omega arith)) (bytes-drop (p / 8) body h)))
+        go : (z : Ending) → toEnd o body y .ended ≡ z → hasList y xs ≡ true → goal (opened R a s body xs (toEnd o body y .ended))
+        go (Fault e) eq t = rw eq tt
+        go (At p) eq t = rw eq (deep p eq t (R (inside a) (s + p / 8) (drop (p / 8) body))
+            (lists (pred left) (inside a) (s + p / 8) (drop (p / 8) body) (rw length-drop (omega arith)) (bytes-drop (p / 8) body h)))
+
+        test : (c : Bool) → hasList y xs ≡ c → goal (pick c (opened R a s body xs (toEnd o body y .ended)) (leaf a (readBody o y body)))
+        test true t = go (toEnd o body y .ended) refl t
+        test false t = leaf-there left (container y) y st a body k h (λ ys. rw (hc, body-shown o y body, t))
 
     -- one tag, and what follows it
     one-there : (left : ℕ) (c : Owner) (a : ℕ) (r : List ℕ) → length r ≤ suc n → AllBytes r → (g : Head) → Fits class left r g → HeadIf r g
@@ -257,6 +226,19 @@ module _ (o : Order) (class : ℕ → Class) where
       × (fitsState cl (the ns) ≡ true)
   TagIf left cl ns cannot = Unit {0}
 
+  -- a tag that is written as its body alone
+  leaf-back : (left : ℕ) (cl : Class) (y : Body) (s k : ℕ) (vs ys : List ℕ) → fitsState cl s ≡ true → length vs ≡ k
+      → ((body : List ℕ) → pick (isEnd cl) (ltb 0 (length body)) false ≡ false) → pick (isContainer cl) (eqb left 0) false ≡ false
+      → ((a s′ : ℕ) (body : List ℕ) → readBody o y body .shown ≡ vs → within o (walkList o class (pred left)) cl a s′ body ≡ leaf a (readBody o y body))
+      → TagIf left cl (s ∷ k ∷ (vs ++ ys)) (bodyOf (s ∷ k ∷ vs) (writeBody o y vs) ys)
+  leaf-back left cl y s k vs ys e l he hc flat = go (writeBody o y vs) refl
+    where
+      go : (d : Possible (List ℕ)) → writeBody o y vs ≡ d → TagIf left cl (s ∷ k ∷ (vs ++ ys)) (bodyOf (s ∷ k ∷ vs) (writeBody o y vs) ys)
+      go cannot e′ = rw e′ tt
+      go (this b) e′ =
+          let u : AllBytes b × (readBody o y b ≡ shows vs (8 * length b)) = body-back o y b vs e′ in
+          rw e′ (refl, u .0, he b, hc, λ a s′. rw (flat a s′ b (ap (λ (r : Reading). r .shown) (u .1)), u .1) (refl, rw (l, append-nil)), e)
+
   fill-back : (left : ℕ) (cl : Class) (s k : ℕ) (vs ys : List ℕ) → fitsState cl s ≡ true → length vs ≡ k → ListIf (pred left) ys (unwalkList o class (pred left) ys)
       → TagIf left cl (s ∷ k ∷ (vs ++ ys)) (fill o (unwalkList o class (pred left)) left cl s k vs ys)
   fill-back left opaque s k vs ys e l i = go (unpackedAs vs) refl (unpacked-back vs)
@@ -270,14 +252,8 @@ module _ (o : Order) (class : ℕ → Class) where
       go false e′ vs l = rw e′ tt
       go true e′ [] l = rw e′ (refl, tt, refl, refl, λ a s′. (refl, rw (eqb-true k 0 e′)), e)
       go true e′ (x ∷ vs) l = absurd (omega (arith, eqb-true k 0 e′))
-  fill-back left (known y) s k vs ys e l i = go (writeBody o y vs) refl
-    where
-      go : (d : Possible (List ℕ)) → writeBody o y vs ≡ d → TagIf left (known y) (s ∷ k ∷ (vs ++ ys)) (fill o (unwalkList o class (pred left)) left (known y) s k vs ys)
-      go cannot e′ = rw e′ tt
-      go (this b) e′ =
-          let u : AllBytes b × (readBody o y b ≡ shows vs (8 * length b)) = body-back o y b vs e′ in
-          rw e′ (refl, u .0, refl, refl, λ a s′. rw (u .1) (refl, rw (l, append-nil)), e)
-  fill-back left (container f) s k vs ys e l i = go (eqb left 0) refl (unrun o (front f) vs 0) refl (unwalkList o class (pred left) ys) refl
+  fill-back left (known y) s k vs ys e l i = leaf-back left (known y) y s k vs ys e l (λ body. refl) refl (λ a s′ body q. refl)
+  fill-back left (container y) s k vs ys e l i = go (eqb left 0) refl (hasList y vs) refl (writeBody o y vs) refl (unwalkList o class (pred left) ys) refl
     where
       R : Owner → ℕ → List ℕ → Walk
       R = walkList o class (pred left)
@@ -285,31 +261,27 @@ module _ (o : Order) (class : ℕ → Class) where
       W : List ℕ → Possible Made
       W = unwalkList o class (pred left)
 
-      join : (xs cs body ys′ : List ℕ) (bs : List Bool) → eqb left 0 ≡ false → 8 * (length bs / 8) ≡ length bs → Back o vs xs bs [] 0 (λ b p. run o b (front f) p)
+      join : (b cs body ys′ : List ℕ) → eqb left 0 ≡ false → hasList y vs ≡ true → AllBytes b × ((rest : List ℕ) → toEnd o (b ++ rest) y ≡ shows vs (8 * length b))
           → (ys ≡ cs ++ ys′) × AllBytes body × ((c : Owner) (a : ℕ) → Spelt cs (R c a body))
-          → TagIf left (container f) (s ∷ k ∷ (vs ++ ys)) (this (made (s ∷ k ∷ (vs ++ cs)) (bytesOf o (length bs / 8) bs ++ body) ys′))
-      join xs cs body ys′ bs h m u i =
-          let b : List ℕ = bytesOf o (length bs / 8) bs in
-          let r : run o (b ++ body) (front f) 0 ≡ shows xs (0 + length bs) = u .reads (b ++ body) (has-more o b body 0 bs (has-bytes-of o (length bs / 8) bs (sym m))) in
-          let d : drop (length bs / 8) (b ++ body) ≡ body = rw length-bytes-of at (drop-append-seam b body) in
-          let z : (0 + length bs) / 8 ≡ length bs / 8 = omega arith in
-          let x : xs ≡ vs = sym (u .parts ∙ append-nil xs) in (
+          → TagIf left (container y) (s ∷ k ∷ (vs ++ ys)) (this (made (s ∷ k ∷ (vs ++ cs)) (b ++ body) ys′))
+      join b cs body ys′ h t u i =
+          let d : drop (length b) (b ++ body) ≡ body = drop-append-seam b body in
+          let z : 8 * length b / 8 ≡ length b = omega arith in (
             rw (i .0, append-assoc vs cs ys′),
-            bytes-append b body (bytes-of-bytes o (length bs / 8) bs) (i .1),
+            bytes-append b body (u .0) (i .1),
             refl,
             h,
-            λ a s′. rw (r, z, d, x, ← l) (i .2 (inside a) (s′ + length bs / 8) .0, ap (λ (q : List ℕ). s ∷ length vs ∷ (vs ++ q)) (i .2 (inside a) (s′ + length bs / 8) .1)),
+            λ a s′. rw (u .1 body, t, z, d, ← l) (i .2 (inside a) (s′ + length b) .0, ap (λ (q : List ℕ). s ∷ length vs ∷ (vs ++ q)) (i .2 (inside a) (s′ + length b) .1)),
             e,
           )
 
-      go : (b : Bool) → eqb left 0 ≡ b → (q : Possible Written) → unrun o (front f) vs 0 ≡ q → (m : Possible Made) → W ys ≡ m
-          → TagIf left (container f) (s ∷ k ∷ (vs ++ ys)) (fill o W left (container f) s k vs ys)
-      go true h q e′ m e″ = rw h tt
-      go false h cannot e′ m e″ = rw (h, e′) tt
-      go false h (this (wrote xs bs (y ∷ zs))) e′ m e″ = rw (h, e′) tt
-      go false h (this (wrote xs bs [])) e′ cannot e″ = rw (h, e′, e″) tt
-      go false h (this (wrote xs bs [])) e′ (this (made cs body ys′)) e″ = rw (h, e′, e″)
-          (join xs cs body ys′ bs h (rw e′ at (front-bits o f vs)) (rw e′ at (round-trip o (front f) .back vs 0)) (rw e″ at i))
+      go : (c : Bool) → eqb left 0 ≡ c → (t : Bool) → hasList y vs ≡ t → (q : Possible (List ℕ)) → writeBody o y vs ≡ q → (m : Possible Made) → W ys ≡ m
+          → TagIf left (container y) (s ∷ k ∷ (vs ++ ys)) (fill o W left (container y) s k vs ys)
+      go true h t e′ q f m g = rw h tt
+      go false h false e′ q f m g = rw (h, e′) (leaf-back left (container y) y s k vs ys e l (λ body. refl) h (λ a s′ body q. rw (sym (body-shown o y body) ∙ q, e′)))
+      go false h true e′ cannot f m g = rw (h, e′, f) tt
+      go false h true e′ (this b) f cannot g = rw (h, e′, f, g) tt
+      go false h true e′ (this b) f (this (made cs body ys′)) g = rw (h, e′, f, g) (join b cs body ys′ h e′ (front-back o y b vs f) (rw g at i))
 
   tag-back : (left : ℕ) (cl : Class) (ns : List ℕ) → ((ys : List ℕ) → length ys ≤ length ns → ListIf (pred left) ys (unwalkList o class (pred left) ys))
       → TagIf left cl ns (outTag o (unwalkList o class (pred left)) left cl ns)

@@ -12,18 +12,19 @@ use native.Mathlib.Omega.{arith}
 use Rattle.format.specs.Tests.{pick}
 use Rattle.format.specs.Bits.{Order, AllBytes, orderNamed}
 use Rattle.format.specs.Reading.{Ending, At, Fault}
-use Rattle.format.specs.Items.{run}
-use Rattle.format.specs.FileAndTags.{Class, opaque, end, container, known, classOf, isEnd, isRead, longOnShort, stateOf, packed, Tag, Outcome, whole, fault, Walk, chain, Head, head, noHead, readHead, Owner, file, inside, TagInside, front, opened, within, afterTag, tagThen, oneTag, walk, walkList}
+use Rattle.format.specs.Bodies.{toEnd}
+use Rattle.format.specs.FileAndTags.{Class, opaque, end, container, known, classOf, isEnd, isRead, longOnShort, stateOf, packed, Tag, Outcome, whole, fault, Walk, chain, Head, head, noHead, readHead, Owner, file, inside, TagInside, hasList, opened, within, afterTag, tagThen, oneTag, walk, walkList}
 use Rattle.format.specs.TableOfNumbers.{numbers, table, isOpaque, bodyIn, showing, plainTag, plainTable, unpacked, changed, pack, unpack}
 use Rattle.format.specs.Reasons.{startFault, walkFile, Result, gives, refuses, result, readFile, readPlain, IsFile}
+use Rattle.format.proofs.BodyLaws.{end-le}
 use Rattle.format.proofs.ByteLaws.{bytes-take, bytes-drop}
 use Rattle.format.proofs.LevelLaws.{Part, part-drop, part-take, part-plain}
 use Rattle.format.proofs.PackLaws.{unpack-packed}
 use Rattle.format.proofs.RoundTrip.{one-file}
 use Rattle.format.proofs.StartLaws.{good-start}
 use Rattle.format.proofs.StateLaws.{state-opaque}
-use Rattle.format.proofs.WalkLaws.{run-le, Fits, head-fits}
-use Rattle.format.proofs.Absurd.{clash}
+use Rattle.format.proofs.WalkLaws.{Fits, head-fits}
+use Rattle.format.proofs.Absurd.{clash, either-way}
 
 -- ---- each opaque tag of a walk shows its body in the file f, packed
 module _ (f : List ℕ) where
@@ -48,11 +49,12 @@ module _ (f : List ℕ) where
     shown-within R u opaque a s body p = tt
     shown-within R u end a s body p = tt
     shown-within R u (known y) a s body p = tt
-    shown-within R u (container g) a s body p = go (run o body (front g) 0 .shown) (run o body (front g) 0 .ended) refl
+    shown-within R u (container y) a s body p =
+        either-way (λ (i : TagInside). Shown (i .walk .tags)) (hasList y (toEnd o body y .shown)) (go (toEnd o body y .shown) (toEnd o body y .ended) refl) tt
       where
-        go : (xs : List ℕ) (z : Ending) → run o body (front g) 0 .ended ≡ z → Shown (opened R a s body xs z .walk .tags)
+        go : (xs : List ℕ) (z : Ending) → toEnd o body y .ended ≡ z → Shown (opened R a s body xs z .walk .tags)
         go xs (Fault e) eq = tt
-        go xs (At q) eq = u (inside a) (s + q / 8) (drop (q / 8) body) (part-drop f s (q / 8) body (omega (arith, run-le o body (front g) 0 q (omega arith) eq .1)) p)
+        go xs (At q) eq = u (inside a) (s + q / 8) (drop (q / 8) body) (part-drop f s (q / 8) body (omega (arith, end-le o y body q eq)) p)
 
     -- the tag itself
     shown-tag : (R : Owner → ℕ → List ℕ → Walk) (cl : Class) (d code a size len : ℕ) (body : List ℕ) → length body ≡ len → Part f (a + size) body
@@ -62,7 +64,7 @@ module _ (f : List ℕ) where
         by : (cl : Class) → eqb (isRead cl) 0 ≡ true → within o R cl a (a + size) body .values ≡ packed (take len (drop (a + size) f))
         by opaque e = ap packed (sym (rw n at (part-plain f (a + size) body p)))
         by end e = clash cc
-        by (container g) e = clash cc
+        by (container y) e = clash cc
         by (known y) e = clash cc
 
     shown-walk : (k left : ℕ) (c : Owner) (a : ℕ) (r : List ℕ) → Part f a r → Shown (walk o class k left c a r .tags)

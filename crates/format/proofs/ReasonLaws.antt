@@ -13,11 +13,12 @@ use Rattle.format.specs.Tests.{pick, _and_, _or_}
 use Rattle.format.specs.Bits.{Order, ub, orderNamed}
 use Rattle.format.specs.Reading.{Ending, At, Fault, Reading, follow}
 use Rattle.format.specs.Formats.{Item, Format, nothing, item, only, _▹_, _▸_, times, the}
-use Rattle.format.specs.Items.{skipped, room, Num, num, bad, showNum, mapNum, signExtend, readUB, carry, readVar, sign, notOne, exist, readFlag, above, readLE, Text, text, cut, readText, showText, readAlign, readItem, judge, run, byteItem, u32, i32, time, color, count, coordinates, point, scaled, path}
-use Rattle.format.specs.Bodies.{fontTables, compositionAttributes, solidColor, Kind, Value, Fixed, BitFlag, Simple, Discrete, MultiDimension, Spatial, DataType, U32s, Times, Floats, Ratios, Bools, Bytes, BlendModes, TrackMatteTypes, MaskModes, Paths, Points, AnchorPointGroupings, Attribute, flagsOf, value, values, interpolation, interpolations, howMany, points, curves, spatial, hasSpatial, animated, aligned, keyframed, contentOf, allFlags, rows, handOn, readBlock, Body, fixed, attributes, readPart, toEnd, usedUp, readBody}
-use Rattle.format.specs.FileAndTags.{signatureRight, versionRight, lengthRight, Class, opaque, end, container, known, codes, classOf, isEnd, isContainer, Tag, Outcome, whole, fault, Walk, broken, chain, Head, head, noHead, le16, le32, rawHead, passes, readHead, Owner, file, inside, endAt, front, opened, within, afterTag, oneTag, walk, walkList}
+use Rattle.format.specs.Items.{skipped, room, Num, num, bad, showNum, mapNum, signExtend, readUB, carry, readVar, sign, notOne, exist, readFlag, above, readLE, Text, text, cut, readText, showText, readAlign, readItem, judge, run, byteItem, u32, i32, time, color, count, coordinates, point, scaled, path, uint16, gradientColor}
+use Rattle.format.specs.Bodies.{fontTables, compositionAttributes, solidColor, Kind, Value, Fixed, BitFlag, Simple, Discrete, MultiDimension, Spatial, Custom, DataType, U32s, Times, Floats, Ratios, Bools, Bytes, BlendModes, Paths, Points, Colors, GradientColors, Enums, Dashes, TagBlocks, Attribute, flagsOf, value, values, interpolation, interpolations, howMany, points, curves, spatial, hasSpatial, animated, aligned, dashes, keyframed, contentOf, allFlags, rows, handOn, readBlock, Body, fixed, attributes, readPart, toEnd, usedUp, readBody}
+use Rattle.format.specs.FileAndTags.{signatureRight, versionRight, lengthRight, Class, opaque, end, container, known, codes, classOf, isEnd, isContainer, Tag, Outcome, whole, fault, Walk, broken, chain, Head, head, noHead, le16, le32, rawHead, passes, readHead, Owner, file, inside, TagInside, endAt, hasList, opened, within, afterTag, oneTag, walk, walkList}
 use Rattle.format.specs.TableOfNumbers.{table, tagTable}
 use Rattle.format.specs.Reasons.{startFault, walkFile, Result, gives, refuses, result, readFile, readTags, Answer, accepted, refused, Left, into}
+use Rattle.format.proofs.Absurd.{either-way}
 
 -- a reason that the reader gives: 1 to 7, 9 to 18, or 24
 abbrev pub IsReason : ℕ → Type 0
@@ -36,11 +37,6 @@ reason {e} h = go (leb 1 e) refl (leb e 7) refl (leb 9 e) refl (leb e 18) refl h
     go false p b q true r true s h = inr (inl (leb-true 9 e r, leb-true e 18 s))
     go false p b q true r false s h = absurd h
     go false p b q false r d s h = absurd h
-
--- what holds both ways holds of a test's outcome
-either-way : {A : Type 0} (P : A → Type 0) (c : Bool) {x y : A} → P x → P y → P (pick c x y)
-either-way P true h k = h
-either-way P false h k = k
 
 -- ---- endings: a fault has a reason
 abbrev pub NamedEnd : Ending → Type 0
@@ -123,6 +119,7 @@ module _ (o : Order) where
   item-ends (Item.UB n) b p = named-ub b p n
   item-ends (Item.SB n) b p = named-map (signExtend n) (readUB o b p n) (named-ub b p n)
   item-ends Item.width b p = named-map suc (readUB o b p 5) (named-ub b p 5)
+  item-ends Item.dashLength b p = named-map suc (readUB o b p 3) (named-ub b p 3)
   item-ends Item.align b p = named-align b p
   item-ends (Item.flag n) b p = named-flag b p n
   item-ends (Item.echo n) b p = tt
@@ -170,6 +167,16 @@ module _ (o : Order) where
   named-path : Named path
   named-path = named-then (named-count 0 4096) (λ n. named-then (named-times (the n) (named-item (Item.UB 3))) (λ verbs. named-fields (coordinates verbs)))
 
+  named-gradient : Named gradientColor
+  named-gradient = named-then (named-count 0 4096) (λ alphas. named-then (named-count 0 4096) (λ colors.
+      named-seq (named-times (the alphas) (stop-of (named-byte (Item.UB 8)))) (named-times (the colors) (stop-of named-color))))
+    where
+      stop-of : {f : Format} → Named f → Named (uint16 ▸ uint16 ▸ f)
+      stop-of h = named-seq (named-byte (Item.LE 2)) (named-seq (named-byte (Item.LE 2)) h)
+
+  named-dashes : Named dashes
+  named-dashes = named-seq (named-item Item.align) (named-seq (named-item Item.dashLength) (named-then (named-item (Item.UB 1)) (λ exist. named-times (the exist) (named-item (Item.UB 1)))))
+
   named-value : (d : DataType) → Named (value d)
   named-value U32s = named-byte Item.U32
   named-value Times = named-byte Item.U64
@@ -178,11 +185,13 @@ module _ (o : Order) where
   named-value Bools = named-only (reason tt) (named-byte (Item.UB 8))
   named-value Bytes = named-byte (Item.UB 8)
   named-value BlendModes = named-only (reason tt) (named-byte (Item.UB 8))
-  named-value TrackMatteTypes = named-only (reason tt) (named-byte (Item.UB 8))
-  named-value MaskModes = named-only (reason tt) (named-byte (Item.UB 8))
   named-value Paths = named-path
   named-value Points = named-seq (named-byte (Item.LE 4)) (named-byte (Item.LE 4))
-  named-value AnchorPointGroupings = named-only (reason tt) (named-byte (Item.UB 8))
+  named-value Colors = named-color
+  named-value GradientColors = named-gradient
+  named-value (Enums top) = named-only (reason tt) (named-byte (Item.UB 8))
+  named-value Dashes = named-dashes
+  named-value TagBlocks = named-nothing
 
   named-points : (k : Kind) (n : ℕ) → Named (points k n)
   named-points Value n = named-times n (named-value Points)
@@ -191,6 +200,7 @@ module _ (o : Order) where
   named-points Simple n = named-times n (named-value Points)
   named-points Discrete n = named-times n (named-value Points)
   named-points MultiDimension n = named-times n (named-value Points)
+  named-points Custom n = named-times n (named-value Points)
   named-points Spatial n = named-then (named-item Item.width) (λ w. named-times (n * 2) (named-item (Item.UB (the w))))
 
   named-values : (k : Kind) (d : DataType) (n : ℕ) → Named (values k d n)
@@ -201,11 +211,13 @@ module _ (o : Order) where
   named-values k Bools n = named-times n (named-item (Item.UB 1))
   named-values k Bytes n = named-then (named-item Item.width) (λ w. named-times n (named-only (reason tt) (named-item (Item.UB (the w)))))
   named-values k BlendModes n = named-times n (named-value BlendModes)
-  named-values k TrackMatteTypes n = named-times n (named-value TrackMatteTypes)
-  named-values k MaskModes n = named-times n (named-value MaskModes)
   named-values k Paths n = named-times n named-path
   named-values k Points n = named-points k n
-  named-values k AnchorPointGroupings n = named-times n (named-value AnchorPointGroupings)
+  named-values k Colors n = named-times n named-color
+  named-values k GradientColors n = named-times n named-gradient
+  named-values k (Enums top) n = named-times n (named-value (Enums top))
+  named-values k Dashes n = named-times n named-dashes
+  named-values k TagBlocks n = named-times n named-nothing
 
   named-types : (n : ℕ) → Named (times n interpolation)
   named-types n = named-times n (named-only (reason tt) (named-item (Item.UB 2)))
@@ -218,6 +230,7 @@ module _ (o : Order) where
   named-interpolations Discrete n = named-nothing
   named-interpolations MultiDimension n = named-types n
   named-interpolations Spatial n = named-types n
+  named-interpolations Custom n = named-nothing
 
   named-aligned : {f : Format} → Named f → Named (aligned ▸ f)
   named-aligned h = named-seq (named-item Item.align) h
@@ -243,6 +256,7 @@ module _ (o : Order) where
   named-content Discrete d φ = named-animated Discrete d φ
   named-content MultiDimension d φ = named-animated MultiDimension d φ
   named-content Spatial d φ = named-animated Spatial d φ
+  named-content Custom d φ = either-way Named (eqb φ 0) named-nothing (named-value d)
 
   -- ---- attribute blocks, whatever their attributes
   named-flags : (attrs : List Attribute) → Named (allFlags attrs)
@@ -274,10 +288,12 @@ module _ (o : Order) where
   named-part (fixed f) h b p = h .ends b p
   named-part (attributes attrs) h b p = named-block attrs b p
 
+  pub named-end : (y : Body) → NamedBody y → (b : List ℕ) → NamedEnd (toEnd o b y .ended)
+  named-end y h b = named-follow (readPart o b y 0 .shown) (readPart o b y 0 .ended) (λ xs p. readAlign o b p) (named-part y h b 0) (λ p. named-align b p)
+
   pub named-body : (y : Body) → NamedBody y → (b : List ℕ) → NamedEnd (readBody o y b .ended)
   unfolding readBody
-  named-body y h b = go (toEnd o b y .shown) (toEnd o b y .ended)
-      (named-follow (readPart o b y 0 .shown) (readPart o b y 0 .ended) (λ xs p. readAlign o b p) (named-part y h b 0) (λ p. named-align b p))
+  named-body y h b = go (toEnd o b y .shown) (toEnd o b y .ended) (named-end y h b)
     where
       go : (xs : List ℕ) (z : Ending) → NamedEnd z → NamedEnd (usedUp (8 * length b) xs z .ended)
       go xs (At p) h = either-way NamedEnd (eqb p (8 * length b)) tt (reason tt)
@@ -287,7 +303,7 @@ module _ (o : Order) where
   abbrev pub NamedClass : Class → Type 0
   NamedClass opaque = Unit {0}
   NamedClass end = Unit {0}
-  NamedClass (container f) = Named f
+  NamedClass (container y) = NamedBody y
   NamedClass (known y) = NamedBody y
 
   abbrev NamedAll : List Class → Type 0
@@ -300,8 +316,11 @@ module _ (o : Order) where
   named-at (c ∷ cs) h (suc n) = named-at cs (h .1) n
 
   named-codes : NamedAll codes
-  named-codes = (tt, (fonts, (u, (composition, (tt, (named-seq (named-byte (Item.UB 8)) u, (tt, (solid, (tt, (tt, (tt, (u, (named-seq u t, (tt, (tt, tt)))))))))))))))
+  named-codes = (tt, (fonts, (u, (composition, (tt, (named-seq (named-byte (Item.UB 8)) u, (tt, (solid, (tt, (tt, (tt, (u, (named-seq u t, (tt, (tt, shapes)))))))))))))))
     where
+      shapes : NamedAll (drop 15 codes)
+      shapes = (tt, (tt, (tt, (tt, (tt, (tt, (tt, (tt, (tt, (tt, (tt, (tt, (tt, tt)))))))))))))
+
       u : Named u32
       u = named-byte Item.U32
 
@@ -373,8 +392,8 @@ module _ (o : Order) where
   named-within R u opaque h a s body = tt
   named-within R u end h a s body = tt
   named-within R u (known y) h a s body = named-end-at a (readBody o y body .ended) (named-body o y h body)
-  named-within R u (container f) h a s body =
-      go (run o body (front f) 0 .shown) (run o body (front f) 0 .ended) (named-seq o h (named-item o Item.align) .ends body 0)
+  named-within R u (container y) h a s body = either-way (λ (i : TagInside). NamedWalk (i .walk)) (hasList y (toEnd o body y .shown))
+      (go (toEnd o body y .shown) (toEnd o body y .ended) (named-end o y h body)) (named-end-at a (readBody o y body .ended) (named-body o y h body))
     where
       go : (xs : List ℕ) (z : Ending) → NamedEnd z → NamedWalk (opened R a s body xs z .walk)
       go xs (At p) h = u (inside a) (s + p / 8) (drop (p / 8) body)

@@ -12,14 +12,14 @@ use Rattle.format.specs.Tests.{pick}
 use Rattle.format.specs.Bits.{Order, ub, orderNamed}
 use Rattle.format.specs.Reading.{Ending, At, Fault, Reading, shows, stop, follow}
 use Rattle.format.specs.Formats.{Item, nothing, item, _▸_, times, the}
-use Rattle.format.specs.Items.{skipped, readItem, run, u32, i32, time, float, byte, color, string, count}
-use Rattle.format.specs.Bodies.{fontTables, compositionAttributes, solidColor, Kind, Value, Fixed, BitFlag, Simple, Discrete, MultiDimension, Spatial, Attribute, flagsOf, content, allFlags, rows, handOn, readBlock, Body, fixed, attributes, readPart, usedUp, readBody}
-use Rattle.format.specs.FileAndTags.{Class, opaque, end, container, known, codes, classOf, isEnd, Tag, Outcome, whole, fault, Walk, broken, chain, Head, head, noHead, isRead, longOnShort, stateOf, readHead, Owner, file, inside, TagInside, front, opened, within, afterTag, tagThen, oneTag, walk, walkList}
+use Rattle.format.specs.Items.{skipped, readAlign, readItem, run, u32, i32, time, float, byte, color, string, count}
+use Rattle.format.specs.Bodies.{fontTables, compositionAttributes, solidColor, Kind, Value, Fixed, BitFlag, Simple, Discrete, MultiDimension, Spatial, Custom, Attribute, flagsOf, content, allFlags, rows, handOn, readBlock, Body, fixed, attributes, readPart, toEnd, usedUp, readBody}
+use Rattle.format.specs.FileAndTags.{Class, opaque, end, container, known, codes, classOf, isEnd, Tag, Outcome, whole, fault, Walk, broken, chain, Head, head, noHead, isRead, longOnShort, stateOf, readHead, Owner, file, inside, TagInside, hasList, opened, within, afterTag, tagThen, oneTag, walk, walkList}
 use Rattle.format.specs.TableOfNumbers.{numbers, table, isOpaque, bodyIn, plainTag, plainTable, tagTable}
 use Rattle.format.specs.Reasons.{startFault, walkFile, gives, result, readFile, readPlain, readTags}
 use Rattle.format.specs.WritingBodies.{writePart}
 use Rattle.format.proofs.BlockLaws.{as-many}
-use Rattle.format.proofs.BodyLaws.{trip-part}
+use Rattle.format.proofs.BodyLaws.{trip-part, end-le, body-shown}
 use Rattle.format.proofs.EngineLaws.{numbers-append}
 use Rattle.format.proofs.PackLaws.{length-eights}
 use Rattle.format.proofs.StateLaws.{state-opaque}
@@ -27,7 +27,7 @@ use Rattle.format.proofs.StartLaws.{good-start}
 use Rattle.format.proofs.SizeLaws.{FairEnd, FairReading, Fair, fair-item, fair-nothing, fair-echo, fair-more, fair-then, fair-seq, fair-times, fair-byte, fair-content, fair-only}
 use Rattle.format.proofs.Trip.{There, has-le}
 use Rattle.format.proofs.WalkLaws.{run-le, Fits, head-fits}
-use Rattle.format.proofs.Absurd.{clash}
+use Rattle.format.proofs.Absurd.{clash, either-way}
 
 -- ---- attribute blocks
 abbrev pub fixedBy : Kind → ℕ
@@ -38,6 +38,7 @@ fixedBy Simple = 0
 fixedBy Discrete = 0
 fixedBy MultiDimension = 0
 fixedBy Spatial = 0
+fixedBy Custom = 0
 
 -- how many attributes are Fixed
 abbrev pub fixedCount : List Attribute → ℕ
@@ -71,6 +72,7 @@ module _ (o : Order) where
   fair-flag Discrete = fair-item o (Item.flag 2) (omega arith)
   fair-flag MultiDimension = fair-item o (Item.flag 2) (omega arith)
   fair-flag Spatial = fair-item o (Item.flag 3) (omega arith)
+  fair-flag Custom = fair-item o (Item.flag 1) (omega arith)
 
   fair-flags : (attrs : List Attribute) → Fair o (fixedCount attrs) (allFlags attrs)
   unfolding allFlags
@@ -118,34 +120,35 @@ module _ (o : Order) where
       go (At q) u = omega arith
       go (Fault e) u = omega arith
 
-  pub body-room : (y : Body) → FairBody y → (b : List ℕ) → length (readBody o y b .shown) ≤ 8 * length b + 2
-  unfolding readBody readItem
-  body-room y h b = go (readPart o b y 0 .ended) refl (fair-part y h b)
+  fair-end : (y : Body) → FairBody y → (b : List ℕ) → FairReading 1 (8 * length b) 0 (toEnd o b y)
+  fair-end y h b = go (readPart o b y 0 .ended) refl (fair-part y h b)
     where
       xs : List ℕ
       xs = readPart o b y 0 .shown
 
-      same : (n : ℕ) (z : Ending) → usedUp n xs z .shown ≡ xs
-      same n (At p) = refl
-      same n (Fault e) = refl
+      skip : (m : ℕ) (c : Bool) → length xs + 0 ≤ m + 1 → m ≤ 8 * length b
+          → FairReading 1 (8 * length b) 0 (record { shown = xs ++ pick c (shows [] (m + skipped m)) (stop 15) .shown; ended = pick c (shows [] (m + skipped m)) (stop 15) .ended })
+      skip m true u l = rw append-nil (omega arith)
+      skip m false u l = rw append-nil (omega arith)
 
-      skip : (m : ℕ) (c : Bool) → length xs ≤ 8 * length b + 2
-          → length (usedUp (8 * length b) (xs ++ pick c (shows [] (m + skipped m)) (stop 15) .shown) (pick c (shows [] (m + skipped m)) (stop 15) .ended) .shown) ≤ 8 * length b + 2
-      skip m true n = rw append-nil n
-      skip m false n = rw append-nil n
-
-      go : (z : Ending) → readPart o b y 0 .ended ≡ z → FairEnd 1 (8 * length b) 0 (length xs) z
-          → length (usedUp (8 * length b) (follow xs z (λ xs p. readItem o b Item.align p) .shown) (follow xs z (λ xs p. readItem o b Item.align p) .ended) .shown) ≤ 8 * length b + 2
-      go (Fault e) eq u = omega arith
+      go : (z : Ending) → readPart o b y 0 .ended ≡ z → FairEnd 1 (8 * length b) 0 (length xs) z → FairReading 1 (8 * length b) 0 (follow xs z (λ xs p. readAlign o b p))
+      go (Fault e) eq u = u
       go (At m) eq u =
           let t : There o b 0 m xs (λ ns p. writePart o y ns p) = rw eq at (trip-part o y .there b 0 (omega arith)) in
-          skip m (eqb (ub o b m (skipped m)) 0) (omega (arith, t .ends, has-le o b 0 (t .bits) (t .has)))
+          skip m (eqb (ub o b m (skipped m)) 0) u (omega (arith, t .ends, has-le o b 0 (t .bits) (t .has)))
+
+  pub body-room : (y : Body) → FairBody y → (b : List ℕ) → length (readBody o y b .shown) ≤ 8 * length b + 2
+  body-room y h b = rw (body-shown o y b) (go (toEnd o b y .ended) refl (fair-end y h b))
+    where
+      go : (z : Ending) → toEnd o b y .ended ≡ z → FairEnd 1 (8 * length b) 0 (length (toEnd o b y .shown)) z → length (toEnd o b y .shown) ≤ 8 * length b + 2
+      go (Fault e) eq u = omega arith
+      go (At q) eq u = omega (arith, end-le o y b q eq)
 
   -- ---- classes
   abbrev pub FairClass : Class → Type 0
   FairClass opaque = Unit {0}
   FairClass end = Unit {0}
-  FairClass (container f) = Fair o 0 f
+  FairClass (container y) = FairBody y
   FairClass (known y) = FairBody y
 
   abbrev FairAll : List Class → Type 0
@@ -170,8 +173,14 @@ module _ (o : Order) where
   fair-color = fair-times o 3 byte (fair-byte o (Item.UB 8) (omega arith))
 
   fair-codes : FairAll codes
-  fair-codes = (tt, (fonts, (fair-u32, (composition, (tt, (fair-seq o byte u32 (fair-byte o (Item.UB 8) (omega arith)) fair-u32, (omega arith, (solid, (tt, (omega arith, (omega arith, (fair-u32, (fair-seq o u32 time fair-u32 fair-time, (omega arith, (omega arith, tt)))))))))))))))
+  fair-codes = (tt, (fonts, (fair-u32, (composition, (tt, (fair-seq o byte u32 (fair-byte o (Item.UB 8) (omega arith)) fair-u32, (omega arith, (solid, (tt, (omega arith, (omega arith, (fair-u32, (fair-seq o u32 time fair-u32 fair-time, (omega arith, (omega arith, shapes)))))))))))))))
     where
+      none : 0 ≤ 1
+      none = omega arith
+
+      shapes : FairAll (drop 15 codes)
+      shapes = (none, (none, (none, (none, (none, (none, (none, (none, (none, (none, (none, (none, (none, tt)))))))))))))
+
       fonts : Fair o 0 fontTables
       fonts = fair-then o 0 0 (count 0 4096) (λ n. times (the n) (string ▸ string)) (fair-only o 0 _ 17 u32 fair-u32)
           (λ b p q e. fair-times o (the (run o b (count 0 4096) p .shown)) (string ▸ string) (fair-seq o string string (fair-byte o Item.string tt) (fair-byte o Item.string tt)))
@@ -201,19 +210,20 @@ module _ (o : Order) where
     within-room R u opaque h a s body = (omega (arith, length-eights ((length body + 7) / 8) body), omega arith)
     within-room R u end h a s body = (omega arith, omega arith)
     within-room R u (known y) h a s body = (omega (arith, body-room y h body), omega arith)
-    within-room R u (container f) h a s body = go (run o body (front f) 0 .ended) refl
-        (fair-seq o f (item Item.align) h (fair-item o Item.align tt) body 0 (omega arith))
+    within-room R u (container y) h a s body =
+        either-way (λ (i : TagInside). (inside-count i + 0 ≤ 8 * length body + 13) × (2 * length (i .walk .tags) ≤ length body)) (hasList y xs)
+        (go (toEnd o body y .ended) refl (fair-end y h body)) (omega (arith, body-room y h body), omega arith)
       where
         xs : List ℕ
-        xs = run o body (front f) 0 .shown
+        xs = toEnd o body y .shown
 
-        go : (z : Ending) → run o body (front f) 0 .ended ≡ z → FairEnd 0 (8 * length body) 0 (length xs) z
+        go : (z : Ending) → toEnd o body y .ended ≡ z → FairEnd 1 (8 * length body) 0 (length xs) z
             → (inside-count (opened R a s body xs z) + 0 ≤ 8 * length body + 13) × (2 * length (opened R a s body xs z .walk .tags) ≤ length body)
         go (Fault e) eq v = (omega arith, omega arith)
         go (At p) eq v =
-            let l : (0 ≤ p) × (p ≤ 8 * length body) = run-le o body (front f) 0 p (omega arith) eq in
+            let l : p ≤ 8 * length body = end-le o y body p eq in
             let i : Room (length (drop (p / 8) body)) (R (inside a) (s + p / 8) (drop (p / 8) body)) = u (inside a) (s + p / 8) (drop (p / 8) body) in
-            (omega (arith, l .1, i .count, length-drop (p / 8) body), omega (arith, i .tags, length-drop (p / 8) body))
+            (omega (arith, l, i .count, length-drop (p / 8) body), omega (arith, i .tags, length-drop (p / 8) body))
 
     after-room : (e : Bool) (c : Owner) (a : ℕ) (r : List ℕ) (next : ℕ → List ℕ → Walk) → Room (length r) (next a r) → Room (length r) (afterTag e c a r next)
     after-room false c a r next u = u

@@ -11,8 +11,8 @@ use Rattle.format.specs.Tests.{pick}
 use Rattle.format.specs.Bits.{Order, ub}
 use Rattle.format.specs.Reading.{Ending, At, Fault, Reading, shows, stop, follow}
 use Rattle.format.specs.Formats.{Item, Format, nothing, item, only, _▹_, _▸_, times, the}
-use Rattle.format.specs.Items.{signExtend, skipped, room, Num, num, bad, showNum, mapNum, readUB, carry, readVar, sign, notOne, exist, readFlag, above, readLE, Text, text, cut, addText, readText, showText, readItem, judge, run, byteItem, u32, i32, time, float, byte, color, ratio, enum, count, coordinates, point, scaled, path}
-use Rattle.format.specs.Bodies.{Kind, Value, Fixed, BitFlag, Simple, Discrete, MultiDimension, Spatial, DataType, U32s, Times, Floats, Ratios, Bools, Bytes, BlendModes, TrackMatteTypes, MaskModes, Paths, Points, AnchorPointGroupings, blendMode, value, values, interpolation, interpolations, howMany, points, curves, spatial, hasSpatial, animated, aligned, keyframed, contentOf}
+use Rattle.format.specs.Items.{signExtend, skipped, room, Num, num, bad, showNum, mapNum, readUB, carry, readVar, sign, notOne, exist, readFlag, above, readLE, Text, text, cut, addText, readText, showText, readItem, judge, run, byteItem, u32, i32, time, float, byte, color, ratio, enum, count, coordinates, point, scaled, path, uint16, alphaStop, colorStop, gradientColor}
+use Rattle.format.specs.Bodies.{Kind, Value, Fixed, BitFlag, Simple, Discrete, MultiDimension, Spatial, Custom, DataType, U32s, Times, Floats, Ratios, Bools, Bytes, BlendModes, Paths, Points, Colors, GradientColors, Enums, Dashes, TagBlocks, dashes, blendMode, value, values, interpolation, interpolations, howMany, points, curves, spatial, hasSpatial, animated, aligned, keyframed, contentOf}
 use Rattle.format.proofs.WalkLaws.{run-le}
 use Rattle.format.proofs.Absurd.{clash}
 
@@ -134,6 +134,7 @@ Costs Item.align = Unit {0}
 Costs (Item.UB n) = 0 < n
 Costs (Item.SB n) = 0 < n
 Costs Item.width = Unit {0}
+Costs Item.dashLength = Unit {0}
 Costs Item.U32 = Unit {0}
 Costs Item.U64 = Unit {0}
 Costs Item.I32 = Unit {0}
@@ -152,6 +153,7 @@ module _ (o : Order) where
       go false = omega arith
   fair-item (Item.UB n) h b p l = past-fair 0 (8 * length b) p (readUB o b p n) l (past-ub o b p n h)
   fair-item (Item.SB n) h b p l = past-fair 0 (8 * length b) p (mapNum (signExtend n) (readUB o b p n)) l (past-map (signExtend n) p (readUB o b p n) (past-ub o b p n h))
+  fair-item Item.dashLength h b p l = past-fair 0 (8 * length b) p (mapNum suc (readUB o b p 3)) l (past-map suc p (readUB o b p 3) (past-ub o b p 3 (omega arith)))
   fair-item Item.width h b p l = past-fair 0 (8 * length b) p (mapNum suc (readUB o b p 5)) l (past-map suc p (readUB o b p 5) (past-ub o b p 5 (omega arith)))
   fair-item Item.U32 h b p l = past-fair 0 (8 * length b) p (readVar o b 15 p 4) l (past-var o b 15 p 4)
   fair-item Item.U64 h b p l = past-fair 0 (8 * length b) p (readVar o b 1 p 9) l (past-var o b 1 p 9)
@@ -251,8 +253,25 @@ module _ (o : Order) where
       fair-then 0 0 (times (the (run o b (count 0 4096) p .shown)) (item (Item.UB 3))) _ (fair-times (the (run o b (count 0 4096) p .shown)) (item (Item.UB 3)) (fair-item (Item.UB 3) (omega arith))) (λ b′ p′ q′ e′.
       fair-scaled (coordinates (run o b′ (times (the (run o b (count 0 4096) p .shown)) (item (Item.UB 3))) p′ .shown))))
 
-  fair-color : Fair o 0 color
+  pub fair-color : Fair o 0 color
   fair-color = fair-times 3 byte (fair-byte (Item.UB 8) (omega arith))
+
+  fair-uint16 : Fair o 0 uint16
+  fair-uint16 = fair-byte (Item.LE 2) (omega arith)
+
+  pub fair-gradient : Fair o 0 gradientColor
+  fair-gradient = fair-then 0 0 (count 0 4096) _ (fair-count 0 4096) (λ b p q e. fair-then 0 0 (count 0 4096) _ (fair-count 0 4096) (λ b′ p′ q′ e′.
+      stops (the (run o b (count 0 4096) p .shown)) (the (run o b′ (count 0 4096) p′ .shown))))
+    where
+      stops : (n m : ℕ) → Fair o 0 (times n alphaStop ▸ times m colorStop)
+      stops n m = fair-seq (times n alphaStop) (times m colorStop)
+          (fair-times n alphaStop (fair-seq uint16 _ fair-uint16 (fair-seq uint16 byte fair-uint16 (fair-byte (Item.UB 8) (omega arith)))))
+          (fair-times m colorStop (fair-seq uint16 _ fair-uint16 (fair-seq uint16 color fair-uint16 fair-color)))
+
+  pub fair-dashes : Fair o 0 dashes
+  fair-dashes = fair-seq aligned _ (fair-item Item.align tt) (fair-seq (item Item.dashLength) _ (fair-item Item.dashLength tt)
+      (fair-then 0 0 (item (Item.UB 1)) _ (fair-item (Item.UB 1) (omega arith)) (λ b p q e.
+      fair-times (the (run o b (item (Item.UB 1)) p .shown)) (item (Item.UB 1)) (fair-item (Item.UB 1) (omega arith)))))
 
   fair-ratio : Fair o 0 ratio
   fair-ratio = fair-seq i32 u32 (fair-byte Item.I32 tt) (fair-byte Item.U32 tt)
@@ -271,11 +290,13 @@ module _ (o : Order) where
   fair-value Bools = fair-enum 1
   fair-value Bytes = fair-byte (Item.UB 8) (omega arith)
   fair-value BlendModes = fair-blend
-  fair-value TrackMatteTypes = fair-enum 4
-  fair-value MaskModes = fair-enum 7
   fair-value Paths = fair-path
   fair-value Points = fair-point
-  fair-value AnchorPointGroupings = fair-enum 6
+  fair-value Colors = fair-color
+  fair-value GradientColors = fair-gradient
+  fair-value (Enums top) = fair-enum top
+  fair-value Dashes = fair-dashes
+  fair-value TagBlocks = fair-nothing
 
   fair-points : (k : Kind) (n : ℕ) → Fair o 0 (points k n)
   fair-points Value n = fair-times n point fair-point
@@ -284,6 +305,7 @@ module _ (o : Order) where
   fair-points Simple n = fair-times n point fair-point
   fair-points Discrete n = fair-times n point fair-point
   fair-points MultiDimension n = fair-times n point fair-point
+  fair-points Custom n = fair-times n point fair-point
   fair-points Spatial n = fair-width (λ w. times (n * 2) (item (Item.UB w))) (λ w. fair-times (n * 2) (item (Item.UB (suc w))) (fair-item (Item.UB (suc w)) (omega arith)))
 
   pub fair-values : (k : Kind) (d : DataType) (n : ℕ) → Fair o 0 (values k d n)
@@ -295,11 +317,13 @@ module _ (o : Order) where
   fair-values k Bytes n = fair-width (λ w. times n (only (λ ns. leb (the ns) 255) 16 (item (Item.UB w))))
       (λ w. fair-times n (only (λ ns. leb (the ns) 255) 16 (item (Item.UB (suc w)))) (fair-only 0 (λ ns. leb (the ns) 255) 16 (item (Item.UB (suc w))) (fair-item (Item.UB (suc w)) (omega arith))))
   fair-values k BlendModes n = fair-times n blendMode fair-blend
-  fair-values k TrackMatteTypes n = fair-times n (enum 4) (fair-enum 4)
-  fair-values k MaskModes n = fair-times n (enum 7) (fair-enum 7)
   fair-values k Paths n = fair-times n path fair-path
   fair-values k Points n = fair-points k n
-  fair-values k AnchorPointGroupings n = fair-times n (enum 6) (fair-enum 6)
+  fair-values k Colors n = fair-times n color fair-color
+  fair-values k GradientColors n = fair-times n gradientColor fair-gradient
+  fair-values k (Enums top) n = fair-times n (enum top) (fair-enum top)
+  fair-values k Dashes n = fair-times n dashes fair-dashes
+  fair-values k TagBlocks n = fair-times n nothing fair-nothing
 
   fair-types : (n : ℕ) → Fair o 0 (times n interpolation)
   fair-types n = fair-times n interpolation (fair-only 0 (λ ns. ltb 0 (the ns)) 16 (item (Item.UB 2)) (fair-item (Item.UB 2) (omega arith)))
@@ -312,6 +336,7 @@ module _ (o : Order) where
   fair-interpolations Discrete n = fair-nothing
   fair-interpolations MultiDimension n = fair-types n
   fair-interpolations Spatial n = fair-types n
+  fair-interpolations Custom n = fair-nothing
 
   pub fair-aligned : (f : Format) → Fair o 0 f → Fair o 0 (aligned ▸ f)
   fair-aligned f h = fair-seq aligned f (fair-item Item.align tt) h
@@ -351,3 +376,4 @@ module _ (o : Order) where
   fair-content Discrete d φ = fair-animated Discrete d φ
   fair-content MultiDimension d φ = fair-animated MultiDimension d φ
   fair-content Spatial d φ = fair-animated Spatial d φ
+  fair-content Custom d φ = fair-pick (eqb φ 0) nothing (value d) fair-nothing (fair-value d)

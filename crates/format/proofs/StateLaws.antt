@@ -12,7 +12,7 @@ use Rattle.format.specs.WritingFiles.{claims, fitsState}
 read-or-not : (P : ℕ → Type 0) → P 0 → P 1 → (cl : Class) → P (isRead cl)
 read-or-not P h k opaque = h
 read-or-not P h k end = k
-read-or-not P h k (container f) = k
+read-or-not P h k (container y) = k
 read-or-not P h k (known y) = k
 
 -- the state of a class, with or without the 2, fits it

@@ -1,4 +1,4 @@
--- Transforms and points (C-12): bodies of 13 and 10, and of Spatial attributes, which no listed tag has, as one table that the definitions compute.
+-- Transforms and points (C-12): bodies of 13 and 10, and of a Spatial attribute by itself, as one table that the definitions compute.
 -- Below, bits stand in the order in which they are read, those of one field together; a body's fields by hand from chapters 4 and 5 of source 000.
 use Prim.Native.Nat.{ℕ}
 use mathlib.Core.List.{List, [], _∷_, _++_, map}
@@ -11,10 +11,10 @@ use Rattle.format.specs.Reasons.{Result, gives, refuses}
 use Rattle.format.proofs.Examples.{body, read, Example}
 
 -- a body, and what it gives
-abbrev shows : Body → List ℕ → List ℕ → Example
+abbrev pub shows : Body → List ℕ → List ℕ → Example
 shows y b ns = record { given = body y b; gives = gives ns }
 
-abbrev stops : Body → List ℕ → ℕ → Example
+abbrev pub stops : Body → List ℕ → ℕ → Example
 stops y b e = record { given = body y b; gives = refuses e 0 }
 
 -- ---- 13: seven flags, of Values. Points are two Floats

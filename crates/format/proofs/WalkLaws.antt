@@ -13,12 +13,14 @@ use Rattle.format.specs.Bits.{Order}
 use Rattle.format.specs.Reading.{Ending, At, Fault}
 use Rattle.format.specs.Formats.{Format}
 use Rattle.format.specs.Items.{run}
-use Rattle.format.specs.Bodies.{readBody}
-use Rattle.format.specs.FileAndTags.{Class, opaque, end, container, known, isEnd, isContainer, Tag, Outcome, whole, fault, Walk, broken, chain, Head, head, noHead, le16, le32, rawHead, stateOf, passes, readHead, Owner, file, inside, blame, TagInside, endAt, noTags, front, opened, within, afterTag, tagThen, oneTag, walk}
+use Rattle.format.specs.Bodies.{Body, toEnd, readBody}
+use Rattle.format.specs.FileAndTags.{Class, opaque, end, container, known, isEnd, isContainer, Tag, Outcome, whole, fault, Walk, broken, chain, Head, head, noHead, le16, le32, rawHead, stateOf, passes, readHead, Owner, file, inside, blame, TagInside, endAt, noTags, leaf, hasList, opened, within, afterTag, tagThen, oneTag, walk}
 use Rattle.format.specs.Levels.{endOf}
 use Rattle.format.specs.WritingFormats.{unrun}
+use Rattle.format.proofs.BodyLaws.{end-le}
 use Rattle.format.proofs.ItemLaws.{round-trip}
 use Rattle.format.proofs.Trip.{There, has-le}
+use Rattle.format.proofs.Absurd.{either-way}
 
 -- a format ends in its body
 pub run-le : (o : Order) (b : List ℕ) (f : Format) (p q : ℕ) → p ≤ 8 * length b → run o b f p .ended ≡ At q → (p ≤ q) × (q ≤ 8 * length b)
@@ -131,22 +133,25 @@ placed-then c b d code a size len s i w h l m u v = go (i .walk .ended) (u .faul
 
 module _ (o : Order) (class : ℕ → Class) where
   -- what stands in a tag at a, with its body at s
-  pub placed-within : (R : Owner → ℕ → List ℕ → Walk) → ((c : Owner) (a : ℕ) (r : List ℕ) → Before c a → Placed c a (a + length r) (R c a r))
-      → (cl : Class) (a s : ℕ) (body : List ℕ) → a < s → Placed (inside a) s (s + length body) (within o R cl a s body .walk)
-  placed-within R u opaque a s body h = record { tags = tt; faults = tt }
-  placed-within R u end a s body h = record { tags = tt; faults = tt }
-  placed-within R u (known y) a s body h = go (readBody o y body .ended)
+  placed-leaf : (y : Body) (a s : ℕ) (body : List ℕ) → a < s → Placed (inside a) s (s + length body) (leaf a (readBody o y body) .walk)
+  placed-leaf y a s body h = go (readBody o y body .ended)
     where
       go : (z : Ending) → Placed (inside a) s (s + length body) (noTags (endAt a z))
       go (At p) = record { tags = tt; faults = tt }
       go (Fault e) = record { tags = tt; faults = (omega arith, omega arith) }
-  placed-within R u (container f) a s body h = go (run o body (front f) 0 .shown) (run o body (front f) 0 .ended) refl
+
+  pub placed-within : (R : Owner → ℕ → List ℕ → Walk) → ((c : Owner) (a : ℕ) (r : List ℕ) → Before c a → Placed c a (a + length r) (R c a r))
+      → (cl : Class) (a s : ℕ) (body : List ℕ) → a < s → Placed (inside a) s (s + length body) (within o R cl a s body .walk)
+  placed-within R u opaque a s body h = record { tags = tt; faults = tt }
+  placed-within R u end a s body h = record { tags = tt; faults = tt }
+  placed-within R u (known y) a s body h = placed-leaf y a s body h
+  placed-within R u (container y) a s body h = either-way (λ (i : TagInside). Placed (inside a) s (s + length body) (i .walk)) (hasList y (toEnd o body y .shown))
+      (go (toEnd o body y .shown) (toEnd o body y .ended) refl) (placed-leaf y a s body h)
     where
-      go : (xs : List ℕ) (z : Ending) → run o body (front f) 0 .ended ≡ z → Placed (inside a) s (s + length body) (opened R a s body xs z .walk)
+      go : (xs : List ℕ) (z : Ending) → toEnd o body y .ended ≡ z → Placed (inside a) s (s + length body) (opened R a s body xs z .walk)
       go xs (Fault e) eq = record { tags = tt; faults = (omega arith, omega arith) }
       go xs (At p) eq =
-          let l : (0 ≤ p) × (p ≤ 8 * length body) = run-le o body (front f) 0 p (omega arith) eq in
-          let m : p / 8 ≤ length body = omega (arith, l .1) in
+          let m : p / 8 ≤ length body = omega (arith, end-le o y body p eq) in
           placed-wider (inside a) (s + p / 8) (s + p / 8 + length (drop (p / 8) body)) s (s + length body) _ (omega arith) (rw length-drop (omega arith))
           (u (inside a) (s + p / 8) (drop (p / 8) body) (omega arith))
 

@@ -7,10 +7,10 @@ use lib.ListN.{length, getD, take, drop}
 use lib.Dec.{ltb, leb, eqb}
 use Rattle.format.specs.Tests.{pick, _and_}
 use Rattle.format.specs.Bits.{Order}
-use Rattle.format.specs.Reading.{Ending, At, Fault}
+use Rattle.format.specs.Reading.{Ending, At, Fault, Reading}
 use Rattle.format.specs.Formats.{Format, _▸_}
-use Rattle.format.specs.Items.{u32, byte, run, toByte}
-use Rattle.format.specs.Bodies.{fontTables, compositionAttributes, solidColor, imageReference, compositionReference, layerAttributes, textPathOption, textMoreOption, transform2D, maskBlock, aligned, Body, fixed, attributes, readBody}
+use Rattle.format.specs.Items.{u32, byte, toByte}
+use Rattle.format.specs.Bodies.{fontTables, compositionAttributes, solidColor, imageReference, compositionReference, layerAttributes, textPathOption, textMoreOption, transform2D, maskBlock, shapeGroup, rectangle, ellipse, polyStar, shapePath, fillBlock, stroke, gradientFill, gradientStroke, mergePaths, trimPaths, repeater, roundCorners, Body, fixed, attributes, toEnd, readBody}
 
 -- ---- Header, 9 bytes: "PAG", version byte (1), length of the whole file as a little-endian 32-bit number, compression byte (reserved: any
 -- value is taken and kept). A file has at most 16,777,216 bytes. Tags at depth 0 follow (`walkFile` of Reasons).
@@ -61,21 +61,21 @@ vectorComposition = u32
 abbrev pub layerBlock : Format
 layerBlock = byte ▸ u32
 
--- what a tag is: carried as bytes; End; a container, with what stands before its list; read
+-- what a tag is: carried as bytes; End; a container, with what stands before its list; read. (C-24) "ShapeGroup is a container if its table gives it a tag list": it does.
 pub data Class : Type 0 where
   opaque end : Class
-  container : Format → Class
+  container : Body → Class
   known : Body → Class
 
--- the codes 0 to 14
+-- the codes 0 to 27
 abbrev pub codes : List Class
 codes =
     end
     ∷ known (fixed fontTables)
-    ∷ container vectorComposition
+    ∷ container (fixed vectorComposition)
     ∷ known (fixed compositionAttributes)
     ∷ opaque
-    ∷ container layerBlock
+    ∷ container (fixed layerBlock)
     ∷ known (attributes layerAttributes)
     ∷ known (fixed solidColor)
     ∷ opaque
@@ -85,6 +85,19 @@ codes =
     ∷ known (fixed compositionReference)
     ∷ known (attributes transform2D)
     ∷ known (attributes maskBlock)
+    ∷ container (attributes shapeGroup)
+    ∷ known (attributes rectangle)
+    ∷ known (attributes ellipse)
+    ∷ known (attributes polyStar)
+    ∷ known (attributes shapePath)
+    ∷ known (attributes fillBlock)
+    ∷ known (attributes stroke)
+    ∷ known (attributes gradientFill)
+    ∷ known (attributes gradientStroke)
+    ∷ known (attributes mergePaths)
+    ∷ known (attributes trimPaths)
+    ∷ known (attributes repeater)
+    ∷ known (attributes roundCorners)
     ∷ []
 
 -- ---- ('What the mark covers') Every other tag is opaque; listed tags with a code above the level are opaque too.
@@ -94,13 +107,13 @@ classOf level code = pick (ltb level code) opaque (getD codes code opaque)
 abbrev pub isEnd : Class → Bool
 isEnd opaque = false
 isEnd end = true
-isEnd (container f) = false
+isEnd (container y) = false
 isEnd (known y) = false
 
 abbrev pub isContainer : Class → Bool
 isContainer opaque = false
 isContainer end = false
-isContainer (container f) = true
+isContainer (container y) = true
 isContainer (known y) = false
 
 -- ---- ('The table of numbers', C-11) The state of a tag: 1 read, 0 opaque; it gains 2 when a long header carries a body below 63. (The whole
@@ -108,7 +121,7 @@ isContainer (known y) = false
 abbrev pub isRead : Class → ℕ
 isRead opaque = 0
 isRead end = 1
-isRead (container f) = 1
+isRead (container y) = 1
 isRead (known y) = 1
 
 abbrev pub longOnShort : ℕ → ℕ → Bool
@@ -199,11 +212,16 @@ abbrev pub endAt : ℕ → Ending → Outcome
 endAt a (At p) = whole
 endAt a (Fault e) = fault e a
 
--- a container's own items, and the skip to the whole byte where its list starts
-abbrev pub front : Format → Format
-front f = f ▸ aligned
+-- a tag at place a whose body is items alone
+abbrev pub leaf : ℕ → Reading → TagInside
+leaf a r = record { values = r .shown; walk = noTags (endAt a (r .ended)) }
 
--- the container at place a, whose own numbers are xs; its list, read by R, has the rest of the body, which stands at s
+-- a container whose own numbers are xs has a list; (C-24) one that is an attribute block only where the flag of its last attribute, the TagBlock, is set
+abbrev pub hasList : Body → List ℕ → Bool
+hasList (fixed f) xs = true
+hasList (attributes attrs) xs = eqb (getD xs (length xs - 1) 0) 1
+
+-- the container at place a, whose own numbers are xs; its list, read by R, starts on the whole byte behind them and has the rest of the body, which stands at s
 abbrev pub opened : (Owner → ℕ → List ℕ → Walk) → ℕ → ℕ → List ℕ → List ℕ → Ending → TagInside
 opened R a s body xs (At p) = record { values = xs; walk = R (inside a) (s + toByte p) (drop (toByte p) body) }
 opened R a s body xs (Fault e) = record { values = xs; walk = broken e a }
@@ -221,8 +239,9 @@ packed b = length b ∷ eights ((length b + 7) / 8) b
 abbrev pub within : Order → (Owner → ℕ → List ℕ → Walk) → Class → ℕ → ℕ → List ℕ → TagInside
 within o R opaque a s body = record { values = packed body; walk = noTags whole }
 within o R end a s body = record { values = []; walk = noTags whole }
-within o R (known y) a s body = record { values = readBody o y body .shown; walk = noTags (endAt a (readBody o y body .ended)) }
-within o R (container f) a s body = opened R a s body (run o body (front f) 0 .shown) (run o body (front f) 0 .ended)
+within o R (known y) a s body = leaf a (readBody o y body)
+within o R (container y) a s body =
+    pick (hasList y (toEnd o body y .shown)) (opened R a s body (toEnd o body y .shown) (toEnd o body y .ended)) (leaf a (readBody o y body))
 
 -- the tag with this header, this state and what stands in it, and the walk w of what follows it
 abbrev pub tagThen : ℕ → ℕ → ℕ → ℕ → ℕ → ℕ → TagInside → Walk → Walk

@@ -14,6 +14,8 @@ pub data Item : Type 0 where
   -- UB[n] and SB[n]
   UB SB : ℕ → Item
   width : Item
+  -- the length of a list of dashes
+  dashLength : Item
   -- the skip to the next whole byte
   align : Item
   -- an attribute's flag bits, at most n of them

@@ -132,6 +132,10 @@ readSB o b p n = mapNum (signExtend n) (readUB o b p n)
 abbrev pub readWidth : Order → List ℕ → ℕ → Num
 readWidth o b p = mapNum suc (readUB o b p 5)
 
+-- (C-24; source 000, chapter 6) dashLength = UB[3] + 1: 1 to 8.
+abbrev pub readDashLength : Order → List ℕ → ℕ → Num
+readDashLength o b p = mapNum suc (readUB o b p 3)
+
 -- ---- A byte item starts at the next whole byte; skipped bits are zero (15), also at a body's end (`readBody` of Bodies). Bit places and byte
 -- places are counted apart, and only this rule turns one into the other.
 abbrev pub skipped : ℕ → ℕ
@@ -181,6 +185,23 @@ path =
     times (the n) (item (Item.UB 3)) ▹ λ verbs.
     scaled (coordinates verbs)
 
+-- ---- (C-24; source 000, chapter 1) AlphaStop: position and midpoint, two bytes each, and an opacity byte. ColorStop: position, midpoint, Color. GradientColor: how many
+-- there are of each, at most 4,096, then the alpha stops and the color stops.
+abbrev pub uint16 : Format
+uint16 = byteItem (Item.LE 2)
+
+abbrev pub alphaStop : Format
+alphaStop = uint16 ▸ uint16 ▸ byte
+
+abbrev pub colorStop : Format
+colorStop = uint16 ▸ uint16 ▸ color
+
+abbrev pub gradientColor : Format
+gradientColor =
+    count 0 4096 ▹ λ alphas.
+    count 0 4096 ▹ λ colors.
+    times (the alphas) alphaStop ▸ times (the colors) colorStop
+
 -- ---- Reading. For an item: skipped bits (15) by the `align` before it, its bytes (13), its spelling (14), its range (16, 17) by `only`.
 
 -- an attribute's flag bits (Bodies): a zero bit ends them. Shown as exist + 2 × animatable + 4 × hasSpatial: 0, 1, 3 or 7
@@ -205,6 +226,7 @@ readItem o b Item.string p = showText (readText o b p (length b))
 readItem o b (Item.UB n) p = showNum (readUB o b p n)
 readItem o b (Item.SB n) p = showNum (readSB o b p n)
 readItem o b Item.width p = showNum (readWidth o b p)
+readItem o b Item.dashLength p = showNum (readDashLength o b p)
 readItem o b Item.align p = readAlign o b p
 readItem o b (Item.flag n) p = showNum (readFlag o b p n)
 readItem o b (Item.echo n) p = shows (n ∷ []) p

@@ -8,10 +8,9 @@ use Rattle.format.specs.Tests.{pick}
 use Rattle.format.specs.Bits.{Order, orderNamed}
 use Rattle.format.specs.Formats.{the}
 use Rattle.format.specs.TableOfNumbers.{unpacked}
-use Rattle.format.specs.FileAndTags.{packed, Class, opaque, end, container, known, classOf, isEnd, isRead, front}
-use Rattle.format.specs.WritingFormats.{unrun}
+use Rattle.format.specs.FileAndTags.{packed, Class, opaque, end, container, known, classOf, isEnd, isRead, hasList}
 use Rattle.format.specs.Possible.{Possible, this, cannot}
-use Rattle.format.specs.WritingBodies.{wholeBytes, writeBody}
+use Rattle.format.specs.WritingBodies.{writeBody}
 
 -- the numbers that were used up, the bytes that they are written as, and the numbers that are left
 pub data Made : Type 0 where
@@ -70,7 +69,8 @@ abbrev pub fill : Order → (List ℕ → Possible Made) → ℕ → Class → �
 fill o W left opaque s n vs ys = bodyOf (s ∷ n ∷ vs) (unpackedAs vs) ys
 fill o W left end s n vs ys = pick (eqb n 0) (this (made (s ∷ n ∷ vs) [] ys)) cannot
 fill o W left (known y) s n vs ys = bodyOf (s ∷ n ∷ vs) (writeBody o y vs) ys
-fill o W left (container f) s n vs ys = pick (eqb left 0) cannot (fronted (s ∷ n ∷ vs) (wholeBytes o (unrun o (front f) vs 0)) (W ys))
+fill o W left (container y) s n vs ys =
+    pick (eqb left 0) cannot (pick (hasList y vs) (fronted (s ∷ n ∷ vs) (writeBody o y vs) (W ys)) (bodyOf (s ∷ n ∷ vs) (writeBody o y vs) ys))
 
 -- state, count and values of a tag
 abbrev pub outTag : Order → (List ℕ → Possible Made) → ℕ → Class → List ℕ → Possible Made

@@ -103,6 +103,7 @@ writeItem o Item.align ns p = this (wrote [] (dig o (skipped p) 0) ns)
 writeItem o (Item.UB n) ns p = single (spellUB o n) ns
 writeItem o (Item.SB n) ns p = single (undo (signExtend n) (unextend n) (spellUB o n)) ns
 writeItem o Item.width ns p = single (undo suc pred (spellUB o 5)) ns
+writeItem o Item.dashLength ns p = single (undo suc pred (spellUB o 3)) ns
 writeItem o Item.U32 ns p = single (λ v. spellVar o 15 v 4) ns
 writeItem o Item.U64 ns p = single (λ v. spellVar o 1 v 9) ns
 writeItem o Item.I32 ns p = single (spellI32 o) ns

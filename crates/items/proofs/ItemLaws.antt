@@ -22,7 +22,7 @@ use Rattle.bits.specs.declared.Got.{Got}
 use Rattle.bits.specs.declared.Got.the-variants.{Value, Fault}
 use Rattle.items.specs.Kinds.{formatOf, spelt, rangeFault}
 use Rattle.items.specs.declared.Item.{Item}
-use Rattle.items.specs.declared.Item.the-variants.{U32, I32, Time, Float, Byte, Enum, BlendMode, Count}
+use Rattle.items.specs.declared.Item.the-variants.{U32, I32, Time, Float, Uint16, Byte, Enum, BlendMode, Count}
 use Rattle.items.proofs.VarLaws.{IsByte, byte-is, room-is, room-not, Below, var-below}
 
 -- ---- what an answer tells a caller
@@ -43,7 +43,7 @@ shown-one a b e = num-one a b (go (numOf a) (numOf b) (ap (λ (r : Reading). r .
     go (bad e) (num v p) c z = clash cc
     go (bad e) (bad f) c z = let d : e ≡ f = cc in ap bad d
 
--- ---- a Float: bytes, lowest first
+-- ---- a Float and a Uint16: bytes, lowest first
 module _ (o : Order) (s : List ℕ) where
   le-more : (i p n : ℕ) {x : ℕ} → p ≡ 8 * i → i < length s → IsByte s i x → readLE o s p (suc n) ≡ above x (readLE o s (p + 8) n)
   unfolding readLE
@@ -65,6 +65,13 @@ module _ (o : Order) (s : List ℕ) where
       let f : p + 32 ≡ p + 8 + 8 + 8 + 8 = omega arith in
       let g : b3 + 256 * 0 ≡ b3 = omega arith in
       sym (rw (le-more i p 3 at (omega arith) y0, le-more (i + 1) (p + 8) 2 (omega arith) (omega arith) y1, le-more (i + 2) (p + 8 + 8) 1 (omega arith) (omega arith) y2, le-more (i + 3) (p + 8 + 8 + 8) 0 (omega arith) (omega arith) y3, g, e, f))
+
+  pub uint16-is : (i p : ℕ) {b0 b1 q : ℕ} → p ≡ 8 * i → i + 2 ≤ length s → IsByte s i b0 → IsByte s (i + 1) b1 → q ≡ p + 16 → num (b0 + 256 * b1) q ≡ readLE o s p 2
+  unfolding readLE
+  uint16-is i p {b1 = b1} at l y0 y1 e =
+      let f : p + 16 ≡ p + 8 + 8 = omega arith in
+      let g : b1 + 256 * 0 ≡ b1 = omega arith in
+      sym (rw (le-more i p 1 at (omega arith) y0, le-more (i + 1) (p + 8) 0 (omega arith) (omega arith) y1, g, e, f))
 
   le-below : (p n : ℕ) → Below (256 ^ n) (readLE o s p n)
   unfolding readLE
@@ -137,6 +144,7 @@ item-is o b p U32 n h = free-is o b p U32 n _ (h formats.Item.U32 (λ q. refl)) 
 item-is o b p I32 n h = free-is o b p I32 n _ (h formats.Item.I32 (λ q. refl)) (λ v. refl)
 item-is o b p Time n h = free-is o b p Time n _ (h formats.Item.U64 (λ q. refl)) (λ v. refl)
 item-is o b p Float n h = free-is o b p Float n _ (h (formats.Item.LE 4) (λ q. refl)) (λ v. refl)
+item-is o b p Uint16 n h = free-is o b p Uint16 n _ (h (formats.Item.LE 2) (λ q. refl)) (λ v. refl)
 item-is o b p Byte n h = free-is o b p Byte n _ (h (formats.Item.UB 8) (λ q. refl)) (λ v. refl)
 item-is o b p (Enum top) n h = held-is o b p (Enum top) n _ (h (formats.Item.UB 8) (λ q. refl)) _ _ refl (λ v. refl)
 item-is o b p BlendMode n h = held-is o b p BlendMode n _ (h (formats.Item.UB 8) (λ q. refl)) _ _ refl (λ v. refl)
@@ -177,6 +185,7 @@ spelt-below o I32 b q = go (readU32 o b q) (var-below o b 15 q 4 (lit≤ tt))
     go (bad e) h = tt
 spelt-below o Time b q = var-below o b 1 q 9 (lit≤ tt)
 spelt-below o Float b q = below-more (lit≤ tt) (readLE o b q 4) (le-below o b q 4)
+spelt-below o Uint16 b q = below-more (lit≤ tt) (readLE o b q 2) (le-below o b q 2)
 spelt-below o Byte b q = ub-below o b q
 spelt-below o (Enum top) b q = ub-below o b q
 spelt-below o BlendMode b q = ub-below o b q

@@ -6,10 +6,10 @@ use lib.Dec.{ltb, leb}
 use Rattle.format.specs.Tests.{pick, _and_, _or_}
 use Rattle.format.specs.Bits.{Order}
 use Rattle.format.specs.Formats.{Format}
-use Rattle.format.specs.Items.{Num, u32, i32, time, float, byte, enum, count, readU32, readU64, readLE, readUB, mapNum, notOne, sign}
+use Rattle.format.specs.Items.{Num, u32, i32, time, float, uint16, byte, enum, count, readU32, readU64, readLE, readUB, mapNum, notOne, sign}
 use Rattle.format.specs.Bodies.{blendMode}
 use Rattle.items.specs.declared.Item.{Item}
-use Rattle.items.specs.declared.Item.the-variants.{U32, I32, Time, Float, Byte, Enum, BlendMode, Count}
+use Rattle.items.specs.declared.Item.the-variants.{U32, I32, Time, Float, Uint16, Byte, Enum, BlendMode, Count}
 
 -- the format of a kind; a Count goes to 4,096
 abbrev pub formatOf : Item → Format
@@ -17,6 +17,7 @@ formatOf U32 = u32
 formatOf I32 = i32
 formatOf Time = time
 formatOf Float = float
+formatOf Uint16 = uint16
 formatOf Byte = byte
 formatOf (Enum top) = enum top
 formatOf BlendMode = blendMode
@@ -28,6 +29,7 @@ spelt o U32 b p = readU32 o b p
 spelt o I32 b p = mapNum sign (notOne (readU32 o b p))
 spelt o Time b p = readU64 o b p
 spelt o Float b p = readLE o b p 4
+spelt o Uint16 b p = readLE o b p 2
 spelt o Byte b p = readUB o b p 8
 spelt o (Enum top) b p = readUB o b p 8
 spelt o BlendMode b p = readUB o b p 8
@@ -43,6 +45,7 @@ rangeFault U32 v = 0
 rangeFault I32 v = 0
 rangeFault Time v = 0
 rangeFault Float v = 0
+rangeFault Uint16 v = 0
 rangeFault Byte v = 0
 rangeFault (Enum top) v = pick (leb v top) 0 16
 rangeFault BlendMode v = pick (leb v 16 or between 21 v 26) 0 16

@@ -1,7 +1,8 @@
 // The items that show one number: each starts on a whole byte.
 ghost use mathlib.Core.Path.{_≡_};
-ghost use Prim.Native.Nat.{_*_};
-ghost use Rattle.format.specs.Items.{showNum, run, readLE, readUB};
+ghost use Prim.Native.Nat.{_+_, _*_, _^_, _≤_, _<_};
+ghost use lib.ListN.{length};
+ghost use Rattle.format.specs.Items.{num, showNum, run, readLE, readUB};
 ghost use Rattle.bits.specs.Places.{PlaceIn, numOf, orderOf, InEither};
 ghost use Rattle.items.specs.Kinds.{formatOf, spelt, between as within, rangeFault};
 
@@ -19,6 +20,7 @@ pub enum Item {
     I32,
     Time,
     Float,
+    Uint16,
     Byte,
     Enum(u64),
     BlendMode,
@@ -37,7 +39,19 @@ fn read_byte(body: &[u8], byte: BytePlace, bit: BitPlace) -> Got
     Got::Value(bits::byte_at(body, i), BitPlace(bit.0 + 8))
 }
 
-// A Float: four bytes, lowest first, kept as their pattern.
+// Four bytes, lowest first, as one number.
+pub fn float_at(body: &[u8], i: usize) -> u64
+    requires { ⌜ (i + 4 ≤ length (now body)) × (length (now body) < 2 ^ 60) ⌝ }
+    ensures { λ r. ⌜ InEither (λ o. num r (8 * i + 32) ≡ readLE o (now (body .entry)) (8 * i) 4) ⌝ }
+{
+    let b0 = bits::byte_at(body, i);
+    let b1 = bits::byte_at(body, i + 1);
+    let b2 = bits::byte_at(body, i + 2);
+    let b3 = bits::byte_at(body, i + 3);
+    b0 + 256 * (b1 + 256 * (b2 + 256 * b3))
+}
+
+// A Float: four bytes, kept as their pattern.
 fn read_float(body: &[u8], byte: BytePlace, bit: BitPlace) -> Got
     requires { ⌜ PlaceIn (now body) (bit .0) × (bit .0 ≡ 8 * byte .0) ⌝ }
     ensures { λ r. ⌜ InEither (λ o. numOf r ≡ readLE o (now (body .entry)) (bit .0) 4) ⌝ }
@@ -46,14 +60,21 @@ fn read_float(body: &[u8], byte: BytePlace, bit: BitPlace) -> Got
     if body.len() - i < 4 {
         return Got::Fault(13);
     }
+    Got::Value(float_at(body, i), BitPlace(bit.0 + 32))
+}
+
+// Two bytes, lowest first.
+fn read_uint16(body: &[u8], byte: BytePlace, bit: BitPlace) -> Got
+    requires { ⌜ PlaceIn (now body) (bit .0) × (bit .0 ≡ 8 * byte .0) ⌝ }
+    ensures { λ r. ⌜ InEither (λ o. numOf r ≡ readLE o (now (body .entry)) (bit .0) 2) ⌝ }
+{
+    let i = byte.0;
+    if body.len() - i < 2 {
+        return Got::Fault(13);
+    }
     let b0 = bits::byte_at(body, i);
     let b1 = bits::byte_at(body, i + 1);
-    let b2 = bits::byte_at(body, i + 2);
-    let b3 = bits::byte_at(body, i + 3);
-    Got::Value(
-        b0 + 256 * (b1 + 256 * (b2 + 256 * b3)),
-        BitPlace(bit.0 + 32),
-    )
+    Got::Value(b0 + 256 * b1, BitPlace(bit.0 + 16))
 }
 
 // An item's bytes (13) and their spelling (14), from a whole byte on.
@@ -67,6 +88,7 @@ fn read_spelling(kind: Item, body: &[u8], byte: BytePlace, bit: BitPlace) -> Got
         Item::I32 => var::read_i32(body, byte, bit),
         Item::Time => var::read_u64(body, byte, bit),
         Item::Float => read_float(body, byte, bit),
+        Item::Uint16 => read_uint16(body, byte, bit),
         Item::Byte => read_byte(body, byte, bit),
         Item::Enum(_) => read_byte(body, byte, bit),
         Item::BlendMode => read_byte(body, byte, bit),
@@ -98,6 +120,7 @@ pub fn out_of_range(kind: Item, value: u64) -> u32
         Item::I32 => 0,
         Item::Time => 0,
         Item::Float => 0,
+        Item::Uint16 => 0,
         Item::Byte => 0,
     }
 }

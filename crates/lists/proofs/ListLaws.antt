@@ -11,21 +11,21 @@ use lib.Dec.{eqb}
 use borrow.Author.Tests.{eqb-true, eqb-false}
 use Rattle.format.specs.Tests.{pick}
 use Rattle.format.specs.Bits.{Order}
-use Rattle.format.specs.Reading.{Ending, At, Fault}
-use Rattle.format.specs.Items.{run, toByte}
-use Rattle.format.specs.Bodies.{readBody}
+use Rattle.format.specs.Reading.{Ending, At, Fault, Reading}
+use Rattle.format.specs.Items.{toByte}
+use Rattle.format.specs.Bodies.{toEnd, readBody}
 use Rattle.format.specs.FileAndTags as paper
-use Rattle.format.specs.FileAndTags.{le16, container, isEnd, isContainer, isRead, stateOf, Tag, Outcome, whole, fault, Walk, noTags, broken, chain, head, noHead, readHead, blame, atEnd, afterTag, TagInside, endAt, front, opened, within, tagThen, walkList}
+use Rattle.format.specs.FileAndTags.{le16, container, isEnd, isContainer, isRead, stateOf, Tag, Outcome, whole, fault, Walk, noTags, broken, chain, head, noHead, readHead, blame, atEnd, afterTag, TagInside, endAt, leaf, opened, within, tagThen, walkList}
 use Rattle.format.specs.TableOfNumbers.{numbers, tagTable}
 use Rattle.format.proofs.EngineLaws.{chain-chain, numbers-append, tagTable-append}
 use Rattle.format.proofs.ListLaws.{list-nil, list-fault, list-tag}
 use Rattle.format.proofs.RoomLaws.{FairClass, Room, walk-room, tag-table-length}
-use Rattle.format.proofs.WalkLaws.{run-le, Fits, head-fits}
+use Rattle.format.proofs.WalkLaws.{Fits, head-fits}
 use Rattle.format.proofs.Absurd.{clash}
 use Rattle.table.proofs.EngineLaws.{sets-append}
 use Rattle.attributes.specs.Rows.{attributesOf}
 use Rattle.fixed.specs.Fixed.{fixedOf}
-use Rattle.bodies.specs.Leaf.{leafBody}
+use Rattle.bodies.specs.Leaf.{leafBody, containerBody, hasListIn}
 use Rattle.classes.specs.Classes.{bare, ends, contains, classBy, Classed}
 use Rattle.classes.specs.declared.Class.{Class}
 use Rattle.classes.specs.declared.Class.the-variants.{Opaque, End, Container, Fixed, Attributes}
@@ -33,7 +33,8 @@ use Rattle.classes.specs.declared.Scope.{Scope}
 use Rattle.classes.proofs.ClassLaws.{Right, spelt, fair-by, taken-by}
 use Rattle.headers.specs.Heads.{headBy}
 use Rattle.headers.proofs.HeadLaws.{head-by}
-use Rattle.tags.specs.Shown.{valuesOf}
+use Rattle.tags.specs.Shown.{valuesOf, listOf}
+use Rattle.tags.proofs.TagLaws.{values-le}
 use Rattle.bits.specs.declared.BytePlace.{BytePlace}
 use Rattle.lists.specs.Lists.{ownerOf, byteAt, classWith, classIn, classesIn, Tabled, tagShown, stepOf, Stepped, stepped, tagAt, lastOf, Listed, listed, walkedOf, walkOver, Bounds}
 use Rattle.lists.specs.declared.Owner.{Owner}
@@ -70,26 +71,22 @@ positive (suc n) h = omega arith
 
 -- ---- what stands in a tag, by the name of its class
 
--- the walk of the list inside it; lists are read by R
-abbrev pub walkOf : (paper.Owner → ℕ → List ℕ → Walk) → Class → ℕ → ℕ → List ℕ → Ending → Walk
-walkOf R c a s body (Fault e) = broken e a
-walkOf R Opaque a s body (At p) = noTags whole
-walkOf R End a s body (At p) = noTags whole
-walkOf R Container a s body (At p) = R (paper.inside a) (s + toByte p) (drop (toByte p) body)
-walkOf R Fixed a s body (At p) = noTags whole
-walkOf R Attributes a s body (At p) = noTags whole
+-- the walk inside it, by whether it has a list, which R reads
+abbrev pub walkOf : (paper.Owner → ℕ → List ℕ → Walk) → Bool → ℕ → ℕ → List ℕ → Ending → Walk
+walkOf R list a s body (At p) = pick list (R (paper.inside a) (s + toByte p) (drop (toByte p) body)) (noTags whole)
+walkOf R list a s body (Fault e) = broken e a
 
 abbrev pub insideOf : Order → (paper.Owner → ℕ → List ℕ → Walk) → Class → ℕ → ℕ → ℕ → List ℕ → TagInside
 insideOf o R c code a s body =
-    record { values = valuesOf o c code body .shown; walk = walkOf R c a s body (valuesOf o c code body .ended) }
+    record { values = valuesOf o c code body .shown; walk = walkOf R (listOf o c code body) a s body (valuesOf o c code body .ended) }
 
--- the code's bodies and fronts are the classes'
-pub right : Right leafBody (λ code. container (fixedOf code))
-unfolding leafBody fixedOf attributesOf
+-- the bodies of the codes are the classes'
+pub right : Right leafBody (λ code. container (containerBody code))
+unfolding leafBody containerBody fixedOf attributesOf
 right = refl
 
 -- the classes of a table are those of its level, and no list needs more room by them
-with-spelt : (c : Class) (code : ℕ) → classWith c code ≡ spelt leafBody (λ code. container (fixedOf code)) c code
+with-spelt : (c : Class) (code : ℕ) → classWith c code ≡ spelt leafBody (λ code. container (containerBody code)) c code
 with-spelt Opaque code = refl
 with-spelt End code = refl
 with-spelt Container code = refl
@@ -98,7 +95,7 @@ with-spelt Attributes code = refl
 
 pub class-level : (ns : List ℕ) (scope : Scope) (level : ℕ) → Classed scope level ns → (code : ℕ) → classesIn ns code ≡ classBy scope level code
 class-level ns scope level k code =
-    with-spelt (classIn ns code) code ∙ ap (λ (c : Class). spelt leafBody (λ code. container (fixedOf code)) c code) (k .each code) ∙ sym (taken-by leafBody fixedOf right scope level code)
+    with-spelt (classIn ns code) code ∙ ap (λ (c : Class). spelt leafBody (λ code. container (containerBody code)) c code) (k .each code) ∙ sym (taken-by leafBody containerBody right scope level code)
 
 pub fair-in : (o : Order) {ns : List ℕ} → Tabled ns → (code : ℕ) → FairClass o (classesIn ns code)
 fair-in o {ns} k code = subst (FairClass o) (sym (class-level ns (k .scope) (k .level) (k .classed) code)) (fair-by o (k .scope) (k .level) code)
@@ -115,24 +112,28 @@ pub within-is : (o : Order) (R : paper.Owner → ℕ → List ℕ → Walk) (ns 
     → within o R (classesIn ns code) a s body ≡ insideOf o R (classIn ns code) code a s body
 within-is o R ns code a s body = go (classIn ns code)
   where
-    leaf : (xs : List ℕ) (z : Ending) → _≡_ {A = TagInside} (record { values = xs; walk = noTags (endAt a z) }) (record { values = xs; walk = walkOf R Fixed a s body z })
-    leaf xs (At p) = refl
-    leaf xs (Fault e) = refl
+    leaf-is : (r : Reading) → leaf a r ≡ record { values = r .shown; walk = walkOf R false a s body (r .ended) }
+    leaf-is r = by (r .ended)
+      where
+        by : (z : Ending) → _≡_ {A = TagInside} (record { values = r .shown; walk = noTags (endAt a z) }) (record { values = r .shown; walk = walkOf R false a s body z })
+        by (At p) = refl
+        by (Fault e) = refl
 
-    fronted : (xs : List ℕ) (z : Ending) → opened R a s body xs z ≡ record { values = xs; walk = walkOf R Container a s body z }
-    fronted xs (At p) = refl
-    fronted xs (Fault e) = refl
+    opened-is : (xs : List ℕ) (z : Ending) → opened R a s body xs z ≡ record { values = xs; walk = walkOf R true a s body z }
+    opened-is xs (At p) = refl
+    opened-is xs (Fault e) = refl
 
-    leaf-too : (xs : List ℕ) (z : Ending) → _≡_ {A = TagInside} (record { values = xs; walk = noTags (endAt a z) }) (record { values = xs; walk = walkOf R Attributes a s body z })
-    leaf-too xs (At p) = refl
-    leaf-too xs (Fault e) = refl
+    -- with a list, or without
+    own : (list : Bool) (f r : Reading) → pick list (opened R a s body (f .shown) (f .ended)) (leaf a r) ≡ record { values = pick list f r .shown; walk = walkOf R list a s body (pick list f r .ended) }
+    own true f r = opened-is (f .shown) (f .ended)
+    own false f r = leaf-is r
 
     go : (c : Class) → within o R (classWith c code) a s body ≡ insideOf o R c code a s body
     go Opaque = refl
     go End = refl
-    go Container = fronted (run o body (front (fixedOf code)) 0 .shown) (run o body (front (fixedOf code)) 0 .ended)
-    go Fixed = leaf (readBody o (leafBody code) body .shown) (readBody o (leafBody code) body .ended)
-    go Attributes = leaf-too (readBody o (leafBody code) body .shown) (readBody o (leafBody code) body .ended)
+    go Container = own (hasListIn o (containerBody code) body) (toEnd o body (containerBody code)) (readBody o (containerBody code) body)
+    go Fixed = leaf-is (readBody o (leafBody code) body)
+    go Attributes = leaf-is (readBody o (leafBody code) body)
 
 -- what a step says of the class c and of the walk w inside the tag, whose body stands from `start` up to `stop` of the list at place a
 abbrev Follows : (paper.Owner → ℕ → List ℕ → Walk) → ℕ → ℕ → ℕ → ℕ → List ℕ → Class → Walk → ℕ → Step → Type 0
@@ -144,24 +145,24 @@ Follows R a place start stop body c w j (step.Open x) =
     × (w ≡ R (paper.inside place) (a + x .list .0) (drop (x .list .0 - start) body))
 
 follows : (o : Order) (R : paper.Owner → ℕ → List ℕ → Walk) (a place start stop code j : ℕ) (body : List ℕ) (c : Class)
-    → Follows R a place start stop body c (walkOf R c place (a + start) body (valuesOf o c code body .ended)) j (stepOf c start stop j (valuesOf o c code body .ended))
-follows o R a place start stop code j body c = go c (valuesOf o c code body .ended) refl
+    → Follows R a place start stop body c (walkOf R (listOf o c code body) place (a + start) body (valuesOf o c code body .ended)) j (stepOf c (listOf o c code body) start stop j (valuesOf o c code body .ended))
+follows o R a place start stop code j body c = go c (listOf o c code body) refl (valuesOf o c code body .ended) refl
   where
-    go : (c : Class) (z : Ending) → valuesOf o c code body .ended ≡ z → Follows R a place start stop body c (walkOf R c place (a + start) body z) j (stepOf c start stop j z)
-    go Opaque (At p) e = (refl, refl, refl, refl)
-    go Opaque (Fault x) e = refl
-    go End (At p) e = (refl, refl, refl, refl)
-    go End (Fault x) e = refl
-    go Container (At p) e =
-        let l : (0 ≤ p) × (p ≤ 8 * length body) = run-le o body (front (fixedOf code)) 0 p (omega arith) e in
+    go : (c : Class) (l : Bool) → listOf o c code body ≡ l → (z : Ending) → valuesOf o c code body .ended ≡ z → Follows R a place start stop body c (walkOf R l place (a + start) body z) j (stepOf c l start stop j z)
+    go c l f (Fault x) e = refl
+    go Container true f (At p) e =
         let q : start + p / 8 - start ≡ p / 8 = omega arith in
         let r : a + start + p / 8 ≡ a + (start + p / 8) = omega arith in
-        (refl, refl, refl, refl, omega arith, omega (arith, l .1), rw (q, r))
-    go Container (Fault x) e = refl
-    go Fixed (At p) e = (refl, refl, refl, refl)
-    go Fixed (Fault x) e = refl
-    go Attributes (At p) e = (refl, refl, refl, refl)
-    go Attributes (Fault x) e = refl
+        (refl, refl, refl, refl, omega arith, omega (arith, values-le o Container code body p e), rw (q, r))
+    go Opaque true f (At p) e = clash cc
+    go End true f (At p) e = clash cc
+    go Fixed true f (At p) e = clash cc
+    go Attributes true f (At p) e = clash cc
+    go Opaque false f (At p) e = (refl, refl, refl, refl)
+    go End false f (At p) e = (refl, refl, refl, refl)
+    go Container false f (At p) e = (refl, refl, refl, refl)
+    go Fixed false f (At p) e = (refl, refl, refl, refl)
+    go Attributes false f (At p) e = (refl, refl, refl, refl)
 
 -- ---- tags laid over the two tables
 
@@ -332,7 +333,7 @@ module _ (o : Order) (ns : List ℕ) (depths : ℕ) (own : paper.Owner) (a : ℕ
       c = classIn ns code
 
       abbrev inner : Walk
-      inner = walkOf R c (a + i) (a + start) body (valuesOf o c code body .ended)
+      inner = walkOf R (listOf o c code body) (a + i) (a + start) body (valuesOf o c code body .ended)
 
       abbrev later : Bool → Walk
       later b = afterTag b own (a + stop) (drop stop r) (walkList o (classesIn ns) depths own)
@@ -366,7 +367,7 @@ module _ (o : Order) (ns : List ℕ) (depths : ℕ) (own : paper.Owner) (a : ℕ
           (passed-as (from i) (tagThen (8 - depths) code (a + i) size len (stateOf (bare c) size len) (insideOf o R c code (a + i) (a + start) body) (later (ends c))) tag-is (going .passed)) refl refl (omega arith) refl
 
       -- the step after it
-      module _ (S : Step) (next : S ≡ stepOf c start stop j′ (valuesOf o c code body .ended)) where
+      module _ (S : Step) (next : S ≡ stepOf c (listOf o c code body) start stop j′ (valuesOf o c code body .ended)) where
         tag-follows : Follows R a (a + i) start stop body c inner j′ S
         tag-follows = subst (Follows R a (a + i) start stop body c inner j′) (sym next) (follows o R a (a + i) start stop code j′ body c)
 

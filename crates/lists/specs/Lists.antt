@@ -1,5 +1,6 @@
 -- What reading a tag list leaves: the lent table, the lent tag table, and the answer.
 use Prim.Native.Nat.{ℕ, _+_, _-_, _*_, _/_, _≤_}
+use mathlib.Core.Bool.{Bool}
 use mathlib.Core.List.{List, [], _∷_}
 use lib.ListN.{length, getD, take, drop}
 use lib.Seq.{sets}
@@ -12,15 +13,14 @@ use Rattle.format.specs.Items.{toByte}
 use Rattle.format.specs.FileAndTags as paper
 use Rattle.format.specs.FileAndTags.{le16, stateOf, Outcome, whole, fault, Walk, blame}
 use Rattle.format.specs.TableOfNumbers.{numbers, tagTable}
-use Rattle.fixed.specs.Fixed.{fixedOf}
-use Rattle.bodies.specs.Leaf.{leafBody}
+use Rattle.bodies.specs.Leaf.{leafBody, containerBody}
 use Rattle.classes.specs.Classes.{bare, numbered, Classed}
 use Rattle.classes.specs.declared.Scope.{Scope}
 use Rattle.classes.specs.declared.Class.{Class}
 use Rattle.classes.specs.declared.Class.the-variants.{Opaque, End, Container, Fixed, Attributes}
 use Rattle.headers.specs.Heads.{headBy}
 use Rattle.bits.specs.declared.BytePlace.{BytePlace}
-use Rattle.tags.specs.Shown.{valuesOf, headed}
+use Rattle.tags.specs.Shown.{valuesOf, listOf, headed}
 use Rattle.lists.specs.declared.Owner.{Owner}
 use Rattle.lists.specs.declared.Owner.the-variants.{File, Container}
 use Rattle.lists.specs.declared.Walked.{Walked}
@@ -42,7 +42,7 @@ byteAt n = record { 0 = n }
 abbrev pub classWith : Class → ℕ → paper.Class
 classWith Opaque code = paper.opaque
 classWith End code = paper.end
-classWith Container code = paper.container (fixedOf code)
+classWith Container code = paper.container (containerBody code)
 classWith Fixed code = paper.known (leafBody code)
 classWith Attributes code = paper.known (leafBody code)
 
@@ -64,18 +64,19 @@ pub record Tabled (ns : List ℕ) : Type 0 where
 abbrev pub tagShown : Order → Class → ℕ → ℕ → ℕ → List ℕ → Reading
 tagShown o class code len size body = headed code (stateOf (bare class) size len) (valuesOf o class code body)
 
--- what comes after it: it ends at `stop`, its list starts at `list`, and j is the next index
-abbrev pub stepBy : Class → BytePlace → BytePlace → ℕ → Step
-stepBy Opaque list stop j = step.Next stop j
-stepBy End list stop j = step.Last stop j
-stepBy Container list stop j = step.Open (record { list = list; stop = stop; behind = j })
-stepBy Fixed list stop j = step.Next stop j
-stepBy Attributes list stop j = step.Next stop j
+-- what comes after it, if it has no list: it ends at `stop`, and j is the next index
+abbrev pub nextBy : Class → BytePlace → ℕ → Step
+nextBy Opaque stop j = step.Next stop j
+nextBy End stop j = step.Last stop j
+nextBy Container stop j = step.Next stop j
+nextBy Fixed stop j = step.Next stop j
+nextBy Attributes stop j = step.Next stop j
 
--- by how its values ended; its body stands from `start` on
-abbrev pub stepOf : Class → ℕ → ℕ → ℕ → Ending → Step
-stepOf class start stop j (At p) = stepBy class (byteAt (start + toByte p)) (byteAt stop) j
-stepOf class start stop j (reading.Fault e) = step.Fault e
+-- by whether it has a list, and how its values ended; its body stands from `start` on
+abbrev pub stepOf : Class → Bool → ℕ → ℕ → ℕ → Ending → Step
+stepOf class list start stop j (At p) =
+    pick list (step.Open (record { list = byteAt (start + toByte p); stop = byteAt stop; behind = j })) (nextBy class (byteAt stop) j)
+stepOf class list start stop j (reading.Fault e) = step.Fault e
 
 pub record Stepped : Type 0 where
   pub table : List ℕ
@@ -90,7 +91,7 @@ abbrev pub tagAt : Order → Class → ℕ → ℕ → List ℕ → ℕ → List
 tagAt o class depths a r i t k g m (paper.noHead e) = stepped t g (step.Fault e)
 tagAt o class depths a r i t k g m (paper.head code len size) =
     stepped (sets t k (tagShown o class code len size (take len (drop size (drop i r))) .shown)) (sets g m ((8 - depths) ∷ code ∷ (a + i) ∷ size ∷ len ∷ []))
-    (stepOf class (i + size) (i + size + len) (k + length (tagShown o class code len size (take len (drop size (drop i r))) .shown)) (tagShown o class code len size (take len (drop size (drop i r))) .ended))
+    (stepOf class (listOf o class code (take len (drop size (drop i r)))) (i + size) (i + size + len) (k + length (tagShown o class code len size (take len (drop size (drop i r))) .shown)) (tagShown o class code len size (take len (drop size (drop i r))) .ended))
 
 -- by its header, and the class that its code has among these
 abbrev pub tagIn : Order → List ℕ → ℕ → ℕ → List ℕ → ℕ → List ℕ → ℕ → List ℕ → ℕ → Stepped

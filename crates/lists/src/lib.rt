@@ -3,7 +3,7 @@ ghost use mathlib.Core.Path.{_≡_};
 ghost use Prim.Native.Nat.{_+_, _<_, _≤_, _^_};
 ghost use lib.ListN.{length};
 ghost use Rattle.format.specs.FileAndTags.{blame as blameOf, head, walkList};
-ghost use Rattle.lists.specs.Lists.{ownerOf, listed, walkOver, stepBy, stepped, tagAt, tagIn, lastOf, classesIn, Tabled, Bounds};
+ghost use Rattle.lists.specs.Lists.{ownerOf, listed, walkOver, nextBy, stepped, tagAt, tagIn, lastOf, classesIn, Tabled, Bounds};
 ghost use Rattle.bits.specs.Places.{orderOf};
 use bits::BytePlace;
 use bits::Order;
@@ -70,18 +70,14 @@ fn last(
     }
 }
 
-// What comes after a tag's own numbers, by its class.
-fn next_step(class: Class, list: BytePlace, stop: BytePlace, behind: usize) -> Step
-    ensures { λ r. ⌜ r ≡ stepBy class list stop behind ⌝ }
+// What comes after the numbers of a tag without a list, by its class.
+fn next_step(class: Class, stop: BytePlace, behind: usize) -> Step
+    ensures { λ r. ⌜ r ≡ nextBy class stop behind ⌝ }
 {
     match class {
         Class::Opaque => Step::Next(stop, behind),
         Class::End => Step::Last(stop, behind),
-        Class::Container => Step::Open(Opened {
-            list: list,
-            stop: stop,
-            behind: behind,
-        }),
+        Class::Container => Step::Next(stop, behind),
         Class::Fixed => Step::Next(stop, behind),
         Class::Attributes => Step::Next(stop, behind),
     }
@@ -113,9 +109,14 @@ fn show_tag(
     tags::show_row(8 - depths, code, BytePlace(tag), size, len, rows, row);
     match tags::show_tag(order, class, code, size, &room[start..stop], table, from) {
         Shown::Stop(why, _) => Step::Fault(why),
-        Shown::Done(next, behind) => {
+        Shown::Done(_, behind) => next_step(class, BytePlace(stop), behind),
+        Shown::Open(next, behind) => {
             let list = start + next.0;
-            next_step(class, BytePlace(list), BytePlace(stop), behind)
+            Step::Open(Opened {
+                list: BytePlace(list),
+                stop: BytePlace(stop),
+                behind: behind,
+            })
         }
     }
 }

@@ -1,5 +1,6 @@
 -- For code: what the calls of the readers tell of a mask's body, and where the opacity is found.
 use Prim.Native.Nat.{ℕ, _+_, _-_, _*_, _^_, _≤_, _<_}
+use mathlib.Core.Bool.{false}
 use mathlib.Core.List.{List, []}
 use mathlib.Core.Path.{_≡_, refl, ap, sym, subst, _∙_}
 use native.Mathlib.Omega.{arith}
@@ -10,22 +11,23 @@ use Rattle.format.specs.Bits.{Order, orderNamed}
 use Rattle.format.specs.Reading.{Ending, At, Fault, Reading, shows}
 use Rattle.format.specs.Formats.{Format, the}
 use Rattle.format.specs.Items.{num, bad, run, showNum}
+use Rattle.format.specs.Bodies as bodies
 use Rattle.format.specs.Bodies.{maskBlock, allFlags, rows, attributes, readBody}
 use Rattle.bits.specs.Places.{numOf}
 use Rattle.bits.specs.declared.BitPlace.{BitPlace}
-use Rattle.bits.specs.declared.BytePlace.{BytePlace}
 use Rattle.bits.specs.declared.Got.{Got}
 use Rattle.bits.specs.declared.Got.the-variants.{Value as GotValue, Fault as GotFault}
 use Rattle.table.specs.State.{State, shownOver}
 use Rattle.table.specs.Run.{endingOf, runLeaves}
 use Rattle.table.specs.declared.Run.{Run}
-use Rattle.attributes.specs.Rows.{attributesOf, rowsAt, rowsFrom, AreRows}
-use Rattle.attributes.specs.declared.Rows.{Rows}
-use Rattle.attributes.proofs.FlagLaws.{ended-is, flags-read, rows-are}
+use Rattle.attributes.specs.Rows.{attributesOf, rowsFrom, Attributes}
+use Rattle.attributes.specs.declared.Attribute.{Attribute}
+use Rattle.attributes.proofs.FlagLaws.{ended-is, flags-read, rows-many}
+use Rattle.bodies.proofs.ContentLaws.{rows-first}
 use Rattle.bodies.specs.Leaf.{leafBody}
-use Rattle.bodies.specs.Shown.{shownLeaves}
+use Rattle.bodies.specs.Shown.{shownEnd, Shows}
 use Rattle.bodies.specs.declared.Shown.{Shown}
-use Rattle.bodies.specs.declared.Shown.the-variants.{Done, Stop}
+use Rattle.bodies.specs.declared.Shown.the-variants.{Stop}
 use Rattle.opacity.specs.Opacity.{Opacity, refusedBy, fromOpacity, shownAt, ofMask, opacityAt}
 use Rattle.opacity.specs.Inner.{placeIn, IsAt, Judged, Finds}
 use Rattle.opacity.proofs.ReadLaws.{ended-at}
@@ -43,15 +45,14 @@ item-none {g} {why} {R} e h =
     (ap (λ (r : Reading). the (r .shown)) d, ap (λ (r : Reading). placeIn (r .ended)) d)
 
 -- ---- the rows before the opacity's
-pub rows-before : (R : Rows) → R ≡ rowsAt 14 → AreRows (R .start) (R .start + 4)
-rows-before R e = rw e (record { up = omega arith; few = omega arith; inside = omega arith })
+module _ (o : Order) (b : List ℕ) (J : Judged o b) (f u : List ℕ) (lent : 12 ≤ length f) (r : Run) (mask : List Attribute) (count : ℕ) (is : Attributes mask count (attributesOf 14))
+    (left : runLeaves u r ≡ shownOver f 0 (run o b (allFlags (rowsFrom mask 0 count)) 0)) where
+  mask-is : rowsFrom mask 0 count ≡ maskBlock
+  unfolding attributesOf
+  mask-is = is .are
 
-pub start-small : (R : Rows) → R ≡ rowsAt 14 → R .start < 1024
-start-small R e = rw e (omega arith)
-
-module _ (o : Order) (b : List ℕ) (J : Judged o b) (f u : List ℕ) (lent : 9 ≤ length f) (r : Run) where
-  abbrev FlagsLeft : Rows → Type 0
-  FlagsLeft R = runLeaves u r ≡ shownOver f 0 (run o b (allFlags (rowsFrom (R .start) (R .end))) 0)
+  six : count ≡ 6
+  six = sym (rows-many mask 0 count) ∙ ap length mask-is
 
   -- the flags were read: they are the first six numbers of u
   pub record Flagged : Type 0 where
@@ -59,52 +60,47 @@ module _ (o : Order) (b : List ℕ) (J : Judged o b) (f u : List ℕ) (lent : 9 
     pub ends : endingOf r ≡ At p
     pub read : run o b (allFlags maskBlock) 0 ≡ shows (take 6 u) p
 
-  flagged-at : FlagsLeft (rowsAt 14) → Flagged
-  unfolding attributesOf
-  flagged-at left =
+  pub flagged : Flagged
+  flagged =
       let B : Block o b maskBlock = block o b maskBlock (ended-at (readBody o (attributes maskBlock) b .ended) (J .reads) .1) in
-      let e : endingOf r ≡ At (B .p) = sym (ended-is f 0 (run o b (allFlags maskBlock) 0) left) ∙ ap (λ (x : Reading). x .ended) (B .flags) in
-      record { p = B .p; ends = e; read = flags-read o b f 0 (rows-are 14 (rowsAt 14) refl .0) lent (rw e at left) }
+      let e : endingOf r ≡ At (B .p) =
+      sym (ended-is f 0 (run o b (allFlags (rowsFrom mask 0 count)) 0) left) ∙ ap (λ (l : List bodies.Attribute). run o b (allFlags l) 0 .ended) mask-is ∙ ap (λ (x : Reading). x .ended) (B .flags) in
+      let read : run o b (allFlags (rowsFrom mask 0 count)) 0 ≡ shows (take count u) (B .p) = flags-read o mask count b f 0 (omega (arith, is .few)) (rw e at left) in
+      record { p = B .p; ends = e; read = ap (λ (l : List bodies.Attribute). run o b (allFlags l) 0) (sym mask-is) ∙ read ∙ ap (λ (n : ℕ). shows (take n u) (B .p)) six }
 
-  module _ (R : Rows) (is : R ≡ rowsAt 14) (left : FlagsLeft R) where
-    pub flagged : Flagged
-    flagged = flagged-at (subst FlagsLeft is left)
+  -- the place after the flags
+  module _ {m : ℕ} (behind : m ≡ placeIn (endingOf r)) where
+    m-is : m ≡ flagged .p
+    m-is = behind ∙ ap placeIn (flagged .ends)
 
-    -- the place after the flags
-    module _ {m : ℕ} (behind : m ≡ placeIn (endingOf r)) where
-      m-is : m ≡ flagged .p
-      m-is = behind ∙ ap placeIn (flagged .ends)
+    pub behind-in : m ≤ 8 * length b
+    behind-in = rw m-is (flags-in o b J (flagged .read))
 
-      pub behind-in : m ≤ 8 * length b
-      behind-in = rw m-is (flags-in o b J (flagged .read))
-
-      -- the four rows before the opacity's were read, and flag is the fifth
-      module _ (t t′ : List ℕ) (x : Run) where
-        abbrev RowsLeft : Rows → Type 0
-        RowsLeft R = runLeaves t′ x ≡ shownOver t 0 (run o b (rows (rowsFrom (R .start) (R .start + 4)) (take (R .start + 4 - R .start) u)) m)
-
-        pub found : RowsLeft R → {flag content : ℕ} → flag ≡ getD u 4 0 → content ≡ placeIn (endingOf x) → Finds o b flag content
-        found rest {flag} {content} is-flag is-place =
-            let l : RowsLeft (rowsAt 14) = subst RowsLeft is rest in
-            let f : flag ≡ getD (take 6 u) 4 0 = is-flag ∙ sym (getD-take 6 u 4 0 (omega arith)) in
-            let g : rows four (take 4 u) ≡ rows four (take 6 u) = ap (rows four) (sym (take-take 4 6 u (omega arith))) ∙ rows-take four (take 6 u) in
-            let z : content ≡ placeIn (run o b (rows four (take 6 u)) (flagged .p) .ended) =
-            is-place ∙ ap placeIn (sym (ended-is t 0 (run o b (rows four (take 4 u)) m) l)) ∙ ap (λ (h : Format). placeIn (run o b h m .ended)) g
-            ∙ ap (λ (i : ℕ). placeIn (run o b (rows four (take 6 u)) i .ended)) m-is in
-            rw f (finds o b J (flagged .read) z)
+    -- the four rows before the opacity's were read, and flag is the fifth
+    pub found : (t t′ : List ℕ) (x : Run) → runLeaves t′ x ≡ shownOver t 0 (run o b (rows (rowsFrom mask 0 4) (take 4 u)) m)
+        → {flag content : ℕ} → flag ≡ getD u 4 0 → content ≡ placeIn (endingOf x) → Finds o b flag content
+    found t t′ x rest {flag} {content} is-flag is-place =
+        let f : flag ≡ getD (take 6 u) 4 0 = is-flag ∙ sym (getD-take 6 u 4 0 (omega arith)) in
+        let first : rowsFrom mask 0 4 ≡ four = rows-first mask 0 4 count (omega (arith, six)) ∙ ap (take 4) mask-is in
+        let g : rows (rowsFrom mask 0 4) (take 4 u) ≡ rows four (take 6 u) =
+        ap (λ (l : List bodies.Attribute). rows l (take 4 u)) first ∙ ap (rows four) (sym (take-take 4 6 u (omega arith))) ∙ rows-take four (take 6 u) in
+        let z : content ≡ placeIn (run o b (rows four (take 6 u)) (flagged .p) .ended) =
+        is-place ∙ ap placeIn (sym (ended-is t 0 (run o b (rows (rowsFrom mask 0 4) (take 4 u)) m) rest)) ∙ ap (λ (h : Format). placeIn (run o b h m .ended)) g
+        ∙ ap (λ (i : ℕ). placeIn (run o b (rows four (take 6 u)) i .ended)) m-is in
+        rw f (finds o b J (flagged .read) z)
 
 -- ---- the whole body, by what `read_body` left
-module _ (o : Order) (b : List ℕ) (u v : List ℕ) (r : Shown) (left : shownLeaves v r ≡ shownOver u 0 (readBody o (leafBody 14) b)) where
-  ends-at : {z : Ending} → shownLeaves v r .ended ≡ z → readBody o (attributes maskBlock) b .ended ≡ z
+module _ (o : Order) (b : List ℕ) (u v : List ℕ) (r : Shown) (left : Shows u 0 (readBody o (leafBody 14) b) false v r) where
+  ends-at : {z : Ending} → shownEnd r ≡ z → readBody o (attributes maskBlock) b .ended ≡ z
   unfolding leafBody attributesOf
-  ends-at e = ended-is u 0 (readBody o (attributes maskBlock) b) left ∙ e
+  ends-at e = ended-is u 0 (readBody o (attributes maskBlock) b) (left .left) ∙ e
 
   pub mask-refused : (t : ℕ) {e k : ℕ} → r ≡ Stop e k → refusedBy e ≡ ofMask o b t
   unfolding ofMask
-  mask-refused t e = rw (ends-at (ap (λ (x : Shown). shownLeaves v x .ended) e))
+  mask-refused t e = rw (ends-at (ap shownEnd e))
 
-  pub mask-judged : {q : BytePlace} {k : ℕ} → length b < 2 ^ 60 → r ≡ Done q k → Judged o b
-  mask-judged {q} h e = record { few = h; reads = rw (ends-at (ap (λ (x : Shown). shownLeaves v x .ended) e)) tt }
+  pub mask-judged : {q : ℕ} → length b < 2 ^ 60 → shownEnd r ≡ At q → Judged o b
+  mask-judged {q} h e = record { few = h; reads = rw (ends-at e) tt }
 
 pub mask-shown : (o : Order) (b : List ℕ) (t : ℕ) → Judged o b → shownAt (fromOpacity o b) t ≡ ofMask o b t
 unfolding ofMask

@@ -52,5 +52,6 @@ pub fn opacity(order: u32, body: &[u8], t: u64) -> Exact
     match read {
         Shown::Stop(why, _) => Exact::Refused(why, 0),
         Shown::Done(_, _) => of_mask(named, body, t),
+        Shown::Open(_, _) => of_mask(named, body, t),
     }
 }

@@ -6,7 +6,7 @@ ghost use Rattle.bits.specs.Places.{PlaceIn, orderOf};
 ghost use Rattle.items.specs.Kinds.{formatOf};
 ghost use Rattle.table.specs.Run.{endingOf};
 ghost use Rattle.opacity.specs.Inner.{placeIn, Judged, Finds};
-use attributes::Rows;
+use attributes::Block;
 use bits::BitPlace;
 use bits::Got;
 use bits::Order;
@@ -58,13 +58,13 @@ pub(crate) fn find(order: Order, body: &[u8]) -> Found
     requires { ⌜ Judged (orderOf order) (now body) ⌝ }
     ensures { λ r. ⌜ Finds (orderOf order) (now (body .entry)) (r .flag) (r .content .0) ⌝ }
 {
-    let rows = attributes::rows_of(14);
-    let start = rows.start;
-    let mut flags = [0u64; 9];
-    let behind = place_of(attributes::read_flags(order, rows, body, BitPlace(0), &mut flags));
-    let before = Rows {
-        start: start,
-        end: start + 4,
+    let block = attributes::blocks::block_of(14);
+    let mut flags = [0u64; 12];
+    let behind = place_of(attributes::read_flags(order, block, body, BitPlace(0), &mut flags));
+    let rows = block.rows;
+    let before = Block {
+        rows: rows,
+        count: 4,
     };
     let mut none = [0u64; 1];
     let content = place_of(bodies::blocks::read_contents(

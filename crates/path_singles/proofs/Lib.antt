@@ -3,3 +3,4 @@ pub mod PathLaws
 pub mod BlockLaws
 pub mod TableLaws
 pub mod LengthLaws
+pub mod ShapeLaws

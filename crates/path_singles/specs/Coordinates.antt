@@ -8,7 +8,7 @@ use lib.Dec.{eqb}
 use Rattle.format.specs.Tests.{pick, _and_, _or_}
 use Rattle.format.specs.Bits.{Order}
 use Rattle.format.specs.Items.{coordinates, run}
-use Rattle.format.specs.Bodies.{Kind, Value, Fixed, BitFlag, Simple, Discrete, MultiDimension, Spatial, DataType, U32s, Times, Floats, Ratios, Bools, Bytes, BlendModes, TrackMatteTypes, MaskModes, Paths, Points, AnchorPointGroupings, Attribute, allFlags, rows, handOn}
+use Rattle.format.specs.Bodies.{Kind, Value, Fixed, BitFlag, Simple, Discrete, MultiDimension, Spatial, Custom, DataType, U32s, Times, Floats, Ratios, Bools, Bytes, BlendModes, Paths, Points, Colors, GradientColors, Enums, Dashes, TagBlocks, Attribute, allFlags, rows, handOn}
 use Rattle.format.specs.Reasons.{Answer, accepted, refused}
 use Rattle.singles.specs.Single.{ofNumber}
 
@@ -60,7 +60,7 @@ frames (n ∷ ns) = joined (n ∷ take (n + suc n) ns) [] (paths (suc n) (drop (
 unfoldable pub content : ℕ → List ℕ → Singled
 content φ ns = pick (eqb φ 0) (plain ns) (pick (eqb φ 1) (paths 1 ns) (frames ns))
 
--- ---- Paths are Simple attributes; every attribute list has its kinds and data types
+-- ---- Paths are Simple attributes, of masks (14) and (C-24) of ShapePaths (19); every attribute list has its kinds and data types
 abbrev pub isSimple : Kind → Bool
 isSimple Value = false
 isSimple Fixed = false
@@ -69,6 +69,7 @@ isSimple Simple = true
 isSimple Discrete = false
 isSimple MultiDimension = false
 isSimple Spatial = false
+isSimple Custom = false
 
 abbrev pub isPaths : DataType → Bool
 isPaths U32s = false
@@ -78,11 +79,13 @@ isPaths Ratios = false
 isPaths Bools = false
 isPaths Bytes = false
 isPaths BlendModes = false
-isPaths TrackMatteTypes = false
-isPaths MaskModes = false
 isPaths Paths = true
 isPaths Points = false
-isPaths AnchorPointGroupings = false
+isPaths Colors = false
+isPaths GradientColors = false
+isPaths (Enums top) = false
+isPaths Dashes = false
+isPaths TagBlocks = false
 
 abbrev pub isPath : Attribute → Bool
 isPath a = isSimple (a .kind) and isPaths (a .dataType)

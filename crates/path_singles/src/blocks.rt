@@ -1,18 +1,18 @@
 // The path attributes of a block, found by the rows of its attribute list.
 ghost use mathlib.Core.Path.{_≡_};
-ghost use Prim.Native.Nat.{_-_, _≤_, _<_, _^_};
+ghost use Prim.Native.Nat.{_≤_, _<_, _^_};
 ghost use lib.ListN.{length};
 ghost use Rattle.format.specs.Bits.{high};
 ghost use Rattle.table.specs.Run.{indexOf};
-ghost use Rattle.attributes.specs.Rows.{kindOf, typeOf, attributeOf, attributesOf, rowsFrom, AreRows};
+ghost use Rattle.attributes.specs.Rows.{kindOf, typeOf, attributeOf, attributesOf};
 ghost use Rattle.path_singles.specs.Coordinates.{isSimple, isPaths, isPath, earlier, block};
 ghost use Rattle.path_singles.specs.Converting.{left, rowOf};
 use crate::convert_attribute;
 use crate::either;
 use attributes::Attribute;
+use attributes::Block;
 use attributes::DataType;
 use attributes::Kind;
-use attributes::Rows;
 use bits::BitPlace;
 use bits::Order;
 use table::Run;
@@ -28,6 +28,7 @@ fn is_simple(kind: Kind) -> bool
         Kind::Discrete => false,
         Kind::MultiDimension => false,
         Kind::Spatial => false,
+        Kind::Custom => false,
     }
 }
 
@@ -42,11 +43,13 @@ fn is_paths(what: DataType) -> bool
         DataType::Bool => false,
         DataType::Byte => false,
         DataType::BlendMode => false,
-        DataType::TrackMatteType => false,
-        DataType::MaskMode => false,
         DataType::Path => true,
         DataType::Point => false,
-        DataType::AnchorPointGrouping => false,
+        DataType::Color => false,
+        DataType::GradientColor => false,
+        DataType::Enum(_) => false,
+        DataType::Dashes => false,
+        DataType::TagBlock => false,
     }
 }
 
@@ -73,46 +76,39 @@ fn shown_by(run: Run) -> usize
 }
 
 // The rows before one of them.
-fn rows_before(rows: Rows, row: usize) -> Rows
-    ensures { λ r. ⌜ (r .start ≡ rows .start) × (r .end ≡ row) ⌝ }
+fn rows_before(block: Block, row: usize) -> Block
+    ensures { λ r. ⌜ (r .rows ≡ block .rows) × (r .count ≡ row) ⌝ }
 {
-    Rows {
-        start: rows.start,
-        end: row,
-    }
+    let rows = block.rows;
+    Block { rows, count: row }
 }
 
 // How many numbers the attributes before a row show: the flags of the block are read, and the contents of those attributes.
-fn numbers_before(rows: Rows, row: usize, body: &[u8]) -> usize
-    requires { ⌜ AreRows (rows .start) (rows .end) × (rows .start ≤ row) × (row ≤ rows .end) × (length (now body) < 2 ^ 60) ⌝ }
-    ensures { λ r. ⌜ r ≡ length (earlier high (now (body .entry)) (rowsFrom (rows .start) (rows .end)) (row - rows .start)) ⌝ }
+fn numbers_before(code: u32, row: usize, body: &[u8]) -> usize
+    requires { ⌜ (row ≤ length (attributesOf code)) × (length (now body) < 2 ^ 60) ⌝ }
+    ensures { λ r. ⌜ r ≡ length (earlier high (now (body .entry)) (attributesOf code) row) ⌝ }
 {
     let order = Order::HighFirst;
-    let mut flags = [0u64; 9];
-    let r = attributes::read_flags(order, rows, body, BitPlace(0), &mut flags);
+    let block = attributes::blocks::block_of(code);
+    let mut flags = [0u64; 12];
+    let r = attributes::read_flags(order, block, body, BitPlace(0), &mut flags);
     let Run::Done(next, _) = r else {
         return 0;
     };
-    let before = rows_before(rows, row);
+    let before = rows_before(block, row);
     let mut none = [0u64; 1];
     shown_by(bodies::blocks::read_contents(order, before, &flags, body, next, &mut none[..0], 0))
 }
 
-// The row's attribute, if it is a path.
-fn convert_row(
-    attribute: Attribute,
-    rows: Rows,
-    row: usize,
-    body: &[u8],
-    values: &mut [u64],
-) -> bool
-    requires { ⌜ AreRows (rows .start) (rows .end) × (rows .start ≤ row) × (row ≤ rows .end) × (length (now body) < 2 ^ 60) × (length (now values) < 2 ^ 32) ⌝ }
-    ensures { λ r. ⌜ left (now (values .exit)) r ≡ rowOf (now (body .entry)) (rowsFrom (rows .start) (rows .end)) (attributeOf attribute) (row - rows .start) (now (values .entry)) ⌝ }
+// The row's attribute, if it is a path. Few are, so only then the rows of its block are taken again.
+fn convert_row(attribute: Attribute, code: u32, row: usize, body: &[u8], values: &mut [u64]) -> bool
+    requires { ⌜ (row ≤ length (attributesOf code)) × (length (now body) < 2 ^ 60) × (length (now values) < 2 ^ 32) ⌝ }
+    ensures { λ r. ⌜ left (now (values .exit)) r ≡ rowOf (now (body .entry)) (attributesOf code) (attributeOf attribute) row (now (values .entry)) ⌝ }
 {
     if !is_path(attribute) {
         return false;
     }
-    let index = numbers_before(rows, row, body);
+    let index = numbers_before(code, row, body);
     convert_attribute(values, index)
 }
 
@@ -121,14 +117,14 @@ pub fn convert_block(code: u32, body: &[u8], values: &mut [u64]) -> bool
     requires { ⌜ (length (now body) < 2 ^ 60) × (length (now values) < 2 ^ 32) ⌝ }
     ensures { λ r. ⌜ left (now (values .exit)) r ≡ block high (now (body .entry)) (attributesOf code) (attributesOf code) 0 (now (values .entry)) ⌝ }
 {
-    let attributes = attributes::ATTRIBUTES;
-    let rows = attributes::rows_of(code);
-    let end = rows.end;
+    let found = attributes::blocks::block_of(code);
+    let rows = found.rows;
+    let count = found.count;
     let mut beyond = false;
-    let mut row = rows.start;
-    while row < end {
-        let attribute = attributes[row];
-        beyond = either(beyond, convert_row(attribute, rows, row, body, values));
+    let mut row = 0;
+    while row < count {
+        let attribute = rows[row];
+        beyond = either(beyond, convert_row(attribute, code, row, body, values));
         row += 1;
     }
     beyond

@@ -4,11 +4,12 @@ use mathlib.Core.List.{List, [], _∷_, _++_}
 use mathlib.Core.Path.{_≡_, refl, ap, subst, sym}
 use mathlib.Core.Bool.{Bool, true, false}
 use lib.ListN.{length, take, drop}
+use Rattle.format.specs.Tests.{pick}
 use Rattle.format.specs.Bits.{Order}
 use Rattle.format.specs.Reading.{Ending, At, Fault}
-use Rattle.format.specs.Items.{run, toByte}
-use Rattle.format.specs.Bodies.{readBody}
-use Rattle.format.specs.FileAndTags.{Class, opaque, end, container, known, classOf, isEnd, stateOf, Tag, Outcome, whole, fault, Walk, noTags, chain, Head, head, noHead, rawHead, passes, readHead, Owner, inside, TagInside, endAt, front, opened, within, afterTag, tagThen, oneTag, walk, walkList}
+use Rattle.format.specs.Items.{toByte}
+use Rattle.format.specs.Bodies.{toEnd, readBody}
+use Rattle.format.specs.FileAndTags.{Class, opaque, end, container, known, classOf, isEnd, stateOf, Tag, Outcome, whole, fault, Walk, noTags, chain, Head, head, noHead, rawHead, passes, readHead, Owner, inside, TagInside, endAt, leaf, hasList, opened, within, afterTag, tagThen, oneTag, walk, walkList}
 use Rattle.format.specs.TableOfNumbers.{tagTable}
 use Rattle.format.proofs.EngineLaws.{tagTable-append}
 use Rattle.classes.specs.Classes.{skimmed, classBy}
@@ -54,11 +55,22 @@ alike-within o R S u (known y) a s body = go (readBody o y body .ended)
     go : (z : Ending) → Alike (noTags (endAt a z)) (noTags whole) (endAt a z)
     go (At p) = (refl, refl)
     go (Fault e) = tt
-alike-within o R S u (container f) a s body = go (run o body (front f) 0 .shown) (run o body (front f) 0 .ended)
+alike-within o R S u (container y) a s body = test (hasList y (toEnd o body y .shown))
   where
     go : (xs : List ℕ) (z : Ending) → Alike (opened R a s body xs z .walk) (opened S a s body xs z .walk) (opened R a s body xs z .walk .ended)
     go xs (At p) = u (inside a) (s + toByte p) (drop (toByte p) body)
     go xs (Fault e) = tt
+
+    -- without its list it is judged once more
+    flat : (z : Ending) → Alike (noTags (endAt a z)) (noTags (endAt a z)) (endAt a z)
+    flat (At p) = (refl, refl)
+    flat (Fault e) = tt
+
+    test : (c : Bool) → Alike (pick c (opened R a s body (toEnd o body y .shown) (toEnd o body y .ended)) (leaf a (readBody o y body)) .walk)
+        (pick c (opened S a s body (toEnd o body y .shown) (toEnd o body y .ended)) (leaf a (readBody o y body)) .walk)
+        (pick c (opened R a s body (toEnd o body y .shown) (toEnd o body y .ended)) (leaf a (readBody o y body)) .walk .ended)
+    test true = go (toEnd o body y .shown) (toEnd o body y .ended)
+    test false = flat (readBody o y body .ended)
 
 module _ (o : Order) (level : ℕ) where
   -- a header passes alike

@@ -1,5 +1,5 @@
 -- Numbers and items from a whole byte on, by the byte place behind them: 0 where there is none.
-use Prim.Native.Nat.{ℕ, _+_, _*_, _%_, _≤_, _<_}
+use Prim.Native.Nat.{ℕ, _+_, _-_, _*_, _%_, _≤_, _<_}
 use mathlib.Core.Bool.{Bool, true, false}
 use mathlib.Core.List.{List}
 use mathlib.Core.Path.{_≡_, refl, sym, ap, _∙_}
@@ -11,7 +11,7 @@ use borrow.Author.Tests.{ne-eqb, eq-eqb, ltb-true, ltb-false}
 use Rattle.format.specs.Tests.{pick}
 use Rattle.format.specs.Bits.{Order}
 use Rattle.format.proofs.Absurd.{clash}
-use Rattle.format.specs.Formats.{Format, _▸_}
+use Rattle.format.specs.Formats.{Format, _▸_, times}
 use Rattle.format.specs.Items.{skipped}
 use Rattle.format.specs.Possible.{Possible, this, cannot}
 use Rattle.format.specs.WritingItems.{dig, before}
@@ -21,7 +21,7 @@ use Rattle.sink.specs.Laying.{State, mk, Skipped}
 use Rattle.sink.proofs.LayingLaws.{mk-eq, skip-none, field-none}
 use Rattle.spelling.specs.Writing.{bitsOver, Seen, here, ran}
 use Rattle.spelling.specs.Spellings.{spellingOf, spelledTo, writtenTo}
-use Rattle.spelling.proofs.RunLaws.{ends-in, ends-out, resume, ran-then, bitsEnd, one-none, one-bad, one-bits, laid-before}
+use Rattle.spelling.proofs.RunLaws.{ends-in, ends-out, resume, ran-then, bitsEnd, one-none, one-bad, one-bits, laid-before, times-more}
 use Rattle.spelling.proofs.NumberLaws.{bitsOf, item-is, item-out, item-in}
 
 -- ---- a number that was put
@@ -101,6 +101,15 @@ module _ (o : Order) (kind : Item) (t : List ℕ) (st : State) (k : ℕ) {u : Li
       go false e =
           let h : length t ≤ k = ltb-false k (length t) e in
           one-none o (formatOf kind) (bitsOf o kind) (item-is o kind) t st k h ∙ sym (one-none o (formatOf kind) (bitsOf o kind) (item-is o kind) t (mk u bit 0) k h)
+
+  -- and of several in turn
+  pub times-aligned : (n : ℕ) → 0 < n → ran o t st k (times n (formatOf kind)) ≡ ran o t (mk u (8 * byte) 0) k (times n (formatOf kind))
+  times-aligned n h =
+      let rest : List ℕ → Format = λ xs. times (n - 1) (formatOf kind) in
+      ap (ran o t st k) (times-more (formatOf kind) n h)
+      ∙ ran-then o t st k (formatOf kind) rest
+      ∙ ap (resume o t k rest) (item-aligned ∙ ap (λ (x : ℕ). ran o t (mk u x 0) k (formatOf kind)) (skip .whole))
+      ∙ sym (ap (ran o t (mk u (8 * byte) 0) k) (times-more (formatOf kind) n h) ∙ ran-then o t (mk u (8 * byte) 0) k (formatOf kind) rest)
 
   module _ (w : List ℕ) (p : ℕ) (put : writtenTo w p (k + 1) ≡ ran o t (mk u (8 * byte) 0) k (formatOf kind)) where
     from-whole : ran o t (mk u (8 * byte) 0) k (formatOf kind) ≡ ran o t st k (formatOf kind)

@@ -11,13 +11,13 @@ use lib.Dec.{leb, eqb}
 use borrow.Author.Tests.{leb-true, leb-false, le-leb, lt-leb, eq-eqb, ne-eqb}
 use Rattle.format.specs.Tests.{pick}
 use Rattle.format.specs.Bits.{Order}
-use Rattle.format.specs.Formats.{Format}
+use Rattle.format.specs.Formats.{Format, _▸_}
 use Rattle.format.specs.Items.{skipped}
-use Rattle.format.specs.FileAndTags.{front}
+use Rattle.format.specs.Bodies.{aligned, fixed}
 use Rattle.format.specs.Possible.{Possible, this, cannot}
 use Rattle.format.specs.WritingItems.{dig, Written, wrote, writeItem}
 use Rattle.format.specs.WritingFormats.{onward, unrun}
-use Rattle.format.specs.WritingBodies.{wholeBytes, bytesOf}
+use Rattle.format.specs.WritingBodies.{wholeBytes, bytesOf, writePart, writeBody}
 use Rattle.format.proofs.BitLaws.{length-dig}
 use Rattle.format.proofs.ByteLaws.{length-bytes-of}
 use Rattle.sink.specs.Lain.{Lain, lain, lies, longest}
@@ -30,6 +30,14 @@ use Rattle.spelling.specs.declared.Put.{Put}
 use Rattle.spelling.specs.declared.Put.the-variants.{Done, Impossible}
 use Rattle.spelling.proofs.RunLaws.{ends-in, ends-out, parts, ran-fine, skip-le}
 use Rattle.spelling.proofs.ShiftLaws.{shift, whole-bytes}
+
+-- a format, and the skip to a whole byte behind it
+abbrev pub front : Format → Format
+front f = f ▸ aligned
+
+pub front-is : (o : Order) (f : Format) (vs : List ℕ) → writeBody o (fixed f) vs ≡ wholeBytes o (unrun o (front f) vs 0)
+unfolding writeBody writePart unrun
+front-is o f vs = refl
 
 module _ (o : Order) (f : Format) (vs : List ℕ) where
   shifted : (a : ℕ) → unrun o (front f) vs (8 * a) ≡ unrun o (front f) vs 0

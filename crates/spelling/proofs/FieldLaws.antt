@@ -250,27 +250,34 @@ signed-run o Coordinate w t st k n u R h e = (e, signed-announces t k n R)
 pub announces-done : (f : Field) (t : List ℕ) (k n m : ℕ) {R : Put} {s : Sink} {j : ℕ} → Announces f t k n R m → R ≡ Done s j → (m ≡ announced f (take (j - k) (drop k t))) × (m ≤ 6 * n)
 announces-done f t k n m a e = subst (λ (x : Put). Announces f t k n x m) e a
 
--- ---- a width
-unfoldable pub widthBits : Order → ℕ → ℕ → Possible (List Bool)
-widthBits o p v = undo suc pred (spellUB o 5) v
+-- ---- a number that is spelt one less, in n bits
+abbrev pub lessOne : Order → ℕ → ℕ → ℕ → Possible (List Bool)
+lessOne o n p v = undo suc pred (spellUB o n) v
 
-pub width-is : (o : Order) (ns : List ℕ) (p : ℕ) → unrun o (item Item.width) ns p ≡ single (widthBits o p) ns
-unfolding unrun writeItem widthBits
+pub less-zero : (o : Order) (n p v : ℕ) → v ≡ 0 → lessOne o n p v ≡ cannot
+less-zero o n p v e = rw e
+
+pub less-large : (o : Order) (n p v : ℕ) {m : ℕ} → m ≡ 2 ^ n → (v ≡ 0 → ⊥) → m ≤ v - 1 → lessOne o n p v ≡ cannot
+less-large o n p zero e z h = absurd (z refl)
+less-large o n p (suc v) e z h = rw (eq-eqb (suc v) (suc v) refl, le-ltb v (2 ^ n) (omega arith))
+
+pub less-in : (o : Order) (n p v : ℕ) {m : ℕ} → m ≡ 2 ^ n → (v ≡ 0 → ⊥) → v - 1 < m → lessOne o n p v ≡ this (dig o n (v - 1))
+less-in o n p zero e z h = absurd (z refl)
+less-in o n p (suc v) e z h = let d : suc v - 1 ≡ v = omega arith in rw (eq-eqb (suc v) (suc v) refl, lt-ltb v (2 ^ n) (omega arith), d)
+
+-- by items that are written so
+module _ (o : Order) (n : ℕ) (i : Item) (is : (ns : List ℕ) (p : ℕ) → writeItem o i ns p ≡ single (undo suc pred (spellUB o n)) ns) where
+  pub less-is : (ns : List ℕ) (p : ℕ) → unrun o (item i) ns p ≡ single (lessOne o n p) ns
+  unfolding unrun
+  less-is ns p = is ns p
+
+pub width-is : (o : Order) (ns : List ℕ) (p : ℕ) → writeItem o Item.width ns p ≡ single (undo suc pred (spellUB o 5)) ns
+unfolding writeItem
 width-is o ns p = refl
 
-pub width-zero : (o : Order) (p v : ℕ) → v ≡ 0 → widthBits o p v ≡ cannot
-unfolding widthBits
-width-zero o p v e = rw e
-
-pub width-large : (o : Order) (p v : ℕ) → 32 < v → widthBits o p v ≡ cannot
-unfolding widthBits
-width-large o p zero h = absurd (omega arith)
-width-large o p (suc v) h = rw (eq-eqb (suc v) (suc v) refl, le-ltb v (2 ^ 5) (omega arith))
-
-pub width-in : (o : Order) (p v : ℕ) → (v ≡ 0 → ⊥) → v ≤ 32 → widthBits o p v ≡ this (dig o 5 (v - 1))
-unfolding widthBits
-width-in o p zero h l = absurd (h refl)
-width-in o p (suc v) h l = let z : suc v - 1 ≡ v = omega arith in rw (eq-eqb (suc v) (suc v) refl, lt-ltb v (2 ^ 5) (omega arith), z)
+pub dash-length-is : (o : Order) (ns : List ℕ) (p : ℕ) → writeItem o Item.dashLength ns p ≡ single (undo suc pred (spellUB o 3)) ns
+unfolding writeItem
+dash-length-is o ns p = refl
 
 -- ---- a width, and n fields of it
 module _ (o : Order) (f : Field) (t : List ℕ) (st : State) (k n : ℕ) (u : List ℕ) (R : Put) (first : seen u R ≡ ran o t st k (item Item.width)) where
@@ -278,15 +285,15 @@ module _ (o : Order) (f : Field) (t : List ℕ) (st : State) (k n : ℕ) (u : Li
   scaled-stop e = then-stop o t st k (item Item.width) (λ w. times n (fieldOf f (the w))) u R first e
 
   module _ (s : Sink) (j : ℕ) (e : R ≡ Done s j) where
-    at-width : OneDone o (item Item.width) (widthBits o) (width-is o) t st k j
-    at-width = one-done o (item Item.width) (widthBits o) (width-is o) t st k (at u s) j (sym first ∙ ap (seen u) e)
+    at-width : OneDone o (item Item.width) (lessOne o 5) (less-is o 5 Item.width (width-is o)) t st k j
+    at-width = one-done o (item Item.width) (lessOne o 5) (less-is o 5 Item.width (width-is o)) t st k (at u s) j (sym first ∙ ap (seen u) e)
 
     pub width-range : (k < length t) × (1 ≤ getD t k 0) × (getD t k 0 ≤ 32)
     width-range = (at-width .inside, go (leb 1 (getD t k 0)) refl (leb (getD t k 0) 32) refl .0, go (leb 1 (getD t k 0)) refl (leb (getD t k 0) 32) refl .1)
       where
         go : (a : Bool) → leb 1 (getD t k 0) ≡ a → (b : Bool) → leb (getD t k 0) 32 ≡ b → (1 ≤ getD t k 0) × (getD t k 0 ≤ 32)
-        go false p b q = absurd (at-width .spells (width-zero o (st .place) (getD t k 0) (omega (arith, leb-false 1 (getD t k 0) p))))
-        go true p false q = absurd (at-width .spells (width-large o (st .place) (getD t k 0) (leb-false (getD t k 0) 32 q)))
+        go false p b q = absurd (at-width .spells (less-zero o 5 (st .place) (getD t k 0) (omega (arith, leb-false 1 (getD t k 0) p))))
+        go true p false q = absurd (at-width .spells (less-large o 5 (st .place) (getD t k 0) refl (λ z. omega (arith, leb-false (getD t k 0) 32 q)) (omega (arith, leb-false (getD t k 0) 32 q))))
         go true p true q = (leb-true 1 (getD t k 0) p, leb-true (getD t k 0) 32 q)
 
     pub scaled-done : ran o t st k (item Item.width ▹ λ w. times n (fieldOf f (the w))) ≡ ran o t (at u s) j (times n (fieldOf f (getD t k 0)))

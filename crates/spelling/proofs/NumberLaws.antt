@@ -5,6 +5,7 @@ use mathlib.Core.Path.{_≡_, refl, sym, ap, _∙_}
 use mathlib.Core.Bool.{Bool, true, false}
 use native.Mathlib.Omega.{arith}
 use lib.ListN.{length, getD, set}
+use lib.Seq.{set-out}
 use lib.Dec.{leb, ltb, eqb}
 use borrow.Author.Tests.{lt-ltb, le-ltb, le-leb, lt-leb, eq-eqb, ne-eqb, leb-true}
 use Rattle.format.specs.Tests.{pick, _and_, _or_}
@@ -16,14 +17,14 @@ use Rattle.format.specs.WritingItems.{dig, before, put, single, writeItem, spel
 use Rattle.format.specs.WritingFormats.{passing, adjoin, unrun}
 use Rattle.items.specs.Kinds.{formatOf, rangeFault}
 use Rattle.items.specs.declared.Item.{Item}
-use Rattle.items.specs.declared.Item.the-variants.{U32, I32, Time, Float, Byte, Enum, BlendMode, Count}
+use Rattle.items.specs.declared.Item.the-variants.{U32, I32, Time, Float, Uint16, Byte, Enum, BlendMode, Count}
 use Rattle.sink.specs.Laying.{State, mk, at, Skipped}
 use Rattle.sink.specs.declared.Sink.{Sink}
 use Rattle.sink.proofs.LayingLaws.{lay-byte, lay-none}
 use Rattle.spelling.specs.declared.Put.{Put}
 use Rattle.spelling.specs.declared.Put.the-variants.{Done, Impossible}
 use Rattle.spelling.specs.Writing.{bitsOver, Seen, here, seen, ran}
-use Rattle.spelling.specs.Spellings.{spellingOf}
+use Rattle.spelling.specs.Spellings.{spellingOf, fourBytes}
 use Rattle.spelling.proofs.RunLaws.{then-stop, then-done, laid-before, laid-in, laid-no, one-done, OneDone, the-one}
 
 -- ---- a byte
@@ -60,10 +61,42 @@ float-in o out i p v {u₀} {u₁} {u₂} {u₃} e h e₀ e₁ e₂ e₃ =
     ∙ ap (λ (x : ℕ). bitsOver o (mk u₃ x 0) (this [])) l
     ∙ ap this (lay-none o (mk u₃ (p + 32) 0))))
 
+-- past the end none of them is stored
+pub float-out : (u : List ℕ) (i v : ℕ) → length u ≤ i → u ≡ fourBytes u i v
+float-out u i v h =
+    let e₀ : set u i (v % 256) ≡ u = set-out u i (v % 256) h in
+    let e₁ : set u (i + 1) (v / 256 % 256) ≡ u = set-out u (i + 1) (v / 256 % 256) (omega arith) in
+    let e₂ : set u (i + 2) (v / 65536 % 256) ≡ u = set-out u (i + 2) (v / 65536 % 256) (omega arith) in
+    let e₃ : set u (i + 3) (v / 16777216) ≡ u = set-out u (i + 3) (v / 16777216) (omega arith) in
+    sym (ap (λ (x : List ℕ). set (set (set x (i + 1) (v / 256 % 256)) (i + 2) (v / 65536 % 256)) (i + 3) (v / 16777216)) e₀
+    ∙ ap (λ (x : List ℕ). set (set x (i + 2) (v / 65536 % 256)) (i + 3) (v / 16777216)) e₁
+    ∙ ap (λ (x : List ℕ). set x (i + 3) (v / 16777216)) e₂
+    ∙ e₃)
+
 pub float-no : (o : Order) (st : State) (v : ℕ) → 4294967295 < v → cannot ≡ bitsOver o st (spellLE o v 4)
 unfolding spellLE
 float-no o st v h =
     let n : eqb (v / 256 / 256 / 256 / 256) 0 ≡ false = ne-eqb (v / 256 / 256 / 256 / 256) 0 (λ e. omega arith) in
+    rw n
+
+-- ---- two bytes
+pub uint16-in : (o : Order) (out : List ℕ) (i p v : ℕ) {u₀ u₁ : List ℕ} → p ≡ 8 * i → v ≤ 65535 → u₀ ≡ set out i (v % 256) → u₁ ≡ set u₀ (i + 1) (v / 256) → this (mk u₁ (p + 16) 0) ≡ bitsOver o (mk out p 0) (spellLE o v 2)
+unfolding spellLE
+uint16-in o out i p v {u₀} {u₁} e h e₀ e₁ =
+    let q₂ : v / 256 / 256 ≡ 0 = omega arith in
+    let l₁ : v / 256 % 256 ≡ v / 256 = omega arith in
+    let l : p + 8 + 8 ≡ p + 16 = omega arith in
+    sym
+    (rw (q₂, l₁)
+    (byte-then o out i p (v % 256) (before (dig o 8 (v / 256)) (this [])) (omega arith) e e₀
+    ∙ byte-then o u₀ (i + 1) (p + 8) (v / 256) (this []) (omega arith) (omega arith) e₁
+    ∙ ap (λ (x : ℕ). bitsOver o (mk u₁ x 0) (this [])) l
+    ∙ ap this (lay-none o (mk u₁ (p + 16) 0))))
+
+pub uint16-no : (o : Order) (st : State) (v : ℕ) → 65535 < v → cannot ≡ bitsOver o st (spellLE o v 2)
+unfolding spellLE
+uint16-no o st v h =
+    let n : eqb (v / 256 / 256) 0 ≡ false = ne-eqb (v / 256 / 256) 0 (λ e. omega arith) in
     rw n
 
 -- ---- seven bits a byte
@@ -166,6 +199,7 @@ item-is o U32 ns p = adjoin-single (dig o (skipped p) 0) (spellingOf o U32) ns
 item-is o I32 ns p = adjoin-single (dig o (skipped p) 0) (spellingOf o I32) ns
 item-is o Time ns p = adjoin-single (dig o (skipped p) 0) (spellingOf o Time) ns
 item-is o Float ns p = adjoin-single (dig o (skipped p) 0) (spellingOf o Float) ns
+item-is o Uint16 ns p = adjoin-single (dig o (skipped p) 0) (spellingOf o Uint16) ns
 item-is o Byte ns p = adjoin-single (dig o (skipped p) 0) (spellingOf o Byte) ns
 item-is o (Enum top) ns p = range-is o (λ ns. leb (the ns) top) 16 p (spellUB o 8) ns (λ e. omega arith)
 item-is o BlendMode ns p = range-is o (λ ns. leb (the ns) 16 or (leb 21 (the ns) and leb (the ns) 26)) 16 p (spellUB o 8) ns (λ e. omega arith)

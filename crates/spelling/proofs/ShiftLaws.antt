@@ -23,6 +23,7 @@ item-shift o Item.align ns p m = ap (λ (n : ℕ). this (wrote [] (dig o n 0) ns
 item-shift o (Item.UB n) ns p m = refl
 item-shift o (Item.SB n) ns p m = refl
 item-shift o Item.width ns p m = refl
+item-shift o Item.dashLength ns p m = refl
 item-shift o Item.U32 ns p m = refl
 item-shift o Item.U64 ns p m = refl
 item-shift o Item.I32 ns p m = refl

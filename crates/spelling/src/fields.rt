@@ -8,7 +8,7 @@ ghost use Rattle.table.specs.Fields.{fieldOf, signed};
 ghost use Rattle.table.specs.declared.fields.Field.the-variants.{Coordinate};
 ghost use Rattle.sink.specs.Laying.{at as under};
 ghost use Rattle.spelling.specs.Writing.{seen, ran, Fine};
-ghost use Rattle.spelling.specs.Spellings.{Announces};
+ghost use Rattle.spelling.specs.Spellings.{Announces, WritesLessOne};
 use crate::Put;
 use crate::ended;
 use bits::Order;
@@ -115,23 +115,53 @@ pub fn write_fields(
     write_unsigned(order, kind, width, count, out, sink, values, from)
 }
 
-// A width: one less than it, in five bits.
-fn write_width(order: Order, out: &mut [u8], sink: Sink, values: &[u64], from: usize) -> Put
-    requires { ⌜ Fine sink ⌝ }
-    ensures { λ r. ⌜ seen (now (out .exit)) r ≡ ran (orderOf order) (now (values .entry)) (under (now (out .entry)) sink) from (item Item.width) ⌝ }
+// A number from 1 to 2^n: one less than it, in n bits.
+fn write_less_one(
+    order: Order,
+    bits: usize,
+    out: &mut [u8],
+    sink: Sink,
+    values: &[u64],
+    from: usize,
+) -> Put
+    requires { ⌜ Fine sink × (bits ≤ 32) ⌝ }
+    ensures { λ r. ⌜ WritesLessOne (orderOf order) bits (now (values .entry)) (under (now (out .entry)) sink) from (seen (now (out .exit)) r) ⌝ }
 {
     if values.len() <= from {
         return Put::Impossible;
     }
-    let width = values[from];
-    if width == 0 {
+    let number = values[from];
+    if number == 0 {
         return Put::Impossible;
     }
-    if 32 < width {
+    let less = number - 1;
+    if sink::power(bits) <= less {
         return Put::Impossible;
     }
-    let next = sink::put_bits(order, out, sink, width - 1, 5);
+    let next = sink::put_bits(order, out, sink, less, bits);
     ended(next, from + 1)
+}
+
+// A width.
+fn write_width(order: Order, out: &mut [u8], sink: Sink, values: &[u64], from: usize) -> Put
+    requires { ⌜ Fine sink ⌝ }
+    ensures { λ r. ⌜ seen (now (out .exit)) r ≡ ran (orderOf order) (now (values .entry)) (under (now (out .entry)) sink) from (item Item.width) ⌝ }
+{
+    write_less_one(order, 5, out, sink, values, from)
+}
+
+// The length of a list of dashes.
+pub fn write_dash_length(
+    order: Order,
+    out: &mut [u8],
+    sink: Sink,
+    values: &[u64],
+    from: usize,
+) -> Put
+    requires { ⌜ Fine sink ⌝ }
+    ensures { λ r. ⌜ seen (now (out .exit)) r ≡ ran (orderOf order) (now (values .entry)) (under (now (out .entry)) sink) from (item Item.dashLength) ⌝ }
+{
+    write_less_one(order, 3, out, sink, values, from)
 }
 
 // A width, and n fields of it.

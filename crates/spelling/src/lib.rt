@@ -12,6 +12,7 @@ ghost use Rattle.spelling.specs.Spellings.{writtenTo};
 ghost use Rattle.spelling.specs.Writing.{seen, ran, finish, Fine};
 
 pub mod fields;
+pub mod in_turn;
 mod numbers;
 pub mod text;
 

@@ -6,7 +6,7 @@ ghost use Rattle.format.specs.WritingItems.{spellUB, spellVar, spellI32, spellL
 ghost use Rattle.bits.specs.Places.{InEither};
 ghost use Rattle.sink.specs.Laying.{mk};
 ghost use Rattle.spelling.specs.Writing.{bitsOver};
-ghost use Rattle.spelling.specs.Spellings.{spellingOf, spelledTo};
+ghost use Rattle.spelling.specs.Spellings.{spellingOf, spelledTo, fourBytes};
 use items::Item;
 use sink::put_byte;
 
@@ -22,7 +22,29 @@ fn spell_byte(out: &mut [u8], at: usize, value: u64) -> usize
     at + 1
 }
 
-// A Float: four bytes, lowest first.
+// Stores four bytes, lowest first, where there is room for them.
+fn put_float(out: &mut [u8], at: usize, value: u64)
+    requires { ⌜ (at ≤ 16777216) × (value ≤ 4294967295) ⌝ }
+    ensures { λ r. ⌜ now (out .exit) ≡ fourBytes (now (out .entry)) at value ⌝ }
+{
+    // Asked once for all four, and not at all where nothing is stored.
+    if out.len() <= at {
+        return;
+    }
+    if at + 4 <= out.len() {
+        out[at] = (value % 256) as u8;
+        out[at + 1] = (value / 256 % 256) as u8;
+        out[at + 2] = (value / 65536 % 256) as u8;
+        out[at + 3] = (value / 16777216) as u8;
+        return;
+    }
+    put_byte(out, at, value % 256);
+    put_byte(out, at + 1, value / 256 % 256);
+    put_byte(out, at + 2, value / 65536 % 256);
+    put_byte(out, at + 3, value / 16777216);
+}
+
+// A Float.
 fn spell_float(out: &mut [u8], at: usize, value: u64) -> usize
     requires { ⌜ at ≤ 16777216 ⌝ }
     ensures { λ r. ⌜ InEither (λ o. spelledTo (now (out .exit)) r ≡ bitsOver o (mk (now (out .entry)) (8 * at) 0) (spellLE o value 4)) ⌝ }
@@ -30,11 +52,21 @@ fn spell_float(out: &mut [u8], at: usize, value: u64) -> usize
     if 4294967295 < value {
         return 0;
     }
-    put_byte(out, at, value % 256);
-    put_byte(out, at + 1, value / 256 % 256);
-    put_byte(out, at + 2, value / 65536 % 256);
-    put_byte(out, at + 3, value / 16777216);
+    put_float(out, at, value);
     at + 4
+}
+
+// Two bytes, lowest first.
+fn spell_uint16(out: &mut [u8], at: usize, value: u64) -> usize
+    requires { ⌜ at ≤ 16777216 ⌝ }
+    ensures { λ r. ⌜ InEither (λ o. spelledTo (now (out .exit)) r ≡ bitsOver o (mk (now (out .entry)) (8 * at) 0) (spellLE o value 2)) ⌝ }
+{
+    if 65535 < value {
+        return 0;
+    }
+    put_byte(out, at, value % 256);
+    put_byte(out, at + 1, value / 256);
+    at + 2
 }
 
 // Seven bits a byte, lowest first: at most `most` bytes with the top bit set, and a last one, which is at most `top` after so many.
@@ -89,6 +121,7 @@ pub(crate) fn spell_item(kind: Item, out: &mut [u8], at: usize, value: u64) -> u
         Item::I32 => spell_i32(out, at, value),
         Item::Time => spell_var(out, at, value, 9, 1),
         Item::Float => spell_float(out, at, value),
+        Item::Uint16 => spell_uint16(out, at, value),
         Item::Byte => spell_byte(out, at, value),
         Item::Enum(_) => spell_byte(out, at, value),
         Item::BlendMode => spell_byte(out, at, value),

@@ -3,3 +3,4 @@ pub mod StoringLaws
 pub mod FieldLaws
 pub mod TextLaws
 pub mod RunLaws
+pub mod FloatLaws

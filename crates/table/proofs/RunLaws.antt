@@ -18,7 +18,7 @@ use Rattle.bits.specs.declared.BytePlace.{BytePlace}
 use Rattle.bits.proofs.FieldLaws.{align-clean, align-unclean}
 use Rattle.items.specs.Kinds.{formatOf}
 use Rattle.items.specs.declared.Item.{Item as Kind}
-use Rattle.items.specs.declared.Item.the-variants.{U32, I32, Time, Float, Byte, Enum, BlendMode, Count}
+use Rattle.items.specs.declared.Item.the-variants.{U32, I32, Time, Float, Uint16, Byte, Enum, BlendMode, Count}
 use Rattle.table.specs.State.{State, shownOver}
 use Rattle.table.specs.Run.{runLeaves}
 use Rattle.table.specs.Fields.{Fits}
@@ -81,6 +81,7 @@ fair-kind o U32 = fair-byte o Item.U32 tt
 fair-kind o I32 = fair-byte o Item.I32 tt
 fair-kind o Time = fair-byte o Item.U64 tt
 fair-kind o Float = fair-byte o (Item.LE 4) (omega arith)
+fair-kind o Uint16 = fair-byte o (Item.LE 2) (omega arith)
 fair-kind o Byte = fair-byte o (Item.UB 8) (omega arith)
 fair-kind o (Enum top) = fair-only o 0 _ 16 byte (fair-byte o (Item.UB 8) (omega arith))
 fair-kind o BlendMode = fair-only o 0 _ 16 byte (fair-byte o (Item.UB 8) (omega arith))

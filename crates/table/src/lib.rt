@@ -10,6 +10,7 @@ ghost use Rattle.table.specs.Fields.{Fits};
 ghost use Rattle.bits.specs.Places.{orderOf};
 
 pub mod fields;
+pub mod in_turn;
 pub mod text;
 
 use bits::BitPlace;

@@ -11,36 +11,38 @@ use borrow.Author.Tests.{eqb-true}
 use Rattle.format.specs.Bits.{Order}
 use Rattle.format.specs.Tests.{pick}
 use Rattle.format.specs.Reading.{Ending, At, Fault, Reading, shows}
-use Rattle.format.specs.Items.{readItem, run}
-use Rattle.format.specs.Bodies.{Body, readPart, toEnd, usedUp, readBody}
-use Rattle.format.specs.FileAndTags.{le64, eights, packed, front}
+use Rattle.format.specs.Bodies.{Body, toEnd, usedUp, readBody}
+use Rattle.format.specs.FileAndTags.{le64, eights, packed}
+use Rattle.format.proofs.BodyLaws.{end-le}
 use Rattle.format.proofs.PackLaws.{length-eights, eights-at}
-use Rattle.format.proofs.WalkLaws.{run-le}
 use Rattle.format.proofs.Absurd.{clash}
-use Rattle.fixed.specs.Fixed.{fixedOf}
-use Rattle.bodies.specs.Leaf.{bodyBy, leafBody}
+use Rattle.bodies.specs.Leaf.{leafBody, containerBody, hasListIn}
 use Rattle.table.specs.State.{State, shownOver}
 use Rattle.bits.proofs.StoreLaws.{sets-out}
-use Rattle.table.proofs.EngineLaws.{state, state-eq, after-none}
+use Rattle.table.proofs.EngineLaws.{state-eq, after-none}
 use Rattle.table.proofs.StoringLaws.{Storing, storing-next, storing-done}
 use Rattle.table.proofs.TextLaws.{set-sets}
-use Rattle.bodies.specs.Shown.{shownIndex, shownLeaves}
+use Rattle.bodies.specs.Shown.{shownIndex, shownLeaves, Shows}
 use Rattle.bodies.specs.declared.Shown.{Shown}
+use Rattle.bodies.specs.declared.Shown.the-variants.{Done}
 use Rattle.classes.specs.declared.Class.{Class}
 use Rattle.classes.specs.declared.Class.the-variants.{Opaque, End, Container, Fixed, Attributes}
-use Rattle.tags.specs.Shown.{valuesOf, headed}
+use Rattle.tags.specs.Shown.{valuesOf, listOf, headed}
 
 -- ---- a body's length, and behind it eight bytes to a number: all are stored, or there is no more room
 abbrev pub eightsOf : List ℕ → List ℕ
 eightsOf b = eights ((length b + 7) / 8) b
 
 pub packed-done : (t₀ b : List ℕ) (k : ℕ) {u t : List ℕ} {n i j : ℕ} → n ≡ length b → u ≡ set t₀ k n → Storing u (eightsOf b) (k + 1) t i
-    → min ((length b + 7) / 8) (length t - (k + 1)) ≤ i → j ≡ k + 1 + (length b + 7) / 8 → state t j (At 0) ≡ shownOver t₀ k (shows (packed b) 0)
+    → min ((length b + 7) / 8) (length t - (k + 1)) ≤ i → j ≡ k + 1 + (length b + 7) / 8 → Shows t₀ k (shows (packed b) 0) false t (Done (record { 0 = 0 }) j)
 unfolding shownOver
 packed-done t₀ b k {u} {t} {n} {i} {j} z e g l q =
     let w : length (eightsOf b) ≡ (length b + 7) / 8 = length-eights ((length b + 7) / 8) b in
     let one : k + 1 ≡ suc k = omega arith in
-    state-eq (storing-done u (eightsOf b) (k + 1) g {m = min (length (eightsOf b)) (length t - (k + 1))} refl (rw w l) ∙ rw (one, e, z)) (q ∙ omega (arith, w)) refl
+    record {
+      left = state-eq (storing-done u (eightsOf b) (k + 1) g {m = min (length (eightsOf b)) (length t - (k + 1))} refl (rw w l) ∙ rw (one, e, z)) (q ∙ omega (arith, w)) refl;
+      opened = refl;
+    }
 
 -- the next number, of eight bytes; and the last one
 pub packed-next : (b : List ℕ) (k : ℕ) {u t : List ℕ} {i x : ℕ} → Storing u (eightsOf b) k t i → i < (length b + 7) / 8 → x ≡ le64 (drop (8 * i) b) → Storing u (eightsOf b) k (set t (k + i) x) (i + 1)
@@ -56,18 +58,22 @@ packed-last b k {u} {t} {i} {m} {x} g n h e =
     let all : take (length b - 8 * m) (drop (8 * m) b) ≡ drop (8 * m) b = take-all (length b - 8 * m) (drop (8 * m) b) (rw length-drop (omega arith)) in
     subst (λ (j : ℕ). Storing u (eightsOf b) k (set t (k + j) x) (i + 1)) n (packed-next b k g (omega arith) (e ∙ ap le64 all ∙ ap (λ (j : ℕ). le64 (drop (8 * j) b)) (sym n)))
 
--- ---- a reading that showed nothing more
-pub none-left : (t : List ℕ) (k : ℕ) {q : ℕ} {r : Reading} → r ≡ shows [] q → state t k (At q) ≡ shownOver t k r
-none-left t k {q} e = rw e (sym (after-none t k q))
-
--- ---- a container's own items, up to the whole byte where its list starts
-pub front-is : (o : Order) (body : List ℕ) (code : ℕ) → toEnd o body (bodyBy false code) ≡ run o body (front (fixedOf code)) 0
-unfolding readPart run readItem
-front-is o body code = refl
+-- ---- End shows nothing
+pub none-shown : (t : List ℕ) (k : ℕ) → Shows t k (shows [] 0) false t (Done (record { 0 = 0 }) k)
+none-shown t k = record { left = sym (after-none t k 0); opened = refl }
 
 -- ---- the class that a `match` tells
-pub values-of : (o : Order) (body t : List ℕ) (k code : ℕ) {class : Class} {x : State} (told : Class) → class ≡ told → x ≡ shownOver t k (valuesOf o told code body) → x ≡ shownOver t k (valuesOf o class code body)
-values-of o body t k code told e f = f ∙ ap (λ (z : Class). shownOver t k (valuesOf o z code body)) (sym e)
+pub values-of : (o : Order) (body t : List ℕ) (k code : ℕ) {class : Class} {u : List ℕ} {s : Shown} (told : Class) → class ≡ told → Shows t k (valuesOf o told code body) (listOf o told code body) u s
+    → Shows t k (valuesOf o class code body) (listOf o class code body) u s
+values-of o body t k code {class} {u} {s} told e f = subst (λ (z : Class). Shows t k (valuesOf o z code body) (listOf o z code body) u s) (sym e) f
+
+-- ---- only a container has a list
+pub list-container : (o : Order) (class : Class) (code : ℕ) (body : List ℕ) → listOf o class code body ≡ true → class ≡ Container
+list-container o Opaque code body e = clash cc
+list-container o End code body e = clash cc
+list-container o Container code body e = refl
+list-container o Fixed code body e = clash cc
+list-container o Attributes code body e = clash cc
 
 -- ---- values end in the body
 body-le : (o : Order) (y : Body) (b : List ℕ) (p : ℕ) → readBody o y b .ended ≡ At p → p ≤ 8 * length b
@@ -85,7 +91,11 @@ body-le o y b p = go (toEnd o b y .shown) (toEnd o b y .ended)
 pub values-le : (o : Order) (class : Class) (code : ℕ) (body : List ℕ) (p : ℕ) → valuesOf o class code body .ended ≡ At p → p ≤ 8 * length body
 values-le o Opaque code body p e = let z : 0 ≡ p = cc in omega arith
 values-le o End code body p e = let z : 0 ≡ p = cc in omega arith
-values-le o Container code body p e = run-le o body (front (fixedOf code)) 0 p (omega arith) e .1
+values-le o Container code body p e = go (hasListIn o (containerBody code) body) e
+  where
+    go : (list : Bool) → pick list (toEnd o body (containerBody code)) (readBody o (containerBody code) body) .ended ≡ At p → p ≤ 8 * length body
+    go true e = end-le o (containerBody code) body p e
+    go false e = body-le o (containerBody code) body p e
 values-le o Fixed code body p e = body-le o (leafBody code) body p e
 values-le o Attributes code body p e = body-le o (leafBody code) body p e
 
@@ -102,10 +112,11 @@ pub gains-none : {gains : Bool} {n m : ℕ} → gains ≡ false → n ≡ m → 
 gains-none e f = rw e (omega arith)
 
 -- ---- three numbers before the values
-pub headed-stored : (t : List ℕ) (k code : ℕ) (s : ℕ) (r : Reading) {u u₁ u₂ u₃ : List ℕ} {n x : ℕ} (R : Shown) → shownLeaves u R ≡ shownOver t (k + 3) r
-    → u₁ ≡ set u k code → x ≡ s → u₂ ≡ set u₁ (k + 1) x → n ≡ shownIndex R - (k + 3) → u₃ ≡ set u₂ (k + 2) n → shownLeaves u₃ R ≡ shownOver t k (headed code s r)
+pub headed-stored : (t : List ℕ) (k code : ℕ) (s : ℕ) (r : Reading) (list : Bool) {u u₁ u₂ u₃ : List ℕ} {n x : ℕ} (R : Shown) → Shows t (k + 3) r list u R
+    → u₁ ≡ set u k code → x ≡ s → u₂ ≡ set u₁ (k + 1) x → n ≡ shownIndex R - (k + 3) → u₃ ≡ set u₂ (k + 2) n → Shows t k (headed code s r) list u₃ R
 unfolding shownOver
-headed-stored t k code s r R e a z b c d =
+headed-stored t k code s r list {u} R h a z b c d =
+    let e : shownLeaves u R ≡ shownOver t (k + 3) r = h .left in
     let v : List ℕ = r .shown in
     let m : shownIndex R ≡ k + 3 + length v = ap (λ (z : State). z .count) e in
     let n : shownIndex R - (k + 3) ≡ length v = omega arith in
@@ -113,34 +124,41 @@ headed-stored t k code s r R e a z b c d =
     let i2 : k + 2 ≡ suc (suc k) = omega arith in
     let i3 : k + 3 ≡ suc (suc (suc k)) = omega arith in
     let t3 : shownLeaves _ R .table ≡ sets t (suc (suc (suc k))) v = ap (λ (z : State). z .table) e ∙ ap (λ (j : ℕ). sets t j v) i3 in
-    state-eq
-    (d ∙ rw (
-      c,
-      n,
-      b,
-      z,
-      a,
-      i1,
-      i2,
-      t3,
-      set-sets t k (suc (suc (suc k))) code v (omega arith),
-      set-sets (set t k code) (suc k) (suc (suc (suc k))) s v (omega arith),
-      set-sets (set (set t k code) (suc k) s) (suc (suc k)) (suc (suc (suc k))) (length v) v (omega arith),
-    ))
-    (m ∙ omega arith)
-    (ap (λ (z : State). z .ended) e)
+    record {
+      left = state-eq
+          (d ∙ rw (
+            c,
+            n,
+            b,
+            z,
+            a,
+            i1,
+            i2,
+            t3,
+            set-sets t k (suc (suc (suc k))) code v (omega arith),
+            set-sets (set t k code) (suc k) (suc (suc (suc k))) s v (omega arith),
+            set-sets (set (set t k code) (suc k) s) (suc (suc k)) (suc (suc (suc k))) (length v) v (omega arith),
+          ))
+          (m ∙ omega arith)
+          (ap (λ (z : State). z .ended) e);
+      opened = h .opened;
+    }
 
 -- there is no room for any of them
-pub headed-out : (t : List ℕ) (k code : ℕ) (s : ℕ) (r : Reading) {u : List ℕ} (R : Shown) → shownLeaves u R ≡ shownOver t (k + 3) r → length u ≤ k → shownLeaves u R ≡ shownOver t k (headed code s r)
+pub headed-out : (t : List ℕ) (k code : ℕ) (s : ℕ) (r : Reading) (list : Bool) {u : List ℕ} (R : Shown) → Shows t (k + 3) r list u R → length u ≤ k → Shows t k (headed code s r) list u R
 unfolding shownOver
-headed-out t k code s r {u} R e h =
+headed-out t k code s r list {u} R g h =
+    let e : shownLeaves u R ≡ shownOver t (k + 3) r = g .left in
     let v : List ℕ = r .shown in
     let d : u ≡ sets t (k + 3) v = ap (λ (z : State). z .table) e in
     let n : length t ≤ k = omega (arith, ap length d, length-sets t (k + 3) v) in
-    state-eq
-    (d ∙ sets-out t (k + 3) v (omega arith) ∙ sym (sets-out t k (headed code s r .shown) n))
-    (ap (λ (z : State). z .count) e ∙ omega arith)
-    (ap (λ (z : State). z .ended) e)
+    record {
+      left = state-eq
+          (d ∙ sets-out t (k + 3) v (omega arith) ∙ sym (sets-out t k (headed code s r .shown) n))
+          (ap (λ (z : State). z .count) e ∙ omega arith)
+          (ap (λ (z : State). z .ended) e);
+      opened = g .opened;
+    }
 
 -- ---- five numbers in a row
 pub row-stored : (g : List ℕ) (m a b c d e : ℕ) {g₁ g₂ g₃ g₄ g₅ : List ℕ} → g₁ ≡ set g m a → g₂ ≡ set g₁ (m + 1) b → g₃ ≡ set g₂ (m + 2) c → g₄ ≡ set g₃ (m + 3) d

@@ -1,5 +1,6 @@
 // One tag: its numbers in the lent table, and its row in the lent tag table.
 ghost use mathlib.Core.Path.{_≡_};
+ghost use mathlib.Core.Bool.{false};
 ghost use mathlib.Core.List.{[], _∷_};
 ghost use Prim.Native.Nat.{_+_, _<_, _≤_, _^_};
 ghost use lib.ListN.{length, set};
@@ -7,10 +8,9 @@ ghost use lib.Seq.{sets};
 ghost use Rattle.format.specs.Reading.{shows};
 ghost use Rattle.format.specs.Tests.{pick};
 ghost use Rattle.format.specs.FileAndTags.{isRead, longOnShort, stateOf, packed};
-ghost use Rattle.table.specs.State.{shownOver};
 ghost use Rattle.classes.specs.Classes.{bare};
-ghost use Rattle.bodies.specs.Shown.{shownIndex, shownLeaves};
-ghost use Rattle.tags.specs.Shown.{valuesOf, headed};
+ghost use Rattle.bodies.specs.Shown.{shownIndex, Shows};
+ghost use Rattle.tags.specs.Shown.{valuesOf, listOf, headed};
 ghost use Rattle.bits.specs.Places.{orderOf};
 use bits::BytePlace;
 use bits::Order;
@@ -21,7 +21,7 @@ use classes::Class;
 // An opaque body, packed: its length, and then eight bytes to a number, by one load where eight are there. Where there is no room, no byte of it is touched.
 fn pack_bytes(body: &[u8], table: &mut [u64], from: usize) -> Shown
     requires { ⌜ (length (now body) < 2 ^ 60) × (from < 2 ^ 61) ⌝ }
-    ensures { λ r. ⌜ shownLeaves (now (table .exit)) r ≡ shownOver (now (table .entry)) from (shows (packed (now (body .entry))) 0) ⌝ }
+    ensures { λ r. ⌜ Shows (now (table .entry)) from (shows (packed (now (body .entry))) 0) false (now (table .exit)) r ⌝ }
 {
     let len = body.len();
     let whole = len / 8;
@@ -47,7 +47,7 @@ fn pack_bytes(body: &[u8], table: &mut [u64], from: usize) -> Shown
     Shown::Done(BytePlace(0), behind)
 }
 
-// The values of a tag, by its class. Those of a container stand before its list, which starts on a whole byte.
+// The values of a tag, by its class. Those of a container stand before its list, if it has one.
 fn read_tag_values(
     order: Order,
     class: Class,
@@ -57,12 +57,12 @@ fn read_tag_values(
     from: usize,
 ) -> Shown
     requires { ⌜ (length (now body) < 2 ^ 60) × (from < 2 ^ 61) ⌝ }
-    ensures { λ r. ⌜ shownLeaves (now (table .exit)) r ≡ shownOver (now (table .entry)) from (valuesOf (orderOf order) class code (now (body .entry))) ⌝ }
+    ensures { λ r. ⌜ Shows (now (table .entry)) from (valuesOf (orderOf order) class code (now (body .entry))) (listOf (orderOf order) class code (now (body .entry))) (now (table .exit)) r ⌝ }
 {
     match class {
         Class::Opaque => pack_bytes(body, table, from),
         Class::End => Shown::Done(BytePlace(0), from),
-        Class::Container => bodies::read_to_end(order, false, code, body, table, from),
+        Class::Container => bodies::read_container(order, code, body, table, from),
         Class::Fixed => bodies::read_body(order, code, body, table, from),
         Class::Attributes => bodies::read_body(order, code, body, table, from),
     }
@@ -74,6 +74,7 @@ fn index_behind(shown: Shown) -> usize
 {
     match shown {
         Shown::Done(_, behind) => behind,
+        Shown::Open(_, behind) => behind,
         Shown::Stop(_, behind) => behind,
     }
 }
@@ -118,7 +119,7 @@ pub fn show_tag(
     from: usize,
 ) -> Shown
     requires { ⌜ (length (now body) < 2 ^ 32) × (from < 2 ^ 60) ⌝ }
-    ensures { λ r. ⌜ shownLeaves (now (table .exit)) r ≡ shownOver (now (table .entry)) from (headed code (stateOf (bare class) size (length (now (body .entry)))) (valuesOf (orderOf order) class code (now (body .entry)))) ⌝ }
+    ensures { λ r. ⌜ Shows (now (table .entry)) from (headed code (stateOf (bare class) size (length (now (body .entry)))) (valuesOf (orderOf order) class code (now (body .entry)))) (listOf (orderOf order) class code (now (body .entry))) (now (table .exit)) r ⌝ }
 {
     let shown = read_tag_values(order, class, code, body, table, from + 3);
     if table.len() <= from {

@@ -6,6 +6,7 @@ use mathlib.Core.Path.{_≡_, refl}
 use lib.ListN.{getD, set, replicate}
 use Rattle.format.specs.Bits.{bitAt, ub}
 use Rattle.format.specs.Items.{readVar, readItem, run}
+use Rattle.format.specs.Bodies.{readPart}
 use Rattle.format.specs.FileAndTags.{eights, classOf, walk}
 use Rattle.format.specs.Reasons.{Answer, accepted, refused, startFault, walkFile}
 use Rattle.tally.specs.OwnBytes.{ownBytes}
@@ -37,15 +38,15 @@ lower : Left
 lower = adding 0 4 atZero nested
 
 nested-answer : added .answer ≡ accepted 32
-unfolding added adding walkFile startFault classOf walk nested run readItem readVar ub bitAt isFull eights
+unfolding added adding walkFile startFault classOf walk nested readPart run readItem readVar ub bitAt isFull eights
 nested-answer = refl
 
 nested-counts : (added .tally .headers ∷ getD (added .tally .counts) 0 0 ∷ getD (added .tally .counts) 2 0 ∷ getD (added .tally .counts) 4 0 ∷ getD (added .tally .counts) 5 0 ∷ []) ≡ 9 ∷ 6 ∷ 8 ∷ 5 ∷ 4 ∷ []
-unfolding added adding walkFile startFault classOf walk nested run readItem readVar ub bitAt isFull eights adds ownBytes
+unfolding added adding walkFile startFault classOf walk nested readPart run readItem readVar ub bitAt isFull eights adds ownBytes
 nested-counts = refl
 
 lower-counts : (getD (lower .tally .counts) 0 0 ∷ getD (lower .tally .counts) 2 0 ∷ getD (lower .tally .counts) 4 0 ∷ getD (lower .tally .counts) 5 0 ∷ []) ≡ 4 ∷ 8 ∷ 0 ∷ 11 ∷ []
-unfolding lower adding walkFile startFault classOf walk nested run readItem readVar ub bitAt isFull eights adds ownBytes
+unfolding lower adding walkFile startFault classOf walk nested readPart run readItem readVar ub bitAt isFull eights adds ownBytes
 lower-counts = refl
 
 -- 25 comes first: the file is too short, the level too high and the order neither

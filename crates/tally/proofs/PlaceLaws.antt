@@ -6,11 +6,12 @@ use mathlib.Core.Bool.{Bool, true, false}
 use native.Mathlib.Omega.{arith}
 use lib.ListN.{length, take, drop, length-drop}
 use lib.Dec.{eqb}
+use Rattle.format.specs.Tests.{pick}
 use Rattle.format.specs.Bits.{AllBytes, Order, orderNamed}
 use Rattle.format.specs.Reading.{Ending, At, Fault}
-use Rattle.format.specs.Items.{run, toByte}
+use Rattle.format.specs.Bodies.{Body}
 use Rattle.format.specs.FileAndTags as paper
-use Rattle.format.specs.FileAndTags.{container, classOf, Tag, Outcome, whole, fault, Walk, head, rawHead, front, walkList}
+use Rattle.format.specs.FileAndTags.{container, classOf, Tag, Outcome, whole, fault, Walk, head, rawHead, walkList}
 use Rattle.format.specs.FileAndTags.{file as ownFile}
 use Rattle.format.specs.Levels.{endOf}
 use Rattle.format.specs.Reasons.{startFault, walkFile}
@@ -18,8 +19,7 @@ use Rattle.format.proofs.Absurd.{clash}
 use Rattle.format.proofs.ByteLaws.{bytes-drop}
 use Rattle.format.proofs.HeadLaws.{HeadIf, Spelling, head-there}
 use Rattle.format.proofs.StartLaws.{GoodStart, good-start, whole-start}
-use Rattle.fixed.specs.Fixed.{fixedOf}
-use Rattle.bodies.specs.Leaf.{leafBody}
+use Rattle.bodies.specs.Leaf.{leafBody, containerBody, hasListIn, ownPart}
 use Rattle.classes.specs.Classes.{classAt}
 use Rattle.classes.specs.declared.Class.{Class}
 use Rattle.classes.specs.declared.Class.the-variants.{Opaque, End, Container, Fixed, Attributes}
@@ -28,10 +28,10 @@ use Rattle.lists.proofs.ListLaws.{right}
 use Rattle.tally.specs.Places.{listStart, listIn, nextBy}
 use Rattle.table.specs.State.{State, shownOver}
 use Rattle.bits.specs.declared.BytePlace.{BytePlace}
-use Rattle.bodies.specs.Shown.{shownEnd, shownLeaves}
+use Rattle.bodies.specs.Shown.{shownEnd, isOpen, opens, Shows}
 use Rattle.bodies.specs.declared.Shown.{Shown}
-use Rattle.bodies.specs.declared.Shown.the-variants.{Done, Stop}
-use Rattle.format.proofs.WalkLaws.{run-le}
+use Rattle.bodies.specs.declared.Shown.the-variants.{Done, Open, Stop}
+use Rattle.tags.proofs.TagLaws.{values-le}
 use Rattle.tally.proofs.WalkLaws.{Room, Leads, Here, Flat, over, here, Flattens, flattened}
 
 -- ---- of an accepted file
@@ -62,12 +62,12 @@ module _ (order level : ℕ) (f : List ℕ) (ended : walkFile order level f .end
 -- ---- the next place, by the name of the class
 module _ (o : Order) (level : ℕ) (f : List ℕ) where
   pub leads-by : (code len s b : ℕ) → Leads o f (classOf level code) s len b → nextBy o (classAt level code) code len s f ≡ b
-  leads-by code len s b x = go (classAt level code) (subst (λ (c : paper.Class). Leads o f c s len b) (by-code leafBody (λ k. container (fixedOf k)) right level code) x)
+  leads-by code len s b x = go (classAt level code) (subst (λ (c : paper.Class). Leads o f c s len b) (by-code leafBody (λ k. container (containerBody k)) right level code) x)
     where
-      go : (c : Class) → Leads o f (spelt leafBody (λ k. container (fixedOf k)) c code) s len b → nextBy o c code len s f ≡ b
+      go : (c : Class) → Leads o f (spelt leafBody (λ k. container (containerBody k)) c code) s len b → nextBy o c code len s f ≡ b
       go Opaque x = sym x
       go End x = sym x
-      go Container x = rw (x .1) (sym (x .2))
+      go Container x = sym x
       go Fixed x = sym x
       go Attributes x = sym x
 
@@ -76,27 +76,41 @@ pub code-below : (f : List ℕ) (a : ℕ) {code len size : ℕ} → AllBytes f �
 code-below f a h q = subst (HeadIf (drop a f)) q (head-there (drop a f) (bytes-drop a f h)) .coded
 
 -- ---- where a list starts
-module _ (o : Order) (code : ℕ) (body t m : List ℕ) (k : ℕ) (r : Shown) (read : shownLeaves t r ≡ shownOver m k (run o body (front (fixedOf code)) 0)) where
-  ended : shownEnd r ≡ run o body (front (fixedOf code)) 0 .ended
-  unfolding shownOver
-  ended = ap (λ (z : State). z .ended) read
+module _ (o : Order) (code : ℕ) (body t m : List ℕ) (k : ℕ) (r : Shown) (read : Shows m k (ownPart o (containerBody code) body) (hasListIn o (containerBody code) body) t r) where
+  abbrev y : Body
+  y = containerBody code
 
-  pub list-done : {p : BytePlace} {j : ℕ} → r ≡ Done p j → p .0 ≡ listIn o code body
+  ended : shownEnd r ≡ ownPart o y body .ended
+  unfolding shownOver
+  ended = ap (λ (z : State). z .ended) (read .left)
+
+  list-is : {p : ℕ} → shownEnd r ≡ At p → hasListIn o y body ≡ isOpen r
+  list-is q = sym (ap (opens (hasListIn o y body)) (sym ended ∙ q)) ∙ sym (read .opened)
+
+  pub list-open : {p : BytePlace} {j : ℕ} → r ≡ Open p j → p .0 ≡ listIn o code body
+  list-open {p} q =
+      let e : ownPart o y body .ended ≡ At (8 * p .0) = sym ended ∙ ap shownEnd q in
+      let l : hasListIn o y body ≡ true = list-is (ap shownEnd q) ∙ ap isOpen q in
+      sym (ap (listStart (hasListIn o y body) (length body)) e ∙ ap (λ (c : Bool). pick c (8 * p .0 / 8) (length body)) l ∙ omega arith)
+
+  pub list-done : {p : BytePlace} {j : ℕ} → r ≡ Done p j → length body ≡ listIn o code body
   list-done {p} q =
-      let e : run o body (front (fixedOf code)) 0 .ended ≡ At (8 * p .0) = sym ended ∙ ap shownEnd q in
-      rw e (omega arith)
+      let e : ownPart o y body .ended ≡ At (8 * p .0) = sym ended ∙ ap shownEnd q in
+      let l : hasListIn o y body ≡ false = list-is (ap shownEnd q) ∙ ap isOpen q in
+      sym (ap (listStart (hasListIn o y body) (length body)) e ∙ ap (λ (c : Bool). pick c (8 * p .0 / 8) (length body)) l)
 
   pub list-stop : {e j : ℕ} → r ≡ Stop e j → length body ≡ listIn o code body
   list-stop {e} q =
-      let z : run o body (front (fixedOf code)) 0 .ended ≡ Fault e = sym ended ∙ ap shownEnd q in
-      rw z
+      let z : ownPart o y body .ended ≡ Fault e = sym ended ∙ ap shownEnd q in
+      sym (ap (listStart (hasListIn o y body) (length body)) z)
 
 pub list-le : (o : Order) (code : ℕ) (body : List ℕ) {n : ℕ} → n ≡ listIn o code body → n ≤ length body
-list-le o code body e = rw e (go (run o body (front (fixedOf code)) 0 .ended) refl)
+list-le o code body e = rw e (go (ownPart o (containerBody code) body .ended) refl (hasListIn o (containerBody code) body))
   where
-    go : (z : Ending) → run o body (front (fixedOf code)) 0 .ended ≡ z → listStart (length body) z ≤ length body
-    go (Fault x) q = omega arith
-    go (At p) q = omega (arith, run-le o body (front (fixedOf code)) 0 p (omega arith) q .1)
+    go : (z : Ending) → ownPart o (containerBody code) body .ended ≡ z → (list : Bool) → listStart list (length body) z ≤ length body
+    go (Fault x) q list = omega arith
+    go (At p) q true = omega (arith, values-le o Container code body p q)
+    go (At p) q false = omega arith
 
 -- ---- by the class
 module _ (o : Order) (c : Class) (code len s : ℕ) (f : List ℕ) where

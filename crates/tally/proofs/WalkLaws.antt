@@ -11,12 +11,13 @@ use native.Mathlib.Omega.{arith}
 use Rattle.format.specs.Tests.{pick}
 use Rattle.format.specs.Bits.{Order}
 use Rattle.format.specs.Reading.{Ending, At, Fault}
-use Rattle.format.specs.Formats.{Format}
-use Rattle.format.specs.Items.{run, toByte}
-use Rattle.format.specs.Bodies.{readBody}
-use Rattle.format.specs.FileAndTags.{Class, opaque, end, container, known, isEnd, isContainer, Tag, Outcome, whole, fault, Walk, noTags, broken, chain, Head, head, noHead, le16, le32, rawHead, stateOf, passes, readHead, Owner, file, inside, blame, atEnd, TagInside, endAt, front, opened, within, afterTag, tagThen, oneTag, walk}
+use Rattle.format.specs.Bodies.{toEnd, readBody}
+use Rattle.format.specs.FileAndTags.{Class, opaque, end, container, known, isEnd, isContainer, Tag, Outcome, whole, fault, Walk, noTags, broken, chain, Head, head, noHead, le16, le32, rawHead, stateOf, passes, readHead, Owner, file, inside, blame, atEnd, TagInside, endAt, leaf, opened, within, afterTag, tagThen, oneTag, walk}
 use Rattle.format.specs.Levels.{endOf}
-use Rattle.format.proofs.WalkLaws.{run-le, Fits, head-fits}
+use Rattle.format.proofs.BodyLaws.{end-le}
+use Rattle.format.proofs.WalkLaws.{Fits, head-fits}
+use Rattle.bodies.specs.Leaf.{hasListIn}
+use Rattle.tally.specs.Places.{startIn}
 use Rattle.tally.specs.OwnBytes.{belongs, ownBytes}
 use Rattle.tally.proofs.OwnLaws.{belongs-here, belongs-not-here, belongs-later, belongs-sooner, own-is}
 
@@ -89,7 +90,7 @@ head-in f a r h q = ap rawHead (h .stands) ∙ subst (Stays r (h .rest)) q (stay
 
 -- the next tag's place b, by the tag's class: its body of len bytes starts at s
 abbrev pub Leads : Order → List ℕ → Class → ℕ → ℕ → ℕ → Type 0
-Leads o f (container g) s len b = (p : ℕ) × (run o (take len (drop s f)) (front g) 0 .ended ≡ At p) × (b ≡ s + toByte p)
+Leads o f (container y) s len b = b ≡ s + startIn o y (take len (drop s f))
 Leads o f opaque s len b = b ≡ s + len
 Leads o f end s len b = b ≡ s + len
 Leads o f (known y) s len b = b ≡ s + len
@@ -221,21 +222,26 @@ module _ (o : Order) (class : ℕ → Class) (f : List ℕ) where
       go : (z : Ending) → InsideIf s (length body) (known y) [] (endAt a z)
       go (At p) = none-inside s (length body) (known y) refl
       go (Fault e) = tt
-  flat-within k left u (container g) a s body v h = go (run o body (front g) 0 .shown) (run o body (front g) 0 .ended) refl
+  flat-within k left u (container y) a s body v h = test (hasListIn o y body) refl
     where
       R : Owner → ℕ → List ℕ → Walk
       R = walk o class k left
 
-      go : (xs : List ℕ) (z : Ending) → run o body (front g) 0 .ended ≡ z
-          → InsideIf s (length body) (container g) (opened R a s body xs z .walk .tags) (opened R a s body xs z .walk .ended)
-      go xs (Fault e) q = tt
-      go xs (At p) q = list (w .ended) (u (inside a) (s + p / 8) (drop (p / 8) body) (omega (arith, m, room-length f s body v h)) (room-from f s (p / 8) body m h)) (covered o class k left (inside a) (s + p / 8) (drop (p / 8) body))
-        where
-          l : (0 ≤ p) × (p ≤ 8 * length body)
-          l = run-le o body (front g) 0 p (omega arith) q
+      b : take (length body) (drop s f) ≡ body
+      b = rw (h .stands, take-append-le (length body) body (h .rest) (omega arith)) (take-length body)
 
+      -- without a list
+      flat : hasListIn o y body ≡ false → (z : Ending) → readBody o y body .ended ≡ z → InsideIf s (length body) (container y) [] (endAt a z)
+      flat c (Fault e) q = tt
+      flat c (At p) q = none-inside s (length body) (container y) (rw (b, c, q))
+
+      go : hasListIn o y body ≡ true → (xs : List ℕ) (z : Ending) → toEnd o body y .ended ≡ z
+          → InsideIf s (length body) (container y) (opened R a s body xs z .walk .tags) (opened R a s body xs z .walk .ended)
+      go c xs (Fault e) q = tt
+      go c xs (At p) q = list (w .ended) (u (inside a) (s + p / 8) (drop (p / 8) body) (omega (arith, m, room-length f s body v h)) (room-from f s (p / 8) body m h)) (covered o class k left (inside a) (s + p / 8) (drop (p / 8) body))
+        where
           m : p / 8 ≤ length body
-          m = omega (arith, l .1)
+          m = omega (arith, end-le o y body p q)
 
           n : s + p / 8 + length (drop (p / 8) body) ≡ s + length body
           n = rw length-drop (omega (arith, m))
@@ -243,20 +249,23 @@ module _ (o : Order) (class : ℕ → Class) (f : List ℕ) where
           w : Walk
           w = R (inside a) (s + p / 8) (drop (p / 8) body)
 
-          b : take (length body) (drop s f) ≡ body
-          b = rw (h .stands, take-append-le (length body) body (h .rest) (omega arith)) (take-length body)
-
           list : (z : Outcome) → Flattens (s + p / 8) (s + p / 8 + length (drop (p / 8) body)) (w .tags) z → Covered (s + p / 8) (s + p / 8 + length (drop (p / 8) body)) (w .tags) z
-              → InsideIf s (length body) (container g) (w .tags) z
+              → InsideIf s (length body) (container y) (w .tags) z
           list (fault e n) x y = tt
           list whole x y = record {
             next = s + p / 8;
-            leads = (p, rw b q, refl);
+            leads = rw (b, c, q);
             from = omega arith;
             upto = omega (arith, m);
             flat = λ us z. x us (subst (λ (k : ℕ). Flat o class f k us) (sym n) z);
             all = λ i c d. y i c (omega (arith, n));
           }
+
+      test : (c : Bool) → hasListIn o y body ≡ c
+          → InsideIf s (length body) (container y) (pick c (opened R a s body (toEnd o body y .shown) (toEnd o body y .ended)) (leaf a (readBody o y body)) .walk .tags)
+          (pick c (opened R a s body (toEnd o body y .shown) (toEnd o body y .ended)) (leaf a (readBody o y body)) .walk .ended)
+      test true c = go c (toEnd o body y .shown) (toEnd o body y .ended) refl
+      test false c = flat c (readBody o y body .ended) refl
 
   -- a tag that stands there, with what is inside it, and the walk w of what follows
   flat-then : (b d code a size len s : ℕ) (i : TagInside) (w : Walk) → 1 ≤ size → a + size + len ≤ length f → rawHead (drop a f) ≡ head code len size

@@ -58,14 +58,15 @@ fn is_full(tally: Tally) -> bool
     false
 }
 
-// Where a container's list starts in its body: behind its own items.
+// Where a container's list starts in its body: behind its own part; where the body ends, if it has none.
 fn list_in(order: Order, code: u32, body: &[u8]) -> usize
     requires { ⌜ length (now body) ≤ 16777216 ⌝ }
     ensures { λ r. ⌜ r ≡ listIn (orderOf order) code (now (body .entry)) ⌝ }
 {
     let mut none = [0u64; 1];
-    match bodies::read_to_end(order, false, code, body, &mut none[..0], 0) {
-        Shown::Done(list, _) => list.0,
+    match bodies::read_container(order, code, body, &mut none[..0], 0) {
+        Shown::Open(list, _) => list.0,
+        Shown::Done(_, _) => body.len(),
         Shown::Stop(_, _) => body.len(),
     }
 }

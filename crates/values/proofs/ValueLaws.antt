@@ -1,36 +1,48 @@
 -- Values and keyframed content: the formats of their parts, and what a `match` tells.
-use Prim.Native.Nat.{ℕ, suc, _+_, _*_, _≤_}
+use Prim.Native.Nat.{ℕ, zero, suc, _+_, _*_, _^_, _≤_, _<_}
 use mathlib.Core.Bool.{true, false}
-use mathlib.Core.List.{List, []}
-use mathlib.Core.Path.{_≡_, ap, ap₂, sym, _∙_}
+use mathlib.Core.List.{List, [], _∷_, _++_}
+use mathlib.Core.Path.{_≡_, refl, ap, ap₂, sym, _∙_}
 use native.Mathlib.Nat.{mul-le-mul}
 use native.Mathlib.Numerals.{add-one}
 use native.Mathlib.Omega.{arith}
 use borrow.Author.Tests.{eq-eqb, ne-eqb}
 use Rattle.format.specs.Tests.{pick}
 use Rattle.format.specs.Bits.{Order}
-use Rattle.format.specs.Reading.{At, Fault, shows, stop}
-use Rattle.format.specs.Formats.{Item, Format, nothing, item, _▹_, _▸_, times}
-use Rattle.format.specs.Items.{run, time, scaled, coordinates}
+use Rattle.format.specs.Reading.{Ending, At, Fault, Reading, shows, stop, follow}
+use Rattle.format.specs.Formats.{Item, Format, nothing, item, _▹_, _▸_, times, the}
+use Rattle.format.specs.Items.{run, readItem, Num, mapNum, showNum, readUB, byte, uint16, time, float, point, color, count, scaled, coordinates, alphaStop, colorStop}
 use Rattle.format.specs.Bodies as bodies
 use Rattle.format.specs.Bodies.{value, values, interpolations, howMany, curves, aligned, spatial, hasSpatial}
-use Rattle.format.proofs.SizeLaws.{Fair, fair-times, fair-aligned, fair-value, fair-values, fair-interpolations}
+use Rattle.format.proofs.SizeLaws.{Fair, fair-seq, fair-times, fair-aligned, fair-value, fair-values, fair-interpolations}
 use Rattle.table.specs.State.{State, shownOver}
-use Rattle.table.specs.Fields.{fieldOf, announced}
+use Rattle.bits.specs.Places.{numOf}
+use Rattle.bits.specs.declared.BitPlace.{BitPlace}
+use Rattle.bits.specs.declared.Got.{Got}
+use Rattle.bits.specs.declared.Got.the-variants.{Value, Fault as GotFault}
+use Rattle.bits.proofs.FieldLaws.{IsField, ub-got}
+use Rattle.items.specs.declared.Item.the-variants.{Uint16, Byte}
+use Rattle.table.specs.Fields.{fieldOf, announced, Fits}
+use Rattle.table.proofs.RunLaws.{fair-kind}
 use Rattle.table.specs.declared.fields.Field.the-variants.{Verb, Interpolation, SpatialFlag}
-use Rattle.table.proofs.EngineLaws.{Alike, state, after-none, none-then, never-then, then-never, alike-assoc, alike-after}
+use Rattle.table.proofs.EngineLaws.{Alike, state, after-none, none-then, never-then, then-never, alike-nothing, alike-assoc, alike-after}
 use Rattle.table.proofs.FieldLaws.{announced-verbs, announced-frames, announced-points}
 use Rattle.attributes.specs.Contents.{interpolated, layoutBy, valuesBy}
 use Rattle.attributes.specs.Rows.{typeOf}
 use Rattle.attributes.specs.declared.DataType.{DataType}
 use Rattle.attributes.specs.declared.Layout.{Layout}
 use Rattle.attributes.proofs.ContentLaws.{interpolations-some, interpolations-none, values-told}
-use Rattle.values.specs.Parts.{announcing, framesOf}
+use Rattle.values.specs.Parts.{announcing, framesOf, stopOf, stopsOf, afterAlphas}
 
 -- ---- what a `match` tells
 pub value-of : (o : Order) (b t : List ℕ) (k p : ℕ) {what : DataType} {x : State} (told : DataType) → what ≡ told → x ≡ shownOver t k (run o b (value (typeOf told)) p)
     → x ≡ shownOver t k (run o b (value (typeOf what)) p)
 value-of o b t k p told e f = f ∙ ap (λ (z : DataType). shownOver t k (run o b (value (typeOf z)) p)) (sym e)
+
+-- a TagBlock has nothing in the block
+pub no-value : (o : Order) (b t : List ℕ) (k p : ℕ) → state t k (At p) ≡ shownOver t k (run o b (value bodies.TagBlocks) p)
+unfolding run
+no-value o b t k p = sym (after-none t k p)
 
 pub values-of : (o : Order) (b t : List ℕ) (k n p : ℕ) (kind : bodies.Kind) (d : bodies.DataType) {y : Layout} {x : State} (told : Layout) → y ≡ layoutBy kind d → y ≡ told
     → x ≡ shownOver t k (run o b (valuesBy d n told) p) → x ≡ shownOver t k (run o b (values kind d n) p)
@@ -115,3 +127,86 @@ easing-of o kind d φ b t k n q e f g h = h ∙ ap (λ (z : ℕ). shownOver t k 
 -- the easing numbers of n frames are few
 pub easing-small : {m c : ℕ} (n : ℕ) → m ≤ 6 * n → c ≤ 2 → n ≤ 4096 → m * c ≤ 49152
 easing-small {m} {c} n h l e = let f : m * c ≤ 24576 * 2 = mul-le-mul {n₂ = 24576} (omega arith) l in omega (arith, f)
+
+-- ---- GradientColors: a stop as the code reads it is one of the paper's
+alike-stop : (n : ℕ) (f : Format) → Alike (times n byte) f → Alike (stopOf n) (uint16 ▸ uint16 ▸ f)
+alike-stop n f h o b p = alike-assoc uint16 uint16 (times n byte) o b p ∙ alike-after uint16 _ _ (alike-after uint16 _ _ h) o b p
+
+alike-alpha : Alike (stopOf 1) alphaStop
+unfolding times
+alike-alpha = alike-stop 1 byte (alike-nothing byte)
+
+alike-color : Alike (stopOf 3) colorStop
+alike-color = alike-stop 3 color (λ o b p. refl)
+
+-- what follows is alike, whatever was shown
+alike-each : (f : Format) (g h : List ℕ → Format) → ((xs : List ℕ) → Alike (g xs) (h xs)) → Alike (f ▹ g) (f ▹ h)
+unfolding run
+alike-each f g h e o b p = go (run o b f p .shown) (run o b f p .ended)
+  where
+    go : (xs : List ℕ) (z : Ending) → follow xs z (λ ys q. run o b (g ys) q) ≡ follow xs z (λ ys q. run o b (h ys) q)
+    go xs (At q) = ap (λ (r : Reading). record { shown = xs ++ r .shown; ended = r .ended }) (e xs o b q)
+    go xs (Fault z) = refl
+
+alike-times : (f g : Format) (n : ℕ) → Alike f g → Alike (times n f) (times n g)
+unfolding run times
+alike-times f g zero h o b p = refl
+alike-times f g (suc n) h o b p = rw (h o b p) (alike-after g (times n f) (times n g) (alike-times f g n h) o b p)
+
+alike-stops : (n m : ℕ) → Alike (stopsOf n m) (times n alphaStop ▸ times m colorStop)
+unfolding run
+alike-stops n m o b p =
+    rw (alike-times (stopOf 1) alphaStop n alike-alpha o b p) (alike-after (times n alphaStop) (times m (stopOf 3)) (times m colorStop) (alike-times (stopOf 3) colorStop m alike-color) o b p)
+
+-- a GradientColor after its count of alpha stops
+pub alike-gradient : (n : ℕ) → Alike (afterAlphas n) (count 0 4096 ▹ λ colors. times n alphaStop ▸ times (the colors) colorStop)
+alike-gradient n = alike-each (count 0 4096) (λ colors. stopsOf n (the colors)) (λ colors. times n alphaStop ▸ times (the colors) colorStop) (λ colors. alike-stops n (the colors))
+
+pub stops-are : (o : Order) (b t : List ℕ) (k n p : ℕ) {x : State} → x ≡ shownOver t k (run o b (afterAlphas n) p)
+    → x ≡ shownOver t k (run o b (count 0 4096 ▹ λ colors. times n alphaStop ▸ times (the colors) colorStop) p)
+stops-are o b t k n p e = e ∙ ap (shownOver t k) (alike-gradient n o b p)
+
+-- ---- a bit field, and the length of dashes, from the code's answer
+module _ (o : Order) (b : List ℕ) (p n : ℕ) {r : Got} (read : numOf r ≡ readUB o b p n) where
+  pub ub-one : {v : ℕ} {q : BitPlace} → r ≡ Value v q → run o b (item (Item.UB n)) p ≡ shows (v ∷ []) (q .0)
+  unfolding run readItem
+  ub-one e = sym (ap (λ (z : Got). showNum (numOf z)) (sym e) ∙ ap showNum read)
+
+  pub ub-stop : {e : ℕ} → r ≡ GotFault e → run o b (item (Item.UB n)) p ≡ stop e
+  unfolding run readItem
+  ub-stop e = sym (ap (λ (z : Got). showNum (numOf z)) (sym e) ∙ ap showNum read)
+
+  -- it takes n bits
+  pub ub-fits : {v k : ℕ} {q : BitPlace} → 1 ≤ n → r ≡ Value v q → Fits b p k → Fits b (q .0) (k + 1) × (v < 2 ^ n)
+  ub-fits l e f =
+      let i : IsField o (λ x. x) b p n _ _ = ub-got o b p n (ap numOf (sym e) ∙ read) in
+      (((i .inside, f .0 .1), omega (arith, i .next, f .1)), omega (arith, i .value, i .below))
+
+module _ (o : Order) (b : List ℕ) (p : ℕ) {r : Got} (read : numOf r ≡ readUB o b p 3) where
+  pub dash-one : {v : ℕ} {q : BitPlace} → r ≡ Value v q → run o b (item Item.dashLength) p ≡ shows ((v + 1) ∷ []) (q .0)
+  unfolding run readItem
+  dash-one {v} {q} e =
+      rw (add-one v) (sym (ap (λ (z : Got). showNum (mapNum suc (numOf z))) (sym e) ∙ ap (λ (z : Num). showNum (mapNum suc z)) read))
+
+  pub dash-stop : {e : ℕ} → r ≡ GotFault e → run o b (item Item.dashLength) p ≡ stop e
+  unfolding run readItem
+  dash-stop e = sym (ap (λ (z : Got). showNum (mapNum suc (numOf z))) (sym e) ∙ ap (λ (z : Num). showNum (mapNum suc z)) read)
+
+pub fair-stop : (o : Order) (n : ℕ) → Fair o 0 (stopOf n)
+fair-stop o n = fair-seq o (uint16 ▸ uint16) (times n byte) (fair-seq o uint16 uint16 (fair-kind o Uint16) (fair-kind o Uint16)) (fair-times o n byte (fair-kind o Byte))
+
+-- ---- Points in turn are twice as many Floats
+pub alike-pairs : (f : Format) (n : ℕ) → Alike (times (n * 2) f) (times n (f ▸ f))
+unfolding times
+alike-pairs f zero o b p = refl
+alike-pairs f (suc n) o b p =
+    let e : suc n * 2 ≡ suc (suc (n * 2)) = omega arith in
+    rw e (sym (alike-assoc f f (times (n * 2) f) o b p) ∙ alike-after (f ▸ f) (times (n * 2) f) (times n (f ▸ f)) (alike-pairs f n) o b p)
+
+pub points-are : (o : Order) (b t : List ℕ) (k n p : ℕ) {x : State} → x ≡ shownOver t k (run o b (times (n * 2) float) p) → x ≡ shownOver t k (run o b (times n point) p)
+points-are o b t k n p e = e ∙ ap (shownOver t k) (alike-pairs float n o b p)
+
+-- values in turn, by what a `match` tells
+pub in-turn-of : (o : Order) (b t : List ℕ) (k n p : ℕ) {what : DataType} {x : State} (told : DataType) → what ≡ told → x ≡ shownOver t k (run o b (times n (value (typeOf told))) p)
+    → x ≡ shownOver t k (run o b (times n (value (typeOf what))) p)
+in-turn-of o b t k n p told e f = f ∙ ap (λ (z : DataType). shownOver t k (run o b (times n (value (typeOf z))) p)) (sym e)

@@ -2,14 +2,14 @@
 ghost use mathlib.Core.Path.{_≡_};
 ghost use Prim.Native.Nat.{_≤_};
 ghost use Rattle.format.specs.Formats.{times, _▸_};
-ghost use Rattle.format.specs.Items.{run, path, time};
-ghost use Rattle.format.specs.Bodies.{value as valueOf, values as valuesOf};
+ghost use Rattle.format.specs.Items.{run, path, time, gradientColor};
+ghost use Rattle.format.specs.Bodies.{value as valueOf, values as valuesOf, dashes};
 ghost use Rattle.table.specs.State.{shownOver};
 ghost use Rattle.table.specs.Run.{runLeaves};
 ghost use Rattle.table.specs.Fields.{Fits};
 ghost use Rattle.items.specs.Kinds.{formatOf};
 ghost use Rattle.attributes.specs.Rows.{kindOf, typeOf};
-ghost use Rattle.values.specs.Parts.{announcing};
+ghost use Rattle.values.specs.Parts.{announcing, stopOf, stopsOf, afterAlphas, offsetFlag};
 ghost use Rattle.bits.specs.Places.{orderOf};
 
 pub mod keyframes;
@@ -17,6 +17,7 @@ pub mod keyframes;
 use attributes::DataType;
 use attributes::Kind;
 use attributes::Layout;
+use bits::Aligned;
 use bits::BitPlace;
 use bits::Got;
 use bits::Order;
@@ -99,7 +100,155 @@ fn read_path(order: Order, body: &[u8], at: BitPlace, table: &mut [u64], from: u
     }
 }
 
-// One value that is not keyframed.
+// A stop of a gradient: position, midpoint, and its bytes, which are an opacity or a Color.
+fn read_stop(
+    order: Order,
+    bytes: usize,
+    body: &[u8],
+    at: BitPlace,
+    table: &mut [u64],
+    from: usize,
+) -> Run
+    requires { ⌜ Fits (now body) (at .0) from ⌝ }
+    ensures { λ r. ⌜ runLeaves (now (table .exit)) r ≡ shownOver (now (table .entry)) from (run (orderOf order) (now (body .entry)) (stopOf bytes) (at .0)) ⌝ }
+{
+    let r = read_pair(order, Item::Uint16, Item::Uint16, body, at, table, from);
+    let Run::Done(next, behind) = r else {
+        return r;
+    };
+    table::in_turn::read_items(order, Item::Byte, bytes, body, next, table, behind)
+}
+
+// n stops with so many bytes each.
+fn read_stops(
+    order: Order,
+    bytes: usize,
+    count: usize,
+    body: &[u8],
+    at: BitPlace,
+    table: &mut [u64],
+    from: usize,
+) -> Run
+    requires { ⌜ Fits (now body) (at .0) from ⌝ }
+    ensures { λ r. ⌜ runLeaves (now (table .exit)) r ≡ shownOver (now (table .entry)) from (run (orderOf order) (now (body .entry)) (times count (stopOf bytes)) (at .0)) ⌝ }
+{
+    let mut place = at;
+    let mut index = from;
+    let mut left = count;
+    while 0 < left {
+        let r = read_stop(order, bytes, body, place, table, index);
+        let Run::Done(next, behind) = r else {
+            return r;
+        };
+        place = next;
+        index = behind;
+        left -= 1;
+    }
+    Run::Done(place, index)
+}
+
+// The alpha stops of a gradient, each with an opacity, and then its color stops, each with a Color.
+fn read_both_stops(
+    order: Order,
+    alphas: usize,
+    colors: usize,
+    body: &[u8],
+    at: BitPlace,
+    table: &mut [u64],
+    from: usize,
+) -> Run
+    requires { ⌜ Fits (now body) (at .0) from ⌝ }
+    ensures { λ r. ⌜ runLeaves (now (table .exit)) r ≡ shownOver (now (table .entry)) from (run (orderOf order) (now (body .entry)) (stopsOf alphas colors) (at .0)) ⌝ }
+{
+    let r = read_stops(order, 1, alphas, body, at, table, from);
+    let Run::Done(next, behind) = r else {
+        return r;
+    };
+    read_stops(order, 3, colors, body, next, table, behind)
+}
+
+// What follows the count of alpha stops: the count of color stops, and the stops.
+fn read_after_alphas(
+    order: Order,
+    alphas: usize,
+    body: &[u8],
+    at: BitPlace,
+    table: &mut [u64],
+    from: usize,
+) -> Run
+    requires { ⌜ Fits (now body) (at .0) from ⌝ }
+    ensures { λ r. ⌜ runLeaves (now (table .exit)) r ≡ shownOver (now (table .entry)) from (run (orderOf order) (now (body .entry)) (afterAlphas alphas) (at .0)) ⌝ }
+{
+    let counted = items::read_item(order, Item::Count(0), body, at);
+    match counted {
+        Got::Value(colors, next) => {
+            table::put(table, from, colors);
+            read_both_stops(order, alphas, colors as usize, body, next, table, from + 1)
+        }
+        Got::Fault(why) => Run::Stop(why, from),
+    }
+}
+
+// A GradientColor: both counts, and the stops.
+fn read_gradient(order: Order, body: &[u8], at: BitPlace, table: &mut [u64], from: usize) -> Run
+    requires { ⌜ Fits (now body) (at .0) from ⌝ }
+    ensures { λ r. ⌜ runLeaves (now (table .exit)) r ≡ shownOver (now (table .entry)) from (run (orderOf order) (now (body .entry)) gradientColor (at .0)) ⌝ }
+{
+    let counted = items::read_item(order, Item::Count(0), body, at);
+    match counted {
+        Got::Value(alphas, next) => {
+            table::put(table, from, alphas);
+            read_after_alphas(order, alphas as usize, body, next, table, from + 1)
+        }
+        Got::Fault(why) => Run::Stop(why, from),
+    }
+}
+
+// The flag of an offset of dashes: exist, and, if it is set, animatable.
+fn read_offset_flag(order: Order, body: &[u8], at: BitPlace, table: &mut [u64], from: usize) -> Run
+    requires { ⌜ Fits (now body) (at .0) from ⌝ }
+    ensures { λ r. ⌜ runLeaves (now (table .exit)) r ≡ shownOver (now (table .entry)) from (run (orderOf order) (now (body .entry)) offsetFlag (at .0)) ⌝ }
+{
+    let r = bits::fields::read_ub(order, body, at, 1);
+    match r {
+        Got::Value(exist, next) => {
+            table::put(table, from, exist);
+            let fields = table::fields::read_fields(
+                order,
+                Field::Plain,
+                1,
+                exist as usize,
+                body,
+                next,
+                table,
+                from + 1,
+            );
+            fields.run
+        }
+        Got::Fault(why) => Run::Stop(why, from),
+    }
+}
+
+// Dashes: from a whole byte on their length, shown plus 1, and the flag of their offset.
+fn read_dashes(order: Order, body: &[u8], at: BitPlace, table: &mut [u64], from: usize) -> Run
+    requires { ⌜ Fits (now body) (at .0) from ⌝ }
+    ensures { λ r. ⌜ runLeaves (now (table .exit)) r ≡ shownOver (now (table .entry)) from (run (orderOf order) (now (body .entry)) dashes (at .0)) ⌝ }
+{
+    let aligned = bits::align(order, body, at);
+    let Aligned::Clean(_, start) = aligned else {
+        return Run::Stop(15, from);
+    };
+    let r = bits::fields::read_ub(order, body, start, 3);
+    match r {
+        Got::Value(length, next) => {
+            table::put(table, from, length + 1);
+            read_offset_flag(order, body, next, table, from + 1)
+        }
+        Got::Fault(why) => Run::Stop(why, from),
+    }
+}
+
+// One value that is not keyframed. A TagBlock has nothing here: its list stands behind the block.
 pub fn read_value(
     order: Order,
     what: DataType,
@@ -119,23 +268,25 @@ pub fn read_value(
         DataType::Bool => table::read_one(order, Item::Enum(1), body, at, table, from),
         DataType::Byte => table::read_one(order, Item::Byte, body, at, table, from),
         DataType::BlendMode => table::read_one(order, Item::BlendMode, body, at, table, from),
-        DataType::TrackMatteType => table::read_one(order, Item::Enum(4), body, at, table, from),
-        DataType::MaskMode => table::read_one(order, Item::Enum(7), body, at, table, from),
         DataType::Path => read_path(order, body, at, table, from),
         DataType::Point => read_pair(order, Item::Float, Item::Float, body, at, table, from),
-        DataType::AnchorPointGrouping => table::read_one(
+        DataType::Color => table::in_turn::read_items(order, Item::Byte, 3, body, at, table, from),
+        DataType::GradientColor => read_gradient(order, body, at, table, from),
+        DataType::Enum(top) => table::read_one(
             order,
-            Item::Enum(6),
+            Item::Enum(top as u64),
             body,
             at,
             table,
             from,
         ),
+        DataType::Dashes => read_dashes(order, body, at, table, from),
+        DataType::TagBlock => Run::Done(at, from),
     }
 }
 
-// n values in turn.
-fn read_in_turn(
+// n values in turn, one by one.
+fn read_each(
     order: Order,
     what: DataType,
     count: usize,
@@ -160,6 +311,26 @@ fn read_in_turn(
         left -= 1;
     }
     Run::Done(place, index)
+}
+
+// n values in turn. Floats and Points are Floats, which are read at once.
+fn read_in_turn(
+    order: Order,
+    what: DataType,
+    count: usize,
+    body: &[u8],
+    at: BitPlace,
+    table: &mut [u64],
+    from: usize,
+) -> Run
+    requires { ⌜ Fits (now body) (at .0) from × (count ≤ 4097) ⌝ }
+    ensures { λ r. ⌜ runLeaves (now (table .exit)) r ≡ shownOver (now (table .entry)) from (run (orderOf order) (now (body .entry)) (times count (valueOf (typeOf what))) (at .0)) ⌝ }
+{
+    match what {
+        DataType::Float => table::in_turn::read_floats(order, count, body, at, table, from),
+        DataType::Point => table::in_turn::read_floats(order, count * 2, body, at, table, from),
+        _ => read_each(order, what, count, body, at, table, from),
+    }
 }
 
 // n times. Apart from other values in turn, so that what an item is is not asked for each.

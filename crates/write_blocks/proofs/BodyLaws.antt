@@ -14,8 +14,7 @@ use Rattle.format.specs.Tests.{pick}
 use Rattle.format.specs.Bits.{Order}
 use Rattle.format.specs.Formats.{Item, item}
 use Rattle.format.specs.Items.{skipped}
-use Rattle.format.specs.Bodies.{Kind, Value, Fixed, BitFlag, Simple, Discrete, MultiDimension, Spatial, Attribute, flagsOf, allFlags, rows, attributes}
-use Rattle.format.specs.FileAndTags.{front}
+use Rattle.format.specs.Bodies.{Kind, Value, Fixed, BitFlag, Simple, Discrete, MultiDimension, Spatial, Custom, Attribute, flagsOf, allFlags, rows, attributes}
 use Rattle.format.specs.Possible.{Possible, this, cannot}
 use Rattle.format.specs.WritingItems.{dig, before, Written, wrote, put, single, writeItem, spellFlag}
 use Rattle.format.specs.WritingFormats.{adjoin, onward, unrun}
@@ -33,10 +32,10 @@ use Rattle.sink.proofs.LayingLaws.{lay-append, lay-bytes-of, lay-place, lay-ok}
 use Rattle.table.proofs.EngineLaws.{sets-append}
 use Rattle.spelling.specs.Ends.{concluded}
 use Rattle.spelling.specs.Writing.{Seen, here, ran, Fine}
-use Rattle.spelling.proofs.EndLaws.{front-law}
+use Rattle.spelling.proofs.EndLaws.{front, front-law}
 use Rattle.spelling.proofs.ShiftLaws.{shift, whole-bytes}
 use Rattle.write_heads.proofs.StoreLaws.{sets-comm, sets-cover, sets-taken}
-use Rattle.write_blocks.specs.Flags.{flagSpelling, joined, flagBits, flagBytes, hasFlag, anyFlag, bitsOf, Held}
+use Rattle.write_blocks.specs.Flags.{flagSpelling, joined, flagBits, flagBytes, hasFlag, anyFlag, HasFlags, bitsOf, Held}
 use Rattle.write_blocks.specs.Filling.{Both, both, bothOf, fills, filled, Ready, underFlags}
 use Rattle.write_blocks.specs.declared.Filled.{Filled}
 use Rattle.write_blocks.specs.declared.Filled.the-variants.{With, No}
@@ -57,6 +56,7 @@ flag-is o Simple ns p = refl
 flag-is o Discrete ns p = refl
 flag-is o MultiDimension ns p = refl
 flag-is o Spatial ns p = refl
+flag-is o Custom ns p = refl
 
 used-adjoin : (x : ℕ) (bs : List Bool) (w : Possible Written) (k : List ℕ → List Bool → Possible Written) → usedUp (adjoin (x ∷ []) bs w) k ≡ usedUp w (λ xs cs. k (x ∷ xs) (bs ++ cs))
 used-adjoin x bs cannot k = refl
@@ -108,6 +108,7 @@ some-kind o Simple v e = some-flag o v 1
 some-kind o Discrete v e = some-flag o v 1
 some-kind o MultiDimension v e = some-flag o v 1
 some-kind o Spatial v e = some-flag o v 2
+some-kind o Custom v e = some-flag o v 0
 
 some-first : (b c : Possible (List Bool)) → Some b → Some (joined b c)
 some-first (this bs) (this cs) h = omega (arith, length-append bs cs)
@@ -243,9 +244,9 @@ abbrev pub finished : Order → ℕ → ℕ → Possible Both → Possible Lain
 finished o n a (this (both bs st k)) = closed a (flagBytes o bs) (concluded o n (this (here st k)))
 finished o n a cannot = cannot
 
-module _ (o : Order) (ks : List Attribute) (t : List ℕ) (any : anyFlag ks ≡ true) (out : List ℕ) (a : ℕ) where
+module _ (o : Order) (ks : List Attribute) (t : List ℕ) (has : HasFlags ks) (out : List ℕ) (a : ℕ) where
   some-bytes : (bs : List Bool) → flagBits o ks (flagsIn o ks t) ≡ this bs → 1 ≤ length (flagBytes o bs)
-  some-bytes bs e = let h : 0 < length bs = rw e at (some-flags o ks (flagsIn o ks t) any) in omega (arith, flag-size o bs)
+  some-bytes bs e = let h : 0 < length bs = rw e at (some-flags o ks (flagsIn o ks t) (has .any)) in omega (arith, flag-size o bs)
 
   pub block-law : lies out a (writeBody o (attributes ks) t) ≡ finished o (length t) a (fills o ks t (mk out (8 * (a + 1)) 0))
   unfolding contents lies
@@ -287,7 +288,7 @@ module _ (o : Order) (l : List ℕ) (a : ℕ) (f : Flags) (some : 0 < f .width) 
   put-over n more end em ee h = rw (lt-leb (a + length (flagBytes o (bitsOf o f)) + n) longest (omega (arith, size-is)))
 
   -- what waits after the bits
-  pub put-fine : (u w : List ℕ) (s : Sink) {q : ℕ} → q ≡ 8 * a → a ≤ longest → f .width ≤ 27 → at w s ≡ lay o (mk u q 0) (bitsOf o f) → Holds (s .place .0) (s .part) × (s .place .0 ≤ 2 ^ 60)
+  pub put-fine : (u w : List ℕ) (s : Sink) {q : ℕ} → q ≡ 8 * a → a ≤ longest → f .width ≤ 32 → at w s ≡ lay o (mk u q 0) (bitsOf o f) → Holds (s .place .0) (s .part) × (s .place .0 ≤ 2 ^ 60)
   put-fine u w s {q = q} first low few e =
       let p : s .place .0 ≡ q + length (bitsOf o f) = ap (λ (x : State). x .place) e ∙ lay-place o (mk u q 0) (bitsOf o f) in
       (subst (λ (x : State). Holds (x .place) (x .part)) (sym e) (lay-ok o (mk u q 0) (bitsOf o f) (pow-pos (q % 8))), omega (arith, p, length-dig o (f .width) (f .bits)))
@@ -338,16 +339,16 @@ lies-between out a (this xs) u stop e = go (leb (a + length xs) longest) refl e
     go true q d = let z : stop ≡ a + length xs = cc in (omega arith, omega (arith, leb-true (a + length xs) longest q))
     go false q d = clash cc
 
-module _ (o : Order) (ks : List Attribute) (t : List ℕ) (any : anyFlag ks ≡ true) (out : List ℕ) (a : ℕ) (u : List ℕ) (R : Filled)
+module _ (o : Order) (ks : List Attribute) (t : List ℕ) (has : HasFlags ks) (out : List ℕ) (a : ℕ) (u : List ℕ) (R : Filled)
     {q : ℕ} (first : q ≡ 8 * (a + 1)) (from : (filled o u R ≡ fills o ks t (mk out q 0)) × Ready R) where
   e : (filled o u R ≡ fills o ks t (mk out (8 * (a + 1)) 0)) × Ready R
   e = (from .0 ∙ ap (λ (k : ℕ). fills o ks t (mk out k 0)) first, from .1)
 
   pub block-gone : R ≡ No → cannot ≡ lies out a (writeBody o (attributes ks) t)
-  block-gone d = sym (block-law o ks t any out a ∙ ap (finished o (length t) a) (sym (e .0) ∙ ap (filled o u) d))
+  block-gone d = sym (block-law o ks t has out a ∙ ap (finished o (length t) a) (sym (e .0) ∙ ap (filled o u) d))
 
   module _ (f : Flags) (s : Sink) (k : ℕ) (d : R ≡ With f s k) where
-    ready : Held f × (f .width ≤ 27) × Fine s
+    ready : Held f × (f .width ≤ 32) × Fine s
     ready = subst Ready d (e .1)
 
     pub block-fine : Fine s
@@ -362,7 +363,7 @@ module _ (o : Order) (ks : List Attribute) (t : List ℕ) (any : anyFlag ks ≡ 
     -- C is how the contents end
     module _ (v : List ℕ) (C : Body) (h : lainAs v C ≡ concluded o (length t) (this (here (at u s) k))) where
       ends : lies out a (writeBody o (attributes ks) t) ≡ closed a (flagBytes o (bitsOf o f)) (lainAs v C)
-      ends = block-law o ks t any out a ∙ ap (finished o (length t) a) (sym is) ∙ ap (closed a (flagBytes o (bitsOf o f))) (sym h)
+      ends = block-law o ks t has out a ∙ ap (finished o (length t) a) (sym is) ∙ ap (closed a (flagBytes o (bitsOf o f))) (sym h)
 
       pub block-stop : C ≡ BodyNo → cannot ≡ lies out a (writeBody o (attributes ks) t)
       block-stop z = sym (ends ∙ rw z)
@@ -371,9 +372,9 @@ module _ (o : Order) (ks : List Attribute) (t : List ℕ) (any : anyFlag ks ≡ 
         abbrev stop : ℕ
         stop = end .0
 
-        pub block-room : Held f × (0 < f .width) × (f .width ≤ 27) × (a + 1 ≤ stop) × (stop ≤ longest)
+        pub block-room : Held f × (0 < f .width) × (f .width ≤ 32) × (a + 1 ≤ stop) × (stop ≤ longest)
         block-room =
-            let some : 0 < length (bitsOf o f) = rw (parts .0) at (some-flags o ks (flagsIn o ks t) any) in
+            let some : 0 < length (bitsOf o f) = rw (parts .0) at (some-flags o ks (flagsIn o ks t) (has .any)) in
             let at-end : this (lain v stop) ≡ lies out (a + 1) (wholeBytes o (unrun o (front (rows ks (flagsIn o ks t))) t 0)) =
             ap (lainAs v) (sym z) ∙ h ∙ ap (concluded o (length t)) (sym (parts .1)) ∙ sym (front-law o (rows ks (flagsIn o ks t)) t out (a + 1)) in
             let between = lies-between out (a + 1) (wholeBytes o (unrun o (front (rows ks (flagsIn o ks t))) t 0)) v stop at-end in

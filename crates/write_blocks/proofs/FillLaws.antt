@@ -1,12 +1,12 @@
 -- A block's contents, an attribute at a time, and the flags that are gathered on the way.
-use Prim.Native.Nat.{ℕ, suc, _+_, _*_, _≤_, _<_}
+use Prim.Native.Nat.{ℕ, suc, _+_, _-_, _≤_, _<_}
 use mathlib.Core.List.{List, [], _∷_, append-nil, append-assoc}
 use mathlib.Core.Path.{_≡_, refl, sym, ap, ap₂, _∙_, subst}
 use mathlib.Core.Bool.{Bool}
 use native.Mathlib.Numerals.{add-one}
 use native.Mathlib.Omega.{arith}
 use lib.ListN.{length, getD, drop, drop-of-length-le}
-use lib.Seq.{drop-cons, slice-empty}
+use lib.Seq.{drop-cons}
 use borrow.Author.Tests.{eq-eqb}
 use Rattle.format.specs.Bits.{Order}
 use Rattle.format.specs.Formats.{Item, item, _▸_}
@@ -15,7 +15,8 @@ use Rattle.format.specs.Possible.{Possible, this, cannot}
 use Rattle.format.specs.WritingItems.{dig, before, writeItem}
 use Rattle.format.specs.WritingFormats.{unrun}
 use Rattle.format.specs.WritingBodies.{leftOf, flagsIn}
-use Rattle.attributes.specs.Rows.{allAttributes, rowsFrom}
+use Rattle.attributes.specs.Rows.{rowsFrom}
+use Rattle.attributes.specs.declared.Attribute.{Attribute as Row}
 use Rattle.sink.specs.Laying.{State, at}
 use Rattle.sink.specs.declared.Sink.{Sink}
 use Rattle.sink.proofs.LayingLaws.{lay-none}
@@ -23,7 +24,7 @@ use Rattle.spelling.specs.Writing.{Seen, here, seen, writtenOver, ran, limit, F
 use Rattle.spelling.specs.declared.Put.{Put}
 use Rattle.spelling.specs.declared.Put.the-variants.{Done, Impossible}
 use Rattle.spelling.proofs.RunLaws.{ends-in, ran-then, resume, ran-nothing, ran-fine}
-use Rattle.write_blocks.specs.Flags.{flagSpelling, joined, flagBits, bitsOf, Held, noted, Grown}
+use Rattle.write_blocks.specs.Flags.{flagSpelling, joined, flagBits, mostBits, mostFlags, bitsOf, Held, noted, Grown}
 use Rattle.write_blocks.specs.Filling.{Both, both, bothOf, fills}
 use Rattle.write_blocks.specs.declared.Flags.{Flags}
 use Rattle.write_blocks.specs.declared.Flagged.{Flagged}
@@ -32,8 +33,8 @@ use Rattle.write_blocks.proofs.FlagLaws.{Adds}
 use Rattle.write_blocks.proofs.PlaceLaws.{left-is}
 
 -- no rows are left
-pub no-rows : (row end : ℕ) → row ≡ end → rowsFrom row end ≡ []
-no-rows row end e = rw (e, slice-empty end allAttributes)
+pub none-after : (rows : List Row) (count i : ℕ) → count ≤ i → rowsFrom rows i (count - i) ≡ []
+none-after rows count i h = let n : count - i ≡ 0 = omega arith in rw n
 
 -- ---- bits in front
 before-none : (b : Possible (List Bool)) → before [] b ≡ b
@@ -86,7 +87,7 @@ module _ (o : Order) (t : List ℕ) where
           ∙ ran-then o t st (k + 1) (content a (getD t k 0)) (λ xs. rows rs later)
 
       -- G is what its flags gave, x what its content did
-      module _ (G : Flagged) (flags : Adds 3 o f (flagSpelling o (a .kind) (getD t k 0)) G) (l : st .place ≤ limit) where
+      module _ (G : Flagged) (flags : Adds (mostBits (a .kind)) o f (flagSpelling o (a .kind) (getD t k 0)) G) (l : st .place ≤ limit) where
         turn : {x : Possible Seen} → ran o t st (k + 1) (content a (getD t k 0)) ≡ x → toCome f st k (a ∷ rs) ≡ bothOf (joined (noted o G) (flagBits o rs later)) (resume o t (k + 1) (λ xs. rows rs later) x)
         unfolding flagBits
         turn e =
@@ -108,17 +109,17 @@ module _ (o : Order) (t : List ℕ) where
             ap (λ (n : ℕ). leftOf (unrun o (content a (getD t k 0)) (drop n t) 0)) (sym (add-one k)) ∙ left-is o t (content a (getD t k 0)) (k + 1) st st′ j e in
             turn e ∙ rw (d, i)
 
--- ---- the loop: i attributes are done, rs are to come
-pub record Filling (o : Order) (ks : List Attribute) (t out : List ℕ) (s : Sink) (u : List ℕ) (f : Flags) (cur : Sink) (i k : ℕ) (rs : List Attribute) : Type 0 where
+-- ---- the loop: the attributes rs are to come
+pub record Filling (o : Order) (ks : List Attribute) (t out : List ℕ) (s : Sink) (u : List ℕ) (f : Flags) (cur : Sink) (k : ℕ) (rs : List Attribute) : Type 0 where
   pub size : length u ≡ length out
   pub fine : Fine cur
   pub held : Held f
-  pub few : f .width ≤ 3 * i
+  pub few : f .width + mostFlags rs ≤ 32
   pub rest : fills o ks t (at out s) ≡ toCome o t f (at u cur) k rs
 
-pub fill-start : (o : Order) (ks : List Attribute) (t out : List ℕ) (s : Sink) (i : ℕ) → Fine s → Filling o ks t out s out (record { bits = 0; width = 0 }) s i 0 ks
+pub fill-start : (o : Order) (ks : List Attribute) (t out : List ℕ) (s : Sink) → mostFlags ks ≤ 32 → Fine s → Filling o ks t out s out (record { bits = 0; width = 0 }) s 0 ks
 unfolding dig
-fill-start o ks t out s i fine = record {
+fill-start o ks t out s few fine = record {
   size = refl;
   fine = fine;
   held = omega arith;
@@ -126,7 +127,12 @@ fill-start o ks t out s i fine = record {
   rest = ap (λ (b : Possible (List Bool)). bothOf b (ran o t (at out s) 0 (rows ks (flagsIn o ks t)))) (sym (before-none (flagBits o ks (flagsIn o ks t))));
 }
 
-module _ {o : Order} {ks : List Attribute} {t out : List ℕ} {s : Sink} {u : List ℕ} {f : Flags} {cur : Sink} {i k : ℕ} {now : List Attribute} (g : Filling o ks t out s u f cur i k now) where
+-- from the first row on
+pub from-first : {o : Order} {ks : List Attribute} {t out : List ℕ} {s : Sink} {u : List ℕ} {f : Flags} {cur : Sink} {k : ℕ} (rows : List Row) (count : ℕ) → Filling o ks t out s u f cur k (rowsFrom rows 0 count)
+    → Filling o ks t out s u f cur k (rowsFrom rows 0 (count - 0))
+from-first rows count g = let n : count - 0 ≡ count = omega arith in rw n g
+
+module _ {o : Order} {ks : List Attribute} {t out : List ℕ} {s : Sink} {u : List ℕ} {f : Flags} {cur : Sink} {k : ℕ} {now : List Attribute} (g : Filling o ks t out s u f cur k now) where
   pub fill-done : now ≡ [] → this (both (bitsOf o f) (at u cur) k) ≡ fills o ks t (at out s)
   unfolding flagsIn flagBits rows
   fill-done e =
@@ -140,7 +146,7 @@ module _ {o : Order} {ks : List Attribute} {t out : List ℕ} {s : Sink} {u : Li
     pub fill-short : length t ≤ k → cannot ≡ fills o ks t (at out s)
     fill-short h = sym (from-now ∙ none-left o t a rs f (at u cur) k h)
 
-    module _ (lk : k < length t) (G : Flagged) (flags : Adds 3 o f (flagSpelling o (a .kind) (getD t k 0)) G) where
+    module _ (lk : k < length t) (G : Flagged) (flags : Adds (mostBits (a .kind)) o f (flagSpelling o (a .kind) (getD t k 0)) G) where
       pub fill-flag : G ≡ No → cannot ≡ fills o ks t (at out s)
       fill-flag e = sym (from-now ∙ turn-flag o t a rs f (at u cur) k lk G flags (g .fine .1) e)
 
@@ -148,13 +154,14 @@ module _ {o : Order} {ks : List Attribute} {t out : List ℕ} {s : Sink} {u : Li
         pub fill-gone : R ≡ Impossible → cannot ≡ fills o ks t (at out s)
         fill-gone d = sym (from-now ∙ turn-gone o t a rs f (at u cur) k lk G flags (g .fine .1) (sym e ∙ ap (seen u′) d))
 
-        pub fill-next : (f′ : Flags) (r : Sink) (j i′ : ℕ) → G ≡ With f′ → R ≡ Done r j → length u′ ≡ length u → i′ ≡ i + 1 → Filling o ks t out s u′ f′ r i′ j rs
-        fill-next f′ r j i′ z d size ei =
-            let grown : Grown 3 (f .width) (With f′) = subst (Grown 3 (f .width)) z (flags .1) in
+        pub fill-next : (f′ : Flags) (r : Sink) (j : ℕ) → G ≡ With f′ → R ≡ Done r j → length u′ ≡ length u → Filling o ks t out s u′ f′ r j rs
+        unfolding mostFlags
+        fill-next f′ r j z d size =
+            let grown : Grown (mostBits (a .kind)) (f .width) (With f′) = subst (Grown (mostBits (a .kind)) (f .width)) z (flags .1) in
             record {
               size = size ∙ g .size;
               fine = ran-fine o t u cur (k + 1) (content a (getD t k 0)) u′ R (g .fine) e r j d;
               held = grown .0;
-              few = omega (arith, grown .1, g .few);
+              few = omega (arith, grown .1, g .few, ap mostFlags is);
               rest = from-now ∙ turn-on o t a rs f (at u cur) k lk G flags (g .fine .1) f′ (at u′ r) j z (sym e ∙ ap (seen u′) d);
             }

@@ -18,7 +18,7 @@ use Rattle.attributes.specs.declared.Kind.{Kind}
 use Rattle.sink.specs.Laying.{State}
 use Rattle.spelling.specs.Writing.{Seen, here, ran, limit}
 use Rattle.spelling.proofs.RunLaws.{ran-nothing}
-use Rattle.write_blocks.specs.Flags.{flagSpelling, bitsOf, Held, noted, Grown, Longer}
+use Rattle.write_blocks.specs.Flags.{flagSpelling, mostBits, bitsOf, Held, noted, Grown, Longer}
 use Rattle.write_blocks.specs.declared.Flags.{Flags}
 use Rattle.write_blocks.specs.declared.Flagged.{Flagged}
 use Rattle.write_blocks.specs.declared.Flagged.the-variants.{With, No}
@@ -110,9 +110,6 @@ wide : (m n w v : ℕ) (r : Flagged) → w + m ≤ v + n → Grown m w r → Gro
 wide m n w v (With g) l h = (h .0, omega (arith, h .1))
 wide m n w v No l h = tt
 
-pub wider : (w : ℕ) (r : Flagged) → Grown 2 w r → Grown 3 w r
-wider w r h = wide 2 3 w w r (omega arith) h
-
 -- an exist bit was added, and then the flags after it
 pub add-after : (o : Order) (f g : Flags) (v w : ℕ) (r : Flagged) → Held f → (v ≡ 0 → ⊥) → (v % 2 ≡ 0 → ⊥) → w ≡ v / 2 → Longer o f 1 1 g → Adds 2 o g (spellFlag o w 2) r → Adds 3 o f (spellFlag o v 3) r
 add-after o f g v w r h a e d l k =
@@ -128,7 +125,7 @@ fixed-in o v e = rw (eq-eqb v 1 e)
 pub fixed-no : (o : Order) (v : ℕ) → (v ≡ 1 → ⊥) → flagSpelling o bodies.Fixed v ≡ cannot
 fixed-no o v e = rw (ne-eqb v 1 e)
 
-pub told : (o : Order) (f : Flags) (v : ℕ) {kind : Kind} (r : Flagged) (arm : Kind) → kind ≡ arm → Adds 3 o f (flagSpelling o (kindOf arm) v) r → Adds 3 o f (flagSpelling o (kindOf kind) v) r
+pub told : (o : Order) (f : Flags) (v : ℕ) {kind : Kind} (r : Flagged) (arm : Kind) → kind ≡ arm → Adds (mostBits (kindOf arm)) o f (flagSpelling o (kindOf arm) v) r → Adds (mostBits (kindOf kind)) o f (flagSpelling o (kindOf kind) v) r
 told o f v r arm e d = rw e d
 
 -- ---- contents

@@ -9,14 +9,14 @@ use lib.ListN.{length, length-append}
 use lib.Dec.{eqb}
 use Rattle.format.specs.Tests.{pick}
 use Rattle.format.specs.Bits.{Order}
-use Rattle.format.specs.Formats.{Item, Format, nothing, item, only, _▹_, _▸_}
+use Rattle.format.specs.Formats.{Item, Format, nothing, item, only, _▹_, _▸_, times}
 use Rattle.format.specs.Items.{skipped, byteItem}
-use Rattle.format.specs.Bodies.{Kind, Value, Fixed, BitFlag, Simple, Discrete, MultiDimension, Spatial, DataType, U32s, Times, Floats, Ratios, Bools, Bytes, BlendModes, TrackMatteTypes, MaskModes, Paths, Points, AnchorPointGroupings, Attribute, value, keyframed, animated, contentOf, content, rows}
-use Rattle.format.specs.FileAndTags.{front}
+use Rattle.format.specs.Bodies.{Kind, Value, Fixed, BitFlag, Simple, Discrete, MultiDimension, Spatial, Custom, DataType, U32s, Times, Floats, Ratios, Bools, Bytes, BlendModes, Paths, Points, Colors, GradientColors, Enums, Dashes, TagBlocks, Attribute, value, keyframed, animated, contentOf, content, rows}
 use Rattle.format.specs.Possible.{Possible, this, cannot}
 use Rattle.format.specs.WritingItems.{dig, Written, wrote, put, writeItem}
 use Rattle.format.specs.WritingFormats.{passing, adjoin, onward, unrun}
 use Rattle.format.proofs.BitLaws.{length-dig}
+use Rattle.spelling.proofs.EndLaws.{front}
 
 -- ---- bits before what was written
 pub adjoin-twice : (bs : List Bool) (xs : List ℕ) (cs : List Bool) (w : Possible Written) → adjoin [] bs (adjoin xs cs w) ≡ adjoin xs (bs ++ cs) w
@@ -68,20 +68,6 @@ whole-only o t e f h ns p = ap (passing t) (h ns p) ∙ passing-adjoin t (dig o 
 whole-item : (o : Order) (i : Item) → Whole o (unrun o (byteItem i))
 whole-item o i = whole-then o (item Item.align) (λ xs. item i) (whole-align o)
 
-whole-value : (o : Order) (d : DataType) → Whole o (unrun o (value d))
-whole-value o U32s = whole-item o Item.U32
-whole-value o Times = whole-item o Item.U64
-whole-value o Floats = whole-item o (Item.LE 4)
-whole-value o Ratios = whole-then o _ _ (whole-item o Item.I32)
-whole-value o Bools = whole-only o _ _ _ (whole-item o (Item.UB 8))
-whole-value o Bytes = whole-item o (Item.UB 8)
-whole-value o BlendModes = whole-only o _ _ _ (whole-item o (Item.UB 8))
-whole-value o TrackMatteTypes = whole-only o _ _ _ (whole-item o (Item.UB 8))
-whole-value o MaskModes = whole-only o _ _ _ (whole-item o (Item.UB 8))
-whole-value o Paths = whole-then o _ _ (whole-only o _ _ _ (whole-item o Item.U32))
-whole-value o Points = whole-then o _ _ (whole-item o (Item.LE 4))
-whole-value o AnchorPointGroupings = whole-only o _ _ _ (whole-item o (Item.UB 8))
-
 whole-frames : (o : Order) (k : Kind) (d : DataType) (φ : ℕ) → Whole o (unrun o (keyframed k d φ))
 whole-frames o k d φ = whole-then o _ _ (whole-only o _ _ _ (whole-item o Item.U32))
 
@@ -102,11 +88,29 @@ passes-pick : (o : Order) (c : Bool) (f g : Format) → Passes o f → Passes o 
 passes-pick o true f g a b = a
 passes-pick o false f g a b = b
 
+-- all values but a TagBlock's, which has nothing there
+passes-value : (o : Order) (d : DataType) → Passes o (value d)
+unfolding times
+passes-value o U32s = passes-whole o _ (whole-item o Item.U32)
+passes-value o Times = passes-whole o _ (whole-item o Item.U64)
+passes-value o Floats = passes-whole o _ (whole-item o (Item.LE 4))
+passes-value o Ratios = passes-whole o _ (whole-then o _ _ (whole-item o Item.I32))
+passes-value o Bools = passes-whole o _ (whole-only o _ _ _ (whole-item o (Item.UB 8)))
+passes-value o Bytes = passes-whole o _ (whole-item o (Item.UB 8))
+passes-value o BlendModes = passes-whole o _ (whole-only o _ _ _ (whole-item o (Item.UB 8)))
+passes-value o Paths = passes-whole o _ (whole-then o _ _ (whole-only o _ _ _ (whole-item o Item.U32)))
+passes-value o Points = passes-whole o _ (whole-then o _ _ (whole-item o (Item.LE 4)))
+passes-value o Colors = passes-whole o _ (whole-then o _ _ (whole-item o (Item.UB 8)))
+passes-value o GradientColors = passes-whole o _ (whole-then o _ _ (whole-only o _ _ _ (whole-item o Item.U32)))
+passes-value o (Enums top) = passes-whole o _ (whole-only o _ _ _ (whole-item o (Item.UB 8)))
+passes-value o Dashes = passes-whole o _ (whole-then o _ _ (whole-align o))
+passes-value o TagBlocks = passes-nothing o
+
 passes-content : (o : Order) (a : Attribute) (φ : ℕ) → Passes o (content a φ)
 passes-content o a φ = go (a .kind)
   where
     one : Passes o (value (a .dataType))
-    one = passes-whole o (value (a .dataType)) (whole-value o (a .dataType))
+    one = passes-value o (a .dataType)
 
     some : (k : Kind) → Passes o (animated k (a .dataType) φ)
     some k =
@@ -121,6 +125,7 @@ passes-content o a φ = go (a .kind)
     go Discrete = some Discrete
     go MultiDimension = some MultiDimension
     go Spatial = some Spatial
+    go Custom = passes-pick o (eqb φ 0) nothing (value (a .dataType)) (passes-nothing o) one
 
 -- one after the other
 onward-twice : (w : Possible Written) (p : ℕ) (k k′ : List ℕ → ℕ → Possible Written)

@@ -36,7 +36,7 @@ filled o u No = cannot
 
 -- flags and a sink that code may go on with
 abbrev pub Ready : Filled → Type 0
-Ready (With f s k) = Held f × (f .width ≤ 27) × Fine s
+Ready (With f s k) = Held f × (f .width ≤ 32) × Fine s
 Ready No = Unit {0}
 
 -- the n bytes that stand one after a, with the bytes xs of their flags before them

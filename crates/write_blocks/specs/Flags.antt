@@ -8,7 +8,7 @@ use lib.ListN.{length}
 use Rattle.format.specs.Tests.{pick}
 use Rattle.format.specs.Bits.{Order}
 use Rattle.format.specs.Items.{skipped}
-use Rattle.format.specs.Bodies.{Kind, Value, Fixed, BitFlag, Simple, Discrete, MultiDimension, Spatial, Attribute}
+use Rattle.format.specs.Bodies.{Kind, Value, Fixed, BitFlag, Simple, Discrete, MultiDimension, Spatial, Custom, Attribute}
 use Rattle.format.specs.Possible.{Possible, this, cannot}
 use Rattle.format.specs.WritingItems.{dig, glue, before, spellFlag}
 use Rattle.format.specs.WritingBodies.{bytesOf}
@@ -25,6 +25,7 @@ flagSpelling o Simple v = spellFlag o v 2
 flagSpelling o Discrete v = spellFlag o v 2
 flagSpelling o MultiDimension v = spellFlag o v 2
 flagSpelling o Spatial v = spellFlag o v 3
+flagSpelling o Custom v = spellFlag o v 1
 
 abbrev pub joined : Possible (List Bool) → Possible (List Bool) → Possible (List Bool)
 joined (this bs) b = before bs b
@@ -50,10 +51,31 @@ hasFlag Simple = true
 hasFlag Discrete = true
 hasFlag MultiDimension = true
 hasFlag Spatial = true
+hasFlag Custom = true
 
 unfoldable pub anyFlag : List Attribute → Bool
 anyFlag [] = false
 anyFlag (a ∷ ks) = pick (hasFlag (a .kind)) true (anyFlag ks)
+
+-- the bits that flags take at most
+abbrev pub mostBits : Kind → ℕ
+mostBits Value = 1
+mostBits Fixed = 0
+mostBits BitFlag = 1
+mostBits Simple = 2
+mostBits Discrete = 2
+mostBits MultiDimension = 2
+mostBits Spatial = 3
+mostBits Custom = 1
+
+unfoldable pub mostFlags : List Attribute → ℕ
+mostFlags [] = 0
+mostFlags (a ∷ ks) = mostBits (a .kind) + mostFlags ks
+
+-- a block has flags, and they are one field
+pub record HasFlags (ks : List Attribute) : Type 0 where
+  pub any : anyFlag ks ≡ true
+  pub few : mostFlags ks ≤ 32
 
 -- ---- as the code gathers them: one field
 abbrev pub bitsOf : Order → Flags → List Bool

@@ -1,22 +1,21 @@
 // Attribute blocks, written: the contents first, one byte after the block's place, and then the flags of all attributes before them. In the values
 // each attribute's flag number stands before its content: so one walk over them finds both, and no content is measured before it is written.
 ghost use mathlib.Core.Path.{_≡_};
-ghost use mathlib.Core.Bool.{true};
 ghost use Prim.Native.Nat.{_+_, _-_, _^_, _≤_, _<_};
 ghost use Rattle.format.specs.WritingItems.{before, spellFlag};
 ghost use Rattle.format.specs.Bodies.{content as contentOf, attributes as attributesBody};
 ghost use Rattle.format.specs.WritingBodies.{writeBody};
 ghost use Rattle.bits.specs.Places.{orderOf};
-ghost use Rattle.attributes.specs.Rows.{kindOf, attributeOf, rowsFrom, AreRows};
+ghost use Rattle.attributes.specs.Rows.{kindOf, attributeOf, rowsFrom};
 ghost use Rattle.sink.specs.Lain.{lies, lainAs, longest};
 ghost use Rattle.sink.specs.Laying.{at as under};
 ghost use Rattle.spelling.specs.Writing.{seen, ran, Fine};
-ghost use Rattle.write_blocks.specs.Flags.{bitsOf, noted, Held, Grown, Longer, flagSpelling, flagBytes, anyFlag};
+ghost use Rattle.write_blocks.specs.Flags.{bitsOf, noted, Held, Grown, Longer, flagSpelling, flagBytes, mostBits, HasFlags};
 ghost use Rattle.write_blocks.specs.Filling.{filled, fills, Ready, underFlags};
 use attributes::Attribute;
+use attributes::Block;
 use attributes::Content;
 use attributes::Kind;
-use attributes::Rows;
 use bits::BitPlace;
 use bits::BytePlace;
 use bits::Order;
@@ -44,7 +43,7 @@ pub enum Filled {
 
 // So many bits more, as a field, behind those that were gathered.
 fn with_bits(order: Order, flags: Flags, more: u64, count: usize) -> Flags
-    requires { ⌜ Held flags × (flags .width ≤ 25) × (count ≤ 2) × (more < 2 ^ count) ⌝ }
+    requires { ⌜ Held flags × (flags .width ≤ 33) × (count ≤ 2) × (more < 2 ^ count) ⌝ }
     ensures { λ r. ⌜ Longer (orderOf order) flags count more r ⌝ }
 {
     let bits = flags.bits;
@@ -57,8 +56,8 @@ fn with_bits(order: Order, flags: Flags, more: u64, count: usize) -> Flags
 
 // One flag bit.
 fn add_flag(order: Order, flags: Flags, number: u64) -> Flagged
-    requires { ⌜ Held flags × (flags .width ≤ 24) ⌝ }
-    ensures { λ r. ⌜ (noted (orderOf order) r ≡ before (bitsOf (orderOf order) flags) (spellFlag (orderOf order) number 1)) × Grown 2 (flags .width) r ⌝ }
+    requires { ⌜ Held flags × (flags .width ≤ 32) ⌝ }
+    ensures { λ r. ⌜ (noted (orderOf order) r ≡ before (bitsOf (orderOf order) flags) (spellFlag (orderOf order) number 1)) × Grown 1 (flags .width) r ⌝ }
 {
     if 1 < number {
         return Flagged::No;
@@ -68,7 +67,7 @@ fn add_flag(order: Order, flags: Flags, number: u64) -> Flagged
 
 // An exist bit; if set, an animatable bit.
 fn add_two_flags(order: Order, flags: Flags, number: u64) -> Flagged
-    requires { ⌜ Held flags × (flags .width ≤ 25) ⌝ }
+    requires { ⌜ Held flags × (flags .width ≤ 33) ⌝ }
     ensures { λ r. ⌜ (noted (orderOf order) r ≡ before (bitsOf (orderOf order) flags) (spellFlag (orderOf order) number 2)) × Grown 2 (flags .width) r ⌝ }
 {
     match number {
@@ -87,7 +86,7 @@ fn add_two_flags(order: Order, flags: Flags, number: u64) -> Flagged
 
 // An exist bit; if set, an animatable bit; if that is set too, a hasSpatial bit.
 fn add_three_flags(order: Order, flags: Flags, number: u64) -> Flagged
-    requires { ⌜ Held flags × (flags .width ≤ 24) ⌝ }
+    requires { ⌜ Held flags × (flags .width ≤ 32) ⌝ }
     ensures { λ r. ⌜ (noted (orderOf order) r ≡ before (bitsOf (orderOf order) flags) (spellFlag (orderOf order) number 3)) × Grown 3 (flags .width) r ⌝ }
 {
     if number == 0 {
@@ -102,8 +101,8 @@ fn add_three_flags(order: Order, flags: Flags, number: u64) -> Flagged
 
 // The flags of one attribute; a Fixed one has no bit, and its flag number is 1.
 fn add_flags(order: Order, kind: Kind, flags: Flags, number: u64) -> Flagged
-    requires { ⌜ Held flags × (flags .width ≤ 24) ⌝ }
-    ensures { λ r. ⌜ (noted (orderOf order) r ≡ before (bitsOf (orderOf order) flags) (flagSpelling (orderOf order) (kindOf kind) number)) × Grown 3 (flags .width) r ⌝ }
+    requires { ⌜ Held flags × (flags .width ≤ 32) ⌝ }
+    ensures { λ r. ⌜ (noted (orderOf order) r ≡ before (bitsOf (orderOf order) flags) (flagSpelling (orderOf order) (kindOf kind) number)) × Grown (mostBits (kindOf kind)) (flags .width) r ⌝ }
 {
     match kind {
         Kind::Value => add_flag(order, flags, number),
@@ -117,6 +116,7 @@ fn add_flags(order: Order, kind: Kind, flags: Flags, number: u64) -> Flagged
         Kind::Discrete => add_two_flags(order, flags, number),
         Kind::MultiDimension => add_two_flags(order, flags, number),
         Kind::Spatial => add_three_flags(order, flags, number),
+        Kind::Custom => add_flag(order, flags, number),
     }
 }
 
@@ -152,22 +152,22 @@ fn write_content(
 }
 
 // The contents of all rows; their flags are gathered on the way.
-fn write_contents(order: Order, rows: Rows, values: &[u64], out: &mut [u8], sink: Sink) -> Filled
-    requires { ⌜ AreRows (rows .start) (rows .end) × Fine sink ⌝ }
-    ensures { λ r. ⌜ (filled (orderOf order) (now (out .exit)) r ≡ fills (orderOf order) (rowsFrom (rows .start) (rows .end)) (now (values .entry)) (under (now (out .entry)) sink)) × Ready r ⌝ }
+fn write_contents(order: Order, block: Block, values: &[u64], out: &mut [u8], sink: Sink) -> Filled
+    requires { ⌜ (block .count ≤ 12) × HasFlags (rowsFrom (block .rows) 0 (block .count)) × Fine sink ⌝ }
+    ensures { λ r. ⌜ (filled (orderOf order) (now (out .exit)) r ≡ fills (orderOf order) (rowsFrom (block .rows) 0 (block .count)) (now (values .entry)) (under (now (out .entry)) sink)) × Ready r ⌝ }
 {
-    let attributes = attributes::ATTRIBUTES;
-    let end = rows.end;
+    let rows = block.rows;
+    let count = block.count;
     let mut flags = Flags { bits: 0, width: 0 };
     let mut cur = sink;
     let mut index = 0;
-    let mut row = rows.start;
-    while row < end {
+    let mut row = 0;
+    while row < count {
         if values.len() <= index {
             return Filled::No;
         }
         let number = values[index];
-        let attribute = attributes[row];
+        let attribute = rows[row];
         let kind = attribute.kind;
         let flagged = add_flags(order, kind, flags, number);
         let Flagged::With(more) = flagged else {
@@ -191,7 +191,7 @@ fn write_contents(order: Order, rows: Rows, values: &[u64], out: &mut [u8], sink
 
 // Puts flags before contents that stand one byte after a place, up to stop; where the flags take more than that byte, the contents move up.
 fn put_flags(order: Order, flags: Flags, out: &mut [u8], at: BytePlace, stop: BytePlace) -> Body
-    requires { ⌜ Held flags × (0 < flags .width) × (flags .width ≤ 27) × (at .0 + 1 ≤ stop .0) × (stop .0 ≤ longest) ⌝ }
+    requires { ⌜ Held flags × (0 < flags .width) × (flags .width ≤ 32) × (at .0 + 1 ≤ stop .0) × (stop .0 ≤ longest) ⌝ }
     ensures { λ r. ⌜ lainAs (now (out .exit)) r ≡ underFlags (now (out .entry)) (at .0) (flagBytes (orderOf order) (bitsOf (orderOf order) flags)) (stop .0 - (at .0 + 1)) ⌝ }
 {
     let width = flags.width;
@@ -210,9 +210,15 @@ fn put_flags(order: Order, flags: Flags, out: &mut [u8], at: BytePlace, stop: By
 }
 
 // An attribute block, from a byte place on; one that has flags. No file is longer than 16,777,216 bytes.
-pub fn write_block(order: Order, rows: Rows, values: &[u64], out: &mut [u8], at: BytePlace) -> Body
-    requires { ⌜ AreRows (rows .start) (rows .end) × (anyFlag (rowsFrom (rows .start) (rows .end)) ≡ true) ⌝ }
-    ensures { λ r. ⌜ lainAs (now (out .exit)) r ≡ lies (now (out .entry)) (at .0) (writeBody (orderOf order) (attributesBody (rowsFrom (rows .start) (rows .end))) (now (values .entry))) ⌝ }
+pub fn write_block(
+    order: Order,
+    block: Block,
+    values: &[u64],
+    out: &mut [u8],
+    at: BytePlace,
+) -> Body
+    requires { ⌜ (block .count ≤ 12) × HasFlags (rowsFrom (block .rows) 0 (block .count)) ⌝ }
+    ensures { λ r. ⌜ lainAs (now (out .exit)) r ≡ lies (now (out .entry)) (at .0) (writeBody (orderOf order) (attributesBody (rowsFrom (block .rows) 0 (block .count))) (now (values .entry))) ⌝ }
 {
     if 16777216 <= at.0 {
         return Body::No;
@@ -220,7 +226,7 @@ pub fn write_block(order: Order, rows: Rows, values: &[u64], out: &mut [u8], at:
     let from = at.0 + 1;
     let place = bits::first_bit(BytePlace(from));
     let sink = Sink { place, part: 0 };
-    let r = write_contents(order, rows, values, out, sink);
+    let r = write_contents(order, block, values, out, sink);
     let Filled::With(flags, next, behind) = r else {
         return Body::No;
     };

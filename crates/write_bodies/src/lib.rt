@@ -1,9 +1,8 @@
-// The body of a tag, written from its values; and what stands before a container's list.
+// The body of a tag, written from its values: of a leaf, or what stands before a container's list.
 ghost use mathlib.Core.Path.{_≡_};
 ghost use Prim.Native.Nat.{_≤_};
-ghost use Rattle.format.specs.FileAndTags.{front};
-ghost use Rattle.format.specs.WritingFormats.{unrun};
-ghost use Rattle.format.specs.WritingBodies.{wholeBytes, writeBody};
+ghost use Rattle.format.specs.Bodies.{fixed};
+ghost use Rattle.format.specs.WritingBodies.{writeBody};
 ghost use Rattle.bits.specs.Places.{orderOf};
 ghost use Rattle.fixed.specs.Fixed.{fixedOf};
 ghost use Rattle.bodies.specs.Leaf.{leafBody};
@@ -12,10 +11,10 @@ use bits::BytePlace;
 use bits::Order;
 use sink::Body;
 
-// What stands before a container's list, from a byte place on. No file is longer than 16,777,216 bytes.
-pub fn write_front(order: Order, code: u32, values: &[u64], out: &mut [u8], at: BytePlace) -> Body
+// A body that is no attribute block, from a byte place on. No file is longer than 16,777,216 bytes.
+fn write_items(order: Order, code: u32, values: &[u64], out: &mut [u8], at: BytePlace) -> Body
     requires { ⌜ at .0 ≤ 16777218 ⌝ }
-    ensures { λ r. ⌜ lainAs (now (out .exit)) r ≡ lies (now (out .entry)) (at .0) (wholeBytes (orderOf order) (unrun (orderOf order) (front (fixedOf code)) (now (values .entry)) 0)) ⌝ }
+    ensures { λ r. ⌜ lainAs (now (out .exit)) r ≡ lies (now (out .entry)) (at .0) (writeBody (orderOf order) (fixed (fixedOf code)) (now (values .entry))) ⌝ }
 {
     if 16777216 < at.0 {
         return Body::No;
@@ -24,18 +23,31 @@ pub fn write_front(order: Order, code: u32, values: &[u64], out: &mut [u8], at: 
     spelling::conclude(order, r, values.len(), out)
 }
 
-// The body of a leaf tag, from a byte place on. One that is no attribute block ends as what stands before a list does.
+// The body of a leaf tag, from a byte place on.
 pub fn write_body(order: Order, code: u32, values: &[u64], out: &mut [u8], at: BytePlace) -> Body
     requires { ⌜ at .0 ≤ 16777218 ⌝ }
     ensures { λ r. ⌜ lainAs (now (out .exit)) r ≡ lies (now (out .entry)) (at .0) (writeBody (orderOf order) (leafBody code) (now (values .entry))) ⌝ }
 {
     if bodies::is_block(code) {
-        return write_blocks::write_block(order, attributes::rows_of(code), values, out, at);
+        let block = attributes::blocks::block_of(code);
+        return write_blocks::write_block(order, block, values, out, at);
     }
     // The answer is made again, not handed on whole: see `write_blocks::write_contents`.
-    let r = write_front(order, code, values, out, at);
+    let r = write_items(order, code, values, out, at);
     match r {
         Body::To(end) => Body::To(end),
         Body::No => Body::No,
     }
+}
+
+// What stands before a container's list, from a byte place on: it ends on a whole byte, as a body does. Apart from `write_body`, so that both are called, and no
+// depth of lists has the memory of a body on the stack.
+pub fn write_front(order: Order, code: u32, values: &[u64], out: &mut [u8], at: BytePlace) -> Body
+    requires { ⌜ at .0 ≤ 16777218 ⌝ }
+    ensures { λ r. ⌜ lainAs (now (out .exit)) r ≡ lies (now (out .entry)) (at .0) (writeBody (orderOf order) (leafBody code) (now (values .entry))) ⌝ }
+{
+    if bodies::is_block(code) {
+        return write_body(order, code, values, out, at);
+    }
+    write_items(order, code, values, out, at)
 }

@@ -5,17 +5,16 @@ use mathlib.Core.List.{List, [], _∷_, _++_}
 use mathlib.Core.Path.{_≡_, refl, ap, ap₂, sym, _∙_}
 use native.Mathlib.Omega.{arith}
 use lib.Dec.{leb, eqb}
-use borrow.Author.Tests.{leb-true, le-ltb, eqb-true, eqb-false, eq-eqb, ne-eqb}
+use borrow.Author.Tests.{leb-true, le-ltb, eqb-true, eq-eqb, ne-eqb}
 use lib.ListN.{length, getD, take, drop, drop-of-length-le}
 use lib.Seq.{getD-drop, drop-cons, length-take-le}
-use Rattle.format.specs.Tests.{pick}
+use Rattle.format.specs.Tests.{pick, _and_}
 use Rattle.format.specs.Bits.{Order}
 use Rattle.format.specs.FileAndTags as paper
 use Rattle.format.specs.Formats.{the}
-use Rattle.format.specs.FileAndTags.{container, classOf, isEnd, isRead, front}
-use Rattle.format.specs.WritingFormats.{unrun}
+use Rattle.format.specs.FileAndTags.{container, classOf, isEnd, isRead, hasList}
 use Rattle.format.specs.Possible.{Possible, this, cannot}
-use Rattle.format.specs.WritingBodies.{wholeBytes, writeBody}
+use Rattle.format.specs.WritingBodies.{writeBody}
 use Rattle.format.specs.WritingFiles.{Made, made, unpackedAs, claims, fitsState, spellHead, fitsHead, bodyOf, fronted, fill, outTag, headed, unwalkList}
 use Rattle.format.proofs.ListLaws.{unlist-nil, unlist-one}
 use Rattle.format.proofs.ListTrip.{ListIf, list-back}
@@ -31,14 +30,14 @@ use Rattle.sink.specs.Lain.{longest}
 use Rattle.write_lists.specs.declared.Wrote.the-variants.{Impossible}
 use Rattle.write_heads.specs.Heads.{keptBytes}
 use Rattle.write_lists.specs.Stood.{Stood, stood, over}
-use Rattle.write_lists.specs.Tags.{hidden, valuesIn, begun, shut}
+use Rattle.write_lists.specs.Tags.{hidden, valuesIn, listIn, tooDeep, begun, listOf, shut}
 use Rattle.write_lists.proofs.StoodLaws.{Parts, stood-index, andThen, parts-then, again, over-then}
 use Rattle.write_lists.proofs.TagLaws.{shut-over, shut-place, parts-shut, parts-begun}
 
 -- ---- the class of a code, by its name
 
 abbrev holder : ℕ → paper.Class
-holder code = container (fixedOf code)
+holder code = container (leafBody code)
 
 listed : Right leafBody holder
 unfolding leafBody fixedOf attributesOf
@@ -73,7 +72,7 @@ headed-high claim code e cannot W h = refl
 headed-high claim code true (this (made xs b ys)) W h = rw (le-ltb code 1024 h)
 headed-high claim code false (this (made xs b ys)) W h = rw (le-ltb code 1024 h)
 
--- and of a container with its list, written by W
+-- and of a tag with its list, written by W
 abbrev withList : Bool → (List ℕ → Possible Made) → Possible Made → Possible Made
 withList true W m = andThen m W
 withList false W m = m
@@ -92,19 +91,24 @@ module _ (o : Order) (code left s n : ℕ) (vs ys : List ℕ) (W : List ℕ → 
   leaf-body cannot = refl
 
   fill-is : (class : Class) → Deep class left
-      → coded code (fill o W left (classBy class code) s n vs ys) ≡ withList (contains class) W (bodyOf (code ∷ s ∷ n ∷ vs) (valuesIn o class code vs) ys)
+      → coded code (fill o W left (classBy class code) s n vs ys) ≡ withList (listIn class code vs) W (bodyOf (code ∷ s ∷ n ∷ vs) (valuesIn o class code vs) ys)
   fill-is Opaque h = leaf-body (unpackedAs vs)
   fill-is End h = rw counted (go (eqb n 0))
     where
       go : (y : Bool) → coded code (pick y (this (made (s ∷ n ∷ vs) [] ys)) cannot) ≡ bodyOf (code ∷ s ∷ n ∷ vs) (pick y (this []) cannot) ys
       go true = refl
       go false = refl
-  fill-is Container h = rw (ne-eqb left 0 (h refl)) (go (wholeBytes o (unrun o (front (fixedOf code)) vs 0)) (W ys) refl)
+  fill-is Container h = rw (ne-eqb left 0 (h refl)) (own (hasList (leafBody code) vs))
     where
       go : (z : Possible (List ℕ)) (m : Possible Made) → W ys ≡ m → coded code (fronted (s ∷ n ∷ vs) z (W ys)) ≡ andThen (bodyOf (code ∷ s ∷ n ∷ vs) z ys) W
       go (this b) (this (made xs′ b′ ys′)) e = rw e
       go (this b) cannot e = rw e
       go cannot m e = refl
+
+      own : (c : Bool) → coded code (pick c (fronted (s ∷ n ∷ vs) (writeBody o (leafBody code) vs) (W ys)) (bodyOf (s ∷ n ∷ vs) (writeBody o (leafBody code) vs) ys))
+          ≡ withList c W (bodyOf (code ∷ s ∷ n ∷ vs) (writeBody o (leafBody code) vs) ys)
+      own true = go (writeBody o (leafBody code) vs) (W ys) refl
+      own false = leaf-body (writeBody o (leafBody code) vs)
   fill-is Fixed h = leaf-body (writeBody o (leafBody code) vs)
   fill-is Attributes h = leaf-body (writeBody o (leafBody code) vs)
 
@@ -118,16 +122,16 @@ read-by Attributes code = refl
 
 module _ (o : Order) (code left : ℕ) (W : List ℕ → Possible Made) where
   tag-is : (claim : Bool) (class : Class) (ns : List ℕ) → Deep class left → claim ≡ claims (the ns)
-      → coded code (outTag o W left (classBy class code) ns) ≡ withList (contains class) W (begun o claim class (code ∷ ns))
-  tag-is claim class [] h e = sym (no-list (contains class) W)
-  tag-is claim class (s ∷ []) h e = sym (no-list (contains class) W)
+      → coded code (outTag o W left (classBy class code) ns) ≡ withList (listOf class (code ∷ ns)) W (begun o claim class (code ∷ ns))
+  tag-is claim class [] h e = refl
+  tag-is claim class (s ∷ []) h e = refl
   tag-is claim class (s ∷ n ∷ ns) h e = rw (read-by class code, e) (go (leb n (length ns)) refl (eqb s (isRead (bare class) + pick (claims s) 2 0)))
     where
       go : (c : Bool) → leb n (length ns) ≡ c → (f : Bool) → coded code (pick c (pick f (fill o W left (classBy class code) s n (take n ns) (drop n ns)) cannot) cannot)
-          ≡ withList (contains class) W (pick c (bodyOf (code ∷ s ∷ n ∷ take n ns) (pick f (valuesIn o class code (take n ns)) cannot) (drop n ns)) cannot)
+          ≡ withList (listIn class code (take n ns)) W (pick c (bodyOf (code ∷ s ∷ n ∷ take n ns) (pick f (valuesIn o class code (take n ns)) cannot) (drop n ns)) cannot)
       go true q true = fill-is o code left s n (take n ns) (drop n ns) W (length-take-le n ns (leb-true n (length ns) q)) class h
-      go true q false = sym (no-list (contains class) W)
-      go false q f = sym (no-list (contains class) W)
+      go true q false = sym (no-list (listIn class code (take n ns)) W)
+      go false q f = sym (no-list (listIn class code (take n ns)) W)
 
   tag-deep : (ns : List ℕ) → left ≡ 0 → outTag o W left (holder code) ns ≡ cannot
   tag-deep [] h = refl
@@ -147,9 +151,9 @@ module _ (o : Order) (level : ℕ) where
   abbrev pub rest : List ℕ → ℕ → List ℕ → ℕ → ℕ → Possible Stood
   rest t left out a k = over out a k (list left (drop k t))
 
-  -- what stands in a tag: its own values, and a container's list
+  -- what stands in a tag: its own values, and its list
   abbrev pub inner : Bool → Class → ℕ → List ℕ → Possible Made
-  inner claim class left ns = withList (contains class) (list (left - 1)) (begun o claim class ns)
+  inner claim class left ns = withList (listOf class ns) (list (left - 1)) (begun o claim class ns)
 
   pub parts-list : (left : ℕ) (ns : List ℕ) → Parts ns (list left ns)
   parts-list left ns = go (list left ns) (list-back o (classOf level) (length ns) left ns (omega arith))
@@ -159,7 +163,7 @@ module _ (o : Order) (level : ℕ) where
       go cannot h = tt
 
   pub parts-inner : (claim : Bool) (class : Class) (left : ℕ) (ns : List ℕ) → Parts ns (inner claim class left ns)
-  parts-inner claim class left ns = go (contains class)
+  parts-inner claim class left ns = go (listOf class ns)
     where
       go : (c : Bool) → Parts ns (withList c (list (left - 1)) (begun o claim class ns))
       go true = parts-then ns (begun o claim class ns) (list (left - 1)) (parts-begun o claim class ns) (λ ys. parts-list (left - 1) ys)
@@ -228,11 +232,11 @@ module _ (o : Order) {level : ℕ} {t : List ℕ} {k code : ℕ} {class : Class}
   abbrev whole : Possible Made
   whole = inner o level claim class left (drop k t)
 
-  -- ---- what was put of it: its own values; then for a container, from there, its list; last its header
-  pub values-alone : contains class ≡ false → {x : Possible Stood} → x ≡ over out from k values → x ≡ over out from k whole
+  -- ---- what was put of it: its own values; then, from there, its list, if it has one; last its header
+  pub values-alone : listOf class (drop k t) ≡ false → {x : Possible Stood} → x ≡ over out from k values → x ≡ over out from k whole
   values-alone h put = put ∙ rw h
 
-  pub values-list : contains class ≡ true → {y x : Possible Stood} → y ≡ over out from k values → x ≡ again (list o level (left - 1)) t y → x ≡ over out from k whole
+  pub values-list : listOf class (drop k t) ≡ true → {y x : Possible Stood} → y ≡ over out from k values → x ≡ again (list o level (left - 1)) t y → x ≡ over out from k whole
   values-list h put e =
       e ∙ ap (again (list o level (left - 1)) t) put ∙ sym (rw h (over-then t out from k values (list o level (left - 1)) (parts-begun o claim class (drop k t))))
 
@@ -245,7 +249,14 @@ module _ (o : Order) {level : ℕ} {t : List ℕ} {k code : ℕ} {class : Class}
   opaque-is Attributes e = cc
 
   pub opaque-put : hidden class ≡ true → {x : Possible Stood} → ((o′ : Order) → x ≡ over out a k (shut claim code (begun o′ claim Opaque (drop k t)))) → x ≡ over out a k (shut claim code whole)
-  opaque-put h e = e o ∙ ap (λ (c : Class). over out a k (shut claim code (inner o level claim c left (drop k t)))) (sym (opaque-is class h))
+  opaque-put h e =
+      e o ∙ ap (λ (m : Possible Made). over out a k (shut claim code m)) (sym (opaque-alone (drop k t))) ∙ ap (λ (c : Class). over out a k (shut claim code (inner o level claim c left (drop k t)))) (sym (opaque-is class h))
+    where
+      opaque-alone : (ns : List ℕ) → withList (listOf Opaque ns) (list o level (left - 1)) (begun o claim Opaque ns) ≡ begun o claim Opaque ns
+      opaque-alone [] = refl
+      opaque-alone (x ∷ []) = refl
+      opaque-alone (x ∷ s ∷ []) = refl
+      opaque-alone (x ∷ s ∷ n ∷ ns) = refl
 
   pub opaque-deep : hidden class ≡ true → Deep class left
   opaque-deep h c z = let e : class ≡ Opaque = opaque-is class h in let f : true ≡ false = sym c ∙ ap contains e in clash cc
@@ -305,14 +316,39 @@ module _ (o : Order) {level : ℕ} {t : List ℕ} {k code : ℕ} {class : Class}
       container-is Fixed e = cc
       container-is Attributes e = cc
 
-  -- its own values could not be put
-  pub values-fell : cannot ≡ over out from k values → cannot ≡ rest o level t left out a k
-  values-fell put = go (contains class) refl (eqb left 0) refl
+  -- as the code asks
+  pub turn-too-deep : {c : Bool} → c ≡ tooDeep class left → c ≡ true → cannot ≡ rest o level t left out a k
+  turn-too-deep e h = go (contains class) refl (eqb left 0) refl (sym e ∙ h)
     where
-      shut-none : cannot ≡ over out from k whole → cannot ≡ over out a k (shut claim code whole)
-      shut-none e = shut-over out out a k claim code Impossible whole e
+      go : (c : Bool) → contains class ≡ c → (z : Bool) → eqb left 0 ≡ z → c and z ≡ true → cannot ≡ rest o level t left out a k
+      go true p true q d = turn-deep p (eqb-true left 0 q)
+      go true p false q d = clash cc
+      go false p z q d = clash cc
 
-      go : (c : Bool) → contains class ≡ c → (z : Bool) → eqb left 0 ≡ z → cannot ≡ rest o level t left out a k
-      go false h z e = turn-fell (λ c. clash cc) (shut-none (values-alone h put))
-      go true h true e = turn-deep h (eqb-true left 0 e)
-      go true h false e = turn-fell (λ c. eqb-false left 0 e) (shut-none (values-list h put refl))
+  pub not-too-deep : {c : Bool} → c ≡ tooDeep class left → c ≡ false → Deep class left
+  not-too-deep e h p z =
+      let d : tooDeep class left ≡ true = rw (p, eq-eqb left 0 z) in
+      let f : true ≡ false = sym d ∙ sym e ∙ h in
+      clash cc
+
+  -- its own values could not be put
+  pub values-fell : Deep class left → cannot ≡ over out from k values → cannot ≡ rest o level t left out a k
+  values-fell deep put = turn-fell deep (shut-over out out a k claim code Impossible whole (go (listOf class (drop k t)) refl))
+    where
+      go : (c : Bool) → listOf class (drop k t) ≡ c → cannot ≡ over out from k whole
+      go false h = values-alone h put
+      go true h = values-list h put refl
+
+-- a list has a depth
+lists-in : (class : Class) (code : ℕ) (vs : List ℕ) → listIn class code vs ≡ true → contains class ≡ true
+lists-in Opaque code vs e = clash cc
+lists-in End code vs e = clash cc
+lists-in Container code vs e = refl
+lists-in Fixed code vs e = clash cc
+lists-in Attributes code vs e = clash cc
+
+pub list-deep : (class : Class) (ns : List ℕ) (left : ℕ) → Deep class left → listOf class ns ≡ true → left ≡ 0 → ⊥
+list-deep class [] left deep e = clash cc
+list-deep class (code ∷ []) left deep e = clash cc
+list-deep class (code ∷ s ∷ []) left deep e = clash cc
+list-deep class (code ∷ s ∷ n ∷ ns) left deep e = deep (lists-in class code (take n ns) e)

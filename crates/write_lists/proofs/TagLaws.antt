@@ -1,21 +1,24 @@
 -- One tag: what stands in it, and the header before it.
-use Prim.Native.Nat.{ℕ, suc, _+_, _-_, _^_, _≤_, _<_}
+use Prim.Native.Nat.{ℕ, zero, suc, _+_, _-_, _^_, _≤_, _<_}
 use mathlib.Core.Bool.{Bool, true, false}
 use mathlib.Core.List.{List, [], _∷_, _++_}
 use mathlib.Core.Path.{_≡_, refl, ap, ap₂, sym, _∙_}
 use native.Mathlib.Omega.{arith}
-use lib.Dec.{leb, ltb}
-use borrow.Author.Tests.{leb-false, le-leb, lt-leb, lt-ltb, le-ltb, eq-eqb, ne-eqb}
+use lib.Dec.{leb, ltb, eqb}
+use borrow.Author.Tests.{leb-true, leb-false, le-leb, lt-leb, lt-ltb, le-ltb, eq-eqb, ne-eqb}
 use lib.ListN.{length, getD, take, drop, length-append, length-drop, take-append-drop, List·getD-eq-default}
-use lib.Seq.{sets, length-sets, drop-cons, length-take-le}
+use lib.Seq.{sets, length-sets, drop-cons, getD-take, getD-drop, length-take-le}
 use Rattle.format.specs.Bits.{Order}
 use Rattle.format.specs.Tests.{pick}
+use Rattle.format.specs.Formats.{the}
 use Rattle.format.specs.Possible.{Possible, this, cannot}
 use Rattle.format.specs.WritingFiles.{Made, made, bodyOf, claims, spellHead, fitsHead}
 use Rattle.format.proofs.Absurd.{clash}
-use Rattle.format.specs.FileAndTags.{isRead}
+use Rattle.format.specs.FileAndTags.{isRead, hasList}
 use Rattle.format.proofs.HeadLaws.{spell-two}
 use Rattle.classes.specs.declared.Class.{Class}
+use Rattle.classes.specs.declared.Class.the-variants.{Opaque, End, Container, Fixed, Attributes}
+use Rattle.bodies.specs.Leaf.{isBlock, leafBody}
 use Rattle.classes.specs.Classes.{bare}
 use Rattle.table.proofs.EngineLaws.{sets-append}
 use Rattle.sink.specs.declared.Body.{Body}
@@ -29,8 +32,8 @@ use Rattle.write_heads.proofs.StoreLaws.{sets-taken, sets-cover}
 use Rattle.write_lists.specs.declared.Wrote.{Wrote}
 use Rattle.write_lists.specs.declared.Wrote.the-variants.{Done, Impossible}
 use Rattle.write_lists.specs.Stood.{stood, over, stoodAs}
-use Rattle.write_lists.specs.Tags.{valuesIn, bodyIn, begun, shut, headAt, shutAs, After, ValuesThere, ValuesEnd}
-use Rattle.write_lists.proofs.StoodLaws.{StoodBy, stood-by, Parts}
+use Rattle.write_lists.specs.Tags.{valuesIn, listIn, listBy, bodyIn, begun, listOf, shut, headAt, shutAs, After, ValuesThere, ValuesEnd}
+use Rattle.write_lists.proofs.StoodLaws.{StoodBy, stood-by, Parts, parts-of}
 
 -- no tag starts after the longest file's end
 pub over-late : (out : List ℕ) (a k : ℕ) (m : Possible Made) → longest < a → cannot ≡ over out a k m
@@ -221,6 +224,65 @@ module _ (claim : Bool) (class : Class) (t : List ℕ) (k : ℕ) where
 
   pub end-there : {e : ℕ} → 3 ≤ length t - k → getD t (k + 2) 0 ≤ length t - k - 3 → getD t (k + 1) 0 ≡ isRead (bare class) + pick claim 2 0 → e ≡ k + 3 + getD t (k + 2) 0 → ValuesEnd claim class t k e
   end-there some fits right q = (λ n. record { some = some; all = fits; state = right; end = q }, λ z. absurd (omega arith))
+
+-- ---- whether a list follows, by the last number of the tag
+
+-- of its values, or their count where there are none
+last-value : (n : ℕ) (ns : List ℕ) → n ≤ length ns → getD (take n ns) (length (take n ns) - 1) 0 ≡ getD (n ∷ ns) n 0
+last-value zero ns h = refl
+last-value (suc n) ns h =
+    let e : length (take (suc n) ns) - 1 ≡ n = omega (arith, length-take-le (suc n) ns h) in
+    ap (λ (i : ℕ). getD (take (suc n) ns) i 0) e ∙ getD-take (suc n) ns n 0 (omega arith)
+
+list-in : (class : Class) (code : ℕ) (vs : List ℕ) {last : ℕ} → getD vs (length vs - 1) 0 ≡ last → listIn class code vs ≡ listBy class code last
+unfolding leafBody
+list-in Opaque code vs e = refl
+list-in End code vs e = refl
+list-in Container code vs {last} e = own (isBlock code) refl
+  where
+    own : (c : Bool) → isBlock code ≡ c → hasList (leafBody code) vs ≡ pick (isBlock code) (eqb last 1) true
+    own true b = rw (b, e)
+    own false b = rw b
+list-in Fixed code vs e = refl
+list-in Attributes code vs e = refl
+
+-- the numbers that were used up of a tag: three, and its values
+pub record Used (class : Class) (ns xs : List ℕ) : Type 0 where
+  pub some : 3 ≤ length xs
+  pub list : (code : ℕ) → code ≡ the ns → listOf class ns ≡ listBy class code (getD ns (length xs - 1) 0)
+
+used-of : (o : Order) (claim : Bool) (class : Class) (ns xs b ys : List ℕ) → begun o claim class ns ≡ this (made xs b ys) → Used class ns xs
+used-of o claim class [] xs b ys e = clash cc
+used-of o claim class (code ∷ []) xs b ys e = clash cc
+used-of o claim class (code ∷ s ∷ []) xs b ys e = clash cc
+used-of o claim class (code ∷ s ∷ n ∷ ns) xs b ys e = go (leb n (length ns)) refl (bodyIn o claim class code s (take n ns)) e
+  where
+    go : (c : Bool) → leb n (length ns) ≡ c → (z : Possible (List ℕ)) → pick c (bodyOf (code ∷ s ∷ n ∷ take n ns) z (drop n ns)) cannot ≡ this (made xs b ys) → Used class (code ∷ s ∷ n ∷ ns) xs
+    go true q (this b′) e =
+        let l : n ≤ length ns = leb-true n (length ns) q in
+        let x : xs ≡ code ∷ s ∷ n ∷ take n ns = cc in
+        let i : length xs ≡ suc (suc (suc n)) = ap length x ∙ ap (λ (m : ℕ). suc (suc (suc m))) (length-take-le n ns l) in
+        let j : length xs - 1 ≡ suc (suc n) = omega (arith, i) in
+        record {
+          some = omega (arith, i);
+          list = λ k d. list-in class code (take n ns) (last-value n ns l) ∙ ap₂ (λ (m p : ℕ). listBy class m (getD (code ∷ s ∷ n ∷ ns) p 0)) (sym d) (sym j);
+        }
+    go true q cannot e = clash cc
+    go false q z e = clash cc
+
+-- by its answer, whose index is j
+pub list-by : (o : Order) (claim : Bool) (class : Class) (t : List ℕ) (k code : ℕ) (out : List ℕ) (b : ℕ) (u : List ℕ) (p j : ℕ) → k < length t → code ≡ getD t k 0 → this (stood u p j) ≡ over out b k (begun o claim class (drop k t))
+    → (k + 3 ≤ j) × (j ≤ length t) × (listBy class code (getD t (j - 1) 0) ≡ listOf class (drop k t))
+list-by o claim class t k code out b u p j h is e =
+    let s : StoodBy out b k u p j (begun o claim class (drop k t)) = stood-by out b k u p j (begun o claim class (drop k t)) e in
+    let x : Used class (drop k t) (s .xs) = used-of o claim class (drop k t) (s .xs) (s .b) (s .ys) (s .is) in
+    let d : drop k t ≡ s .xs ++ s .ys = parts-of (drop k t) (s .xs) (s .b) (s .ys) (begun o claim class (drop k t)) (s .is) (parts-begun o claim class (drop k t)) in
+    let f : code ≡ the (drop k t) = is ∙ sym (ap the (drop-cons t k 0 h)) in
+    let i : k + (length (s .xs) - 1) ≡ j - 1 = omega (arith, s .index, x .some) in (
+      omega (arith, s .index, x .some),
+      omega (arith, s .index, ap length d, length-append (s .xs) (s .ys), length-drop k t),
+      sym (x .list code f ∙ ap (listBy class code) (getD-drop k t (length (s .xs) - 1) 0 ∙ ap (λ (n : ℕ). getD t n 0) i)),
+    )
 
 -- they are not all there
 pub begun-none : (o : Order) (claim : Bool) (class : Class) (t : List ℕ) (k : ℕ) {e : ℕ} (out : List ℕ) (b : ℕ) → ValuesEnd claim class t k e → e ≡ 0 → cannot ≡ over out b k (begun o claim class (drop k t))

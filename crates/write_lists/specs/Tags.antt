@@ -5,18 +5,16 @@ use mathlib.Core.List.{List, [], _∷_, _++_}
 use mathlib.Core.Path.{_≡_}
 use lib.Dec.{leb, eqb}
 use lib.ListN.{length, getD, take, drop}
-use Rattle.format.specs.Tests.{pick}
+use Rattle.format.specs.Tests.{pick, _and_}
 use Rattle.format.specs.Bits.{Order}
-use Rattle.format.specs.FileAndTags.{isRead, front}
-use Rattle.format.specs.WritingFormats.{unrun}
+use Rattle.format.specs.FileAndTags.{isRead, hasList}
 use Rattle.format.specs.Possible.{Possible, this, cannot}
-use Rattle.format.specs.WritingBodies.{wholeBytes, writeBody}
+use Rattle.format.specs.WritingBodies.{writeBody}
 use Rattle.format.specs.WritingFiles.{Made, made, unpackedAs, bodyOf, fitsHead, spellHead}
 use Rattle.classes.specs.declared.Class.{Class}
 use Rattle.classes.specs.declared.Class.the-variants.{Opaque, End, Container, Fixed, Attributes}
-use Rattle.classes.specs.Classes.{bare}
-use Rattle.fixed.specs.Fixed.{fixedOf}
-use Rattle.bodies.specs.Leaf.{leafBody}
+use Rattle.classes.specs.Classes.{bare, contains}
+use Rattle.bodies.specs.Leaf.{isBlock, leafBody}
 use Rattle.sink.specs.Lain.{longest}
 use Rattle.write_heads.specs.Heads.{keptBytes, underHead}
 use Rattle.write_lists.specs.declared.Wrote.{Wrote}
@@ -35,9 +33,29 @@ hidden Attributes = false
 abbrev pub valuesIn : Order → Class → ℕ → List ℕ → Possible (List ℕ)
 valuesIn o Opaque code vs = unpackedAs vs
 valuesIn o End code vs = pick (eqb (length vs) 0) (this []) cannot
-valuesIn o Container code vs = wholeBytes o (unrun o (front (fixedOf code)) vs 0)
+valuesIn o Container code vs = writeBody o (leafBody code) vs
 valuesIn o Fixed code vs = writeBody o (leafBody code) vs
 valuesIn o Attributes code vs = writeBody o (leafBody code) vs
+
+-- whether a list follows the values of a tag
+abbrev pub listIn : Class → ℕ → List ℕ → Bool
+listIn Opaque code vs = false
+listIn End code vs = false
+listIn Container code vs = hasList (leafBody code) vs
+listIn Fixed code vs = false
+listIn Attributes code vs = false
+
+-- the same by its last number: a container has one, but for a block, whose last flag says so
+abbrev pub listBy : Class → ℕ → ℕ → Bool
+listBy Opaque code last = false
+listBy End code last = false
+listBy Container code last = pick (isBlock code) (eqb last 1) true
+listBy Fixed code last = false
+listBy Attributes code last = false
+
+-- a container without a depth for a list, whether it has one or not
+abbrev pub tooDeep : Class → ℕ → Bool
+tooDeep class left = contains class and eqb left 0
 
 -- if the state is the class's, with 2 more where the long header is claimed
 abbrev pub bodyIn : Order → Bool → Class → ℕ → ℕ → List ℕ → Possible (List ℕ)
@@ -49,6 +67,13 @@ begun o claim class [] = cannot
 begun o claim class (code ∷ []) = cannot
 begun o claim class (code ∷ s ∷ []) = cannot
 begun o claim class (code ∷ s ∷ n ∷ ns) = pick (leb n (length ns)) (bodyOf (code ∷ s ∷ n ∷ take n ns) (bodyIn o claim class code s (take n ns)) (drop n ns)) cannot
+
+-- whether a list follows it
+abbrev pub listOf : Class → List ℕ → Bool
+listOf class [] = false
+listOf class (code ∷ []) = false
+listOf class (code ∷ s ∷ []) = false
+listOf class (code ∷ s ∷ n ∷ ns) = listIn class code (take n ns)
 
 -- and with its header
 abbrev pub shut : Bool → ℕ → Possible Made → Possible Made

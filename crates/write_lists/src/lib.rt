@@ -8,12 +8,12 @@ ghost use lib.ListN.{length, getD, drop};
 ghost use Rattle.format.specs.FileAndTags.{classOf};
 ghost use Rattle.format.specs.WritingFiles.{claims, unwalkList};
 ghost use Rattle.bits.specs.Places.{InEither, orderOf};
-ghost use Rattle.classes.specs.Classes.{contains, ends};
+ghost use Rattle.classes.specs.Classes.{ends};
 ghost use Rattle.classes.specs.declared.Class.the-variants.{Opaque};
 ghost use Rattle.sink.specs.Lain.{longest, lies, lainAs};
 ghost use Rattle.write_heads.specs.Heads.{keptBytes};
 ghost use Rattle.write_lists.specs.Stood.{over, stoodAs};
-ghost use Rattle.write_lists.specs.Tags.{hidden, valuesIn, begun, shut as shutBy, shutAs, After, ValuesEnd};
+ghost use Rattle.write_lists.specs.Tags.{hidden, valuesIn, listBy, tooDeep, begun, shut as shutBy, shutAs, After, ValuesEnd};
 use bits::BytePlace;
 use bits::Order;
 use classes::Class;
@@ -178,12 +178,29 @@ fn is_opaque(class: Class) -> bool
     }
 }
 
-// Whether a list stands in a tag of this class.
-fn holds_list(class: Class) -> bool
-    ensures { λ r. ⌜ r ≡ contains class ⌝ }
+// Whether a list stands in a tag of this class, whose last number this is: in a container, and in one that is a block where its last flag is set.
+fn holds_list(class: Class, code: u32, last: u64) -> bool
+    ensures { λ r. ⌜ r ≡ listBy class code last ⌝ }
 {
     match class {
-        Class::Container => true,
+        Class::Container => if bodies::is_block(code) {
+            last == 1
+        } else {
+            true
+        },
+        Class::End => false,
+        Class::Opaque => false,
+        Class::Fixed => false,
+        Class::Attributes => false,
+    }
+}
+
+// Whether a tag of this class is a container without a depth for a list.
+fn is_too_deep(class: Class, depths: u32) -> bool
+    ensures { λ r. ⌜ r ≡ tooDeep class depths ⌝ }
+{
+    match class {
+        Class::Container => depths == 0,
         Class::End => false,
         Class::Opaque => false,
         Class::Fixed => false,
@@ -239,15 +256,15 @@ pub fn write_list(
             index = behind;
             continue;
         }
+        if is_too_deep(class, depths) {
+            return Wrote::Impossible;
+        }
         let begun = begin_tag(order, class, code, out, place, claimed, table, index);
         let Wrote::Done(start, first) = begun else {
             return begun;
         };
         let mut inside = begun;
-        if holds_list(class) {
-            if depths == 0 {
-                return Wrote::Impossible;
-            }
+        if holds_list(class, code, table[first - 1]) {
             inside = write_list(level, order, depths - 1, out, start, table, first);
         }
         let wrote = shut(out, place, claimed, code, inside);

@@ -1,33 +1,35 @@
 -- Values and keyframed content, written: the formats of their parts, and what a `match` tells.
-use Prim.Native.Nat.{ℕ, suc, _+_, _-_, _*_, _≤_}
-use mathlib.Core.Bool.{true, false}
+use Prim.Native.Nat.{ℕ, suc, _+_, _-_, _*_, _≤_, _<_}
+use mathlib.Core.Bool.{Bool, true, false}
 use mathlib.Core.List.{List}
-use mathlib.Core.Path.{_≡_, sym, ap, ap₂, subst, _∙_}
+use mathlib.Core.Path.{_≡_, refl, sym, ap, ap₂, subst, _∙_}
 use native.Mathlib.Numerals.{add-one}
 use native.Mathlib.Omega.{arith}
-use borrow.Author.Tests.{eq-eqb, ne-eqb}
-use lib.ListN.{take, drop}
+use borrow.Author.Tests.{eq-eqb, ne-eqb, leb-true, leb-false}
+use lib.ListN.{length, getD, take, drop}
+use lib.Dec.{leb}
 use Rattle.format.specs.Tests.{pick}
 use Rattle.format.specs.Bits.{Order}
-use Rattle.format.specs.Formats.{Format, nothing, _▹_, _▸_, times, the}
-use Rattle.format.specs.Items.{skipped, path, scaled, time}
+use Rattle.format.specs.Formats.{Item, Format, nothing, item, _▹_, _▸_, times, the}
+use Rattle.format.specs.Items.{skipped, float, point, path, scaled, time, count, alphaStop, colorStop}
 use Rattle.format.specs.Bodies as bodies
-use Rattle.format.specs.Bodies.{value, values, interpolations, howMany, curves, aligned, spatial, hasSpatial}
+use Rattle.format.specs.Bodies.{value, values, interpolations, howMany, curves, aligned, dashes, spatial, hasSpatial}
 use Rattle.format.specs.Possible.{Possible, this}
 use Rattle.format.specs.WritingItems.{dig}
 use Rattle.items.specs.Kinds.{formatOf}
 use Rattle.items.specs.declared.Item.the-variants.{Count}
 use Rattle.table.specs.Fields.{fieldOf, announced}
 use Rattle.table.specs.declared.fields.Field.{Field}
-use Rattle.table.specs.declared.fields.Field.the-variants.{Verb, Interpolation, SpatialFlag}
+use Rattle.table.specs.declared.fields.Field.the-variants.{Verb, Interpolation, SpatialFlag, Plain}
+use Rattle.table.proofs.EngineLaws.{alike-nothing}
 use Rattle.table.proofs.FieldLaws.{announced-frames}
 use Rattle.attributes.specs.Contents.{interpolated, layoutBy, valuesBy}
 use Rattle.attributes.specs.Rows.{typeOf}
 use Rattle.attributes.specs.declared.DataType.{DataType}
 use Rattle.attributes.specs.declared.Layout.{Layout}
 use Rattle.attributes.proofs.ContentLaws.{interpolations-some, interpolations-none, values-told}
-use Rattle.values.specs.Parts.{announcing, framesOf, keyframesOf}
-use Rattle.values.proofs.ValueLaws.{path-is, spatial-is, alike-parts}
+use Rattle.values.specs.Parts.{announcing, framesOf, keyframesOf, afterAlphas, offsetFlag}
+use Rattle.values.proofs.ValueLaws.{path-is, spatial-is, alike-parts, alike-gradient, alike-pairs}
 use Rattle.sink.specs.Laying.{State, at, lay}
 use Rattle.sink.specs.declared.Sink.{Sink}
 use Rattle.spelling.specs.Spellings.{Announces}
@@ -35,8 +37,8 @@ use Rattle.spelling.specs.Writing.{Seen, here, seen, ran, limit}
 use Rattle.spelling.specs.declared.Put.{Put}
 use Rattle.spelling.specs.declared.Put.the-variants.{Done, Impossible}
 use Rattle.spelling.proofs.AlikeLaws.{ran-alike}
-use Rattle.spelling.proofs.RunLaws.{then-on, ran-nothing, align-on}
-use Rattle.spelling.proofs.FieldLaws.{announces-done}
+use Rattle.spelling.proofs.RunLaws.{then-on, then-off, ran-nothing, align-on, one-done, OneDone, the-one}
+use Rattle.spelling.proofs.FieldLaws.{announces-done, fieldBits, field-is, field-large}
 use Rattle.write_values.specs.Easing.{Eases}
 
 -- ---- what a `match` tells
@@ -56,6 +58,46 @@ announcing-done o t st k f w n m u R first a s j e d =
 -- a path
 pub path-of : (o : Order) (t : List ℕ) (st : State) (k : ℕ) {x : Possible Seen} → x ≡ ran o t st k (formatOf (Count 0) ▹ λ n. announcing Verb 3 (the n)) → x ≡ ran o t st k path
 path-of o t st k e = e ∙ λ i. ran o t st k (formatOf (Count 0) ▹ λ n. path-is (the n) i)
+
+-- a GradientColor after its count of alpha stops
+abbrev pub gradientAfter : ℕ → Format
+gradientAfter n = count 0 4096 ▹ λ colors. times n alphaStop ▸ times (the colors) colorStop
+
+pub gradient-of : (o : Order) (t : List ℕ) (st : State) (k n : ℕ) {x : Possible Seen} → x ≡ ran o t st k (afterAlphas n) → x ≡ ran o t st k (gradientAfter n)
+gradient-of o t st k n e = e ∙ ran-alike o t st k (afterAlphas n) (gradientAfter n) (λ b p. alike-gradient n o b p)
+
+-- the flag of an offset: exist is a bit, and that many bits follow it
+module _ (o : Order) (t : List ℕ) (st : State) (k : ℕ) (u : List ℕ) (R : Put) (put : seen u R ≡ ran o t st k (times 1 (fieldOf Plain 1))) where
+  exist : seen u R ≡ ran o t st k (item (Item.UB 1))
+  unfolding times
+  exist = put ∙ ran-alike o t st k (times 1 (fieldOf Plain 1)) (item (Item.UB 1)) (λ b p. alike-nothing (item (Item.UB 1)) o b p)
+
+  pub exist-stop : R ≡ Impossible → seen u R ≡ ran o t st k offsetFlag
+  exist-stop e = then-off o t st k (item (Item.UB 1)) (λ xs. times (the xs) (item (Item.UB 1))) u R exist e
+
+  module _ (s : Sink) (j : ℕ) (e : R ≡ Done s j) where
+    done : OneDone o (fieldOf Plain 1) (fieldBits o Plain 1) (field-is o Plain 1) t st k j
+    done = one-done o (fieldOf Plain 1) (fieldBits o Plain 1) (field-is o Plain 1) t st k (at u s) j (sym exist ∙ ap (seen u) e)
+
+    pub exist-inside : k < length t
+    exist-inside = done .inside
+
+    pub exist-most : getD t k 0 ≤ 1
+    exist-most = go (leb (getD t k 0) 1) refl
+      where
+        go : (c : Bool) → leb (getD t k 0) 1 ≡ c → getD t k 0 ≤ 1
+        go true q = leb-true (getD t k 0) 1 q
+        go false q = absurd (done .spells (field-large o Plain 1 (st .place) (getD t k 0) 2 refl refl (omega (arith, leb-false (getD t k 0) 1 q))))
+
+    pub exist-on : {x : Possible Seen} → x ≡ ran o t (at u s) j (times (getD t k 0) (fieldOf Plain 1)) → x ≡ ran o t st k offsetFlag
+    exist-on d =
+        then-on o t st k (item (Item.UB 1)) (λ xs. times (the xs) (item (Item.UB 1))) u R exist s j e
+        (d ∙ ap (λ (n : ℕ). ran o t (at u s) j (times n (item (Item.UB 1)))) (sym (the-one t k j (done .next) (done .inside))))
+
+-- dashes after the skip to a whole byte
+pub dashes-of : (o : Order) (t : List ℕ) (st : State) (k : ℕ) {st′ : State} {x : Possible Seen} → st .place ≤ limit → st′ ≡ lay o st (dig o (skipped (st .place)) 0) → x ≡ ran o t st′ k (item Item.dashLength ▸ offsetFlag)
+    → x ≡ ran o t st k dashes
+dashes-of o t st k low skip e = align-on o t st k low skip (λ xs. item Item.dashLength ▸ offsetFlag) e
 
 -- hasSpatial is not set, or it is
 pub spatial-none : (o : Order) (t : List ℕ) (st : State) (k φ n : ℕ) → st .place ≤ limit → (φ ≡ 7 → ⊥) → this (here st k) ≡ ran o t st k (pick (hasSpatial φ) (spatial n) nothing)
@@ -106,3 +148,11 @@ pub keyframes-done : (o : Order) (t : List ℕ) (st : State) (k : ℕ) (kind : b
 keyframes-done o t st k kind d φ n m u R first a s j e f g h =
     then-on o t st k (aligned ▸ interpolations kind n) (λ kinds. framesOf kind d φ n (howMany 2 kinds * 4 * curves kind d)) u R first s j e
     (h ∙ ap (λ (z : ℕ). ran o t (at u s) j (framesOf kind d φ n z)) (g ∙ ap₂ (λ (x y : ℕ). x * y) (eases-done t k n m a e .0) f))
+
+-- ---- values in turn, by what a `match` tells; Points in turn are twice as many Floats
+pub in-turn-of : (o : Order) (t : List ℕ) (st : State) (k n : ℕ) {what : DataType} {x : Possible Seen} (told : DataType) → what ≡ told → x ≡ ran o t st k (times n (value (typeOf told)))
+    → x ≡ ran o t st k (times n (value (typeOf what)))
+in-turn-of o t st k n told e f = f ∙ ap (λ (z : DataType). ran o t st k (times n (value (typeOf z)))) (sym e)
+
+pub points-are : (o : Order) (t : List ℕ) (st : State) (k n : ℕ) {x : Possible Seen} → x ≡ ran o t st k (times (n * 2) float) → x ≡ ran o t st k (times n point)
+points-are o t st k n e = e ∙ ran-alike o t st k (times (n * 2) float) (times n point) (λ b p. alike-pairs float n o b p)

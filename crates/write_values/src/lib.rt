@@ -2,11 +2,11 @@
 ghost use mathlib.Core.Path.{_≡_};
 ghost use Prim.Native.Nat.{_≤_};
 ghost use Rattle.format.specs.Formats.{times, _▸_};
-ghost use Rattle.format.specs.Items.{path, time};
-ghost use Rattle.format.specs.Bodies.{value as valueOf, values as valuesOf};
+ghost use Rattle.format.specs.Items.{path, time, byte, gradientColor};
+ghost use Rattle.format.specs.Bodies.{value as valueOf, values as valuesOf, dashes};
 ghost use Rattle.items.specs.Kinds.{formatOf};
 ghost use Rattle.attributes.specs.Rows.{kindOf, typeOf};
-ghost use Rattle.values.specs.Parts.{announcing};
+ghost use Rattle.values.specs.Parts.{announcing, stopOf, stopsOf, afterAlphas, offsetFlag};
 ghost use Rattle.bits.specs.Places.{orderOf};
 ghost use Rattle.sink.specs.Laying.{at as under};
 ghost use Rattle.spelling.specs.Writing.{seen, ran, Fine};
@@ -94,7 +94,176 @@ fn write_path(order: Order, out: &mut [u8], sink: Sink, values: &[u64], from: us
     )
 }
 
-// One value that is not keyframed.
+// n bytes: a Color is three.
+fn write_bytes(
+    order: Order,
+    count: usize,
+    out: &mut [u8],
+    sink: Sink,
+    values: &[u64],
+    from: usize,
+) -> Put
+    requires { ⌜ Fine sink ⌝ }
+    ensures { λ r. ⌜ seen (now (out .exit)) r ≡ ran (orderOf order) (now (values .entry)) (under (now (out .entry)) sink) from (times count byte) ⌝ }
+{
+    let mut cur = sink;
+    let mut index = from;
+    let mut left = count;
+    while 0 < left {
+        let r = spelling::write_one(order, Item::Byte, out, cur, values, index);
+        let Put::Done(next, behind) = r else {
+            return r;
+        };
+        cur = next;
+        index = behind;
+        left -= 1;
+    }
+    Put::Done(cur, index)
+}
+
+// A stop of a gradient: position, midpoint, and its bytes, which are an opacity or a Color.
+fn write_stop(
+    order: Order,
+    bytes: usize,
+    out: &mut [u8],
+    sink: Sink,
+    values: &[u64],
+    from: usize,
+) -> Put
+    requires { ⌜ Fine sink ⌝ }
+    ensures { λ r. ⌜ seen (now (out .exit)) r ≡ ran (orderOf order) (now (values .entry)) (under (now (out .entry)) sink) from (stopOf bytes) ⌝ }
+{
+    let r = write_pair(order, Item::Uint16, Item::Uint16, out, sink, values, from);
+    let Put::Done(next, behind) = r else {
+        return r;
+    };
+    write_bytes(order, bytes, out, next, values, behind)
+}
+
+// n stops with so many bytes each.
+fn write_stops(
+    order: Order,
+    bytes: usize,
+    count: usize,
+    out: &mut [u8],
+    sink: Sink,
+    values: &[u64],
+    from: usize,
+) -> Put
+    requires { ⌜ Fine sink ⌝ }
+    ensures { λ r. ⌜ seen (now (out .exit)) r ≡ ran (orderOf order) (now (values .entry)) (under (now (out .entry)) sink) from (times count (stopOf bytes)) ⌝ }
+{
+    let mut cur = sink;
+    let mut index = from;
+    let mut left = count;
+    while 0 < left {
+        let r = write_stop(order, bytes, out, cur, values, index);
+        let Put::Done(next, behind) = r else {
+            return r;
+        };
+        cur = next;
+        index = behind;
+        left -= 1;
+    }
+    Put::Done(cur, index)
+}
+
+// The alpha stops of a gradient, each with an opacity, and then its color stops, each with a Color.
+fn write_both_stops(
+    order: Order,
+    alphas: usize,
+    colors: usize,
+    out: &mut [u8],
+    sink: Sink,
+    values: &[u64],
+    from: usize,
+) -> Put
+    requires { ⌜ Fine sink ⌝ }
+    ensures { λ r. ⌜ seen (now (out .exit)) r ≡ ran (orderOf order) (now (values .entry)) (under (now (out .entry)) sink) from (stopsOf alphas colors) ⌝ }
+{
+    let r = write_stops(order, 1, alphas, out, sink, values, from);
+    let Put::Done(next, behind) = r else {
+        return r;
+    };
+    write_stops(order, 3, colors, out, next, values, behind)
+}
+
+// What follows the count of alpha stops: the count of color stops, and the stops.
+fn write_after_alphas(
+    order: Order,
+    alphas: usize,
+    out: &mut [u8],
+    sink: Sink,
+    values: &[u64],
+    from: usize,
+) -> Put
+    requires { ⌜ Fine sink ⌝ }
+    ensures { λ r. ⌜ seen (now (out .exit)) r ≡ ran (orderOf order) (now (values .entry)) (under (now (out .entry)) sink) from (afterAlphas alphas) ⌝ }
+{
+    let r = spelling::write_one(order, Item::Count(0), out, sink, values, from);
+    let Put::Done(next, behind) = r else {
+        return r;
+    };
+    write_both_stops(
+        order,
+        alphas,
+        values[from] as usize,
+        out,
+        next,
+        values,
+        behind,
+    )
+}
+
+// A GradientColor: both counts, and the stops.
+fn write_gradient(order: Order, out: &mut [u8], sink: Sink, values: &[u64], from: usize) -> Put
+    requires { ⌜ Fine sink ⌝ }
+    ensures { λ r. ⌜ seen (now (out .exit)) r ≡ ran (orderOf order) (now (values .entry)) (under (now (out .entry)) sink) from gradientColor ⌝ }
+{
+    let r = spelling::write_one(order, Item::Count(0), out, sink, values, from);
+    let Put::Done(next, behind) = r else {
+        return r;
+    };
+    write_after_alphas(order, values[from] as usize, out, next, values, behind)
+}
+
+// The flag of an offset of dashes: exist, and, if it is set, animatable.
+fn write_offset_flag(order: Order, out: &mut [u8], sink: Sink, values: &[u64], from: usize) -> Put
+    requires { ⌜ Fine sink ⌝ }
+    ensures { λ r. ⌜ seen (now (out .exit)) r ≡ ran (orderOf order) (now (values .entry)) (under (now (out .entry)) sink) from offsetFlag ⌝ }
+{
+    let exist = spelling::fields::write_fields(order, Field::Plain, 1, 1, out, sink, values, from);
+    let r = exist.put;
+    let Put::Done(next, behind) = r else {
+        return r;
+    };
+    let animatable = spelling::fields::write_fields(
+        order,
+        Field::Plain,
+        1,
+        values[from] as usize,
+        out,
+        next,
+        values,
+        behind,
+    );
+    animatable.put
+}
+
+// Dashes: from a whole byte on their length, and the flag of their offset.
+fn write_dashes(order: Order, out: &mut [u8], sink: Sink, values: &[u64], from: usize) -> Put
+    requires { ⌜ Fine sink ⌝ }
+    ensures { λ r. ⌜ seen (now (out .exit)) r ≡ ran (orderOf order) (now (values .entry)) (under (now (out .entry)) sink) from dashes ⌝ }
+{
+    let start = spelling::skip(order, out, sink);
+    let r = spelling::fields::write_dash_length(order, out, start, values, from);
+    let Put::Done(next, behind) = r else {
+        return r;
+    };
+    write_offset_flag(order, out, next, values, behind)
+}
+
+// One value that is not keyframed. A TagBlock has nothing here: its list stands behind the block.
 pub fn write_value(
     order: Order,
     what: DataType,
@@ -114,30 +283,25 @@ pub fn write_value(
         DataType::Bool => spelling::write_one(order, Item::Enum(1), out, sink, values, from),
         DataType::Byte => spelling::write_one(order, Item::Byte, out, sink, values, from),
         DataType::BlendMode => spelling::write_one(order, Item::BlendMode, out, sink, values, from),
-        DataType::TrackMatteType => spelling::write_one(
-            order,
-            Item::Enum(4),
-            out,
-            sink,
-            values,
-            from,
-        ),
-        DataType::MaskMode => spelling::write_one(order, Item::Enum(7), out, sink, values, from),
         DataType::Path => write_path(order, out, sink, values, from),
         DataType::Point => write_pair(order, Item::Float, Item::Float, out, sink, values, from),
-        DataType::AnchorPointGrouping => spelling::write_one(
+        DataType::Color => write_bytes(order, 3, out, sink, values, from),
+        DataType::GradientColor => write_gradient(order, out, sink, values, from),
+        DataType::Enum(top) => spelling::write_one(
             order,
-            Item::Enum(6),
+            Item::Enum(top as u64),
             out,
             sink,
             values,
             from,
         ),
+        DataType::Dashes => write_dashes(order, out, sink, values, from),
+        DataType::TagBlock => Put::Done(sink, from),
     }
 }
 
-// n values in turn.
-fn write_in_turn(
+// n values in turn, one by one.
+fn write_each(
     order: Order,
     what: DataType,
     count: usize,
@@ -162,6 +326,33 @@ fn write_in_turn(
         left -= 1;
     }
     Put::Done(cur, index)
+}
+
+// n values in turn. Floats and Points are Floats.
+fn write_in_turn(
+    order: Order,
+    what: DataType,
+    count: usize,
+    out: &mut [u8],
+    sink: Sink,
+    values: &[u64],
+    from: usize,
+) -> Put
+    requires { ⌜ Fine sink × (count ≤ 4097) ⌝ }
+    ensures { λ r. ⌜ seen (now (out .exit)) r ≡ ran (orderOf order) (now (values .entry)) (under (now (out .entry)) sink) from (times count (valueOf (typeOf what))) ⌝ }
+{
+    match what {
+        DataType::Float => spelling::in_turn::write_floats(order, count, out, sink, values, from),
+        DataType::Point => spelling::in_turn::write_floats(
+            order,
+            count * 2,
+            out,
+            sink,
+            values,
+            from,
+        ),
+        _ => write_each(order, what, count, out, sink, values, from),
+    }
 }
 
 // n times. Apart from other values in turn, so that what an item is is not asked for each.

@@ -1,6 +1,6 @@
 -- `attributes::content_of` meets its contract.
 use Rattle.attributes.proofs.ContentLaws.{value-none, value-one, kind-told}
-use Rattle.attributes.specs.declared.Kind.the-variants.{Value, Simple, Discrete, MultiDimension, Spatial}
+use Rattle.attributes.specs.declared.Kind.the-variants.{Value, Simple, Discrete, MultiDimension, Spatial, Custom}
 use borrow.Author.Needs.{needs}
 use Rattle.attributes.proofs.content_of.Statement.{statement}
 use Rattle.attributes.proofs.content_of.Tie as tie
@@ -41,6 +41,9 @@ enum-told-7 c = search needs
 animatable-requires-4 : tie.Need-animatable-requires-4
 animatable-requires-4 c κs = search needs
 
+enum-told-8 : tie.Need-enum-told-8
+enum-told-8 c = search needs
+
 returns : tie.Need-returns
 returns c = let a = c .before .before .before .args in kind-told (a .flag) Value (c .before .enum-told .given .1) (value-none (a .flag) (c .if1 .taken))
 
@@ -65,6 +68,12 @@ returns-7 c = kind-told (c .before .before .before .args .flag) MultiDimension (
 returns-8 : tie.Need-returns-8
 returns-8 c = kind-told (c .before .before .before .args .flag) Spatial (c .before .enum-told7 .given .1) (c .animatable4 .ensures)
 
+returns-9 : tie.Need-returns-9
+returns-9 c = let a = c .before .before .before .args in kind-told (a .flag) Custom (c .before .enum-told8 .given .1) (value-none (a .flag) (c .if2 .taken))
+
+returns-10 : tie.Need-returns-10
+returns-10 c = let a = c .before .before .before .args in kind-told (a .flag) Custom (c .before .enum-told8 .given .1) (value-one (a .flag) (c .if2 .left))
+
 pub content-of-spec : {M : Type 1} → statement M
 content-of-spec =
     tie.close
@@ -80,6 +89,7 @@ content-of-spec =
     animatable-requires-3
     enum-told-7
     animatable-requires-4
+    enum-told-8
     returns
     returns-2
     returns-3
@@ -87,4 +97,6 @@ content-of-spec =
     returns-5
     returns-6
     returns-7
-    returns-8)
+    returns-8
+    returns-9
+    returns-10)

@@ -32,6 +32,9 @@ dimensions-requires c κs = search needs
 enum-told-7 : tie.Need-enum-told-7
 enum-told-7 c = search needs
 
+enum-told-8 : tie.Need-enum-told-8
+enum-told-8 c = search needs
+
 returns : tie.Need-returns
 returns c = (ap (λ (z : Kind). curves (kindOf z) (typeOf (c .before .before .args .what))) (sym (c .enum-told .given .1)), lit≤ tt)
 
@@ -53,6 +56,9 @@ returns-6 c = (c .dimensions .ensures .0 ∙ ap (λ (z : Kind). curves (kindOf z
 returns-7 : tie.Need-returns-7
 returns-7 c = (ap (λ (z : Kind). curves (kindOf z) (typeOf (c .before .before .args .what))) (sym (c .enum-told7 .given .1)), lit≤ tt)
 
+returns-8 : tie.Need-returns-8
+returns-8 c = (ap (λ (z : Kind). curves (kindOf z) (typeOf (c .before .before .args .what))) (sym (c .enum-told8 .given .1)), lit≤ tt)
+
 pub curves-spec : {M : Type 1} → statement M
 curves-spec =
     tie.close
@@ -65,10 +71,12 @@ curves-spec =
     enum-told-6
     dimensions-requires
     enum-told-7
+    enum-told-8
     returns
     returns-2
     returns-3
     returns-4
     returns-5
     returns-6
-    returns-7)
+    returns-7
+    returns-8)

@@ -44,6 +44,12 @@ enum-told-11 c = search needs
 enum-told-12 : tie.Need-enum-told-12
 enum-told-12 c = search needs
 
+enum-told-13 : tie.Need-enum-told-13
+enum-told-13 c = search needs
+
+enum-told-14 : tie.Need-enum-told-14
+enum-told-14 c = search needs
+
 returns : tie.Need-returns
 returns c = (ap (λ (z : DataType). dimensions (typeOf z)) (sym (c .enum-told .given .1)), lit≤ tt)
 
@@ -80,6 +86,12 @@ returns-11 c = (ap (λ (z : DataType). dimensions (typeOf z)) (sym (c .enum-told
 returns-12 : tie.Need-returns-12
 returns-12 c = (ap (λ (z : DataType). dimensions (typeOf z)) (sym (c .enum-told12 .given .1)), lit≤ tt)
 
+returns-13 : tie.Need-returns-13
+returns-13 c = (ap (λ (z : DataType). dimensions (typeOf z)) (sym (c .enum-told13 .given .1)), lit≤ tt)
+
+returns-14 : tie.Need-returns-14
+returns-14 c = (ap (λ (z : DataType). dimensions (typeOf z)) (sym (c .enum-told14 .given .1)), lit≤ tt)
+
 pub dimensions-spec : {M : Type 1} → statement M
 dimensions-spec =
     tie.close
@@ -96,6 +108,8 @@ dimensions-spec =
     enum-told-10
     enum-told-11
     enum-told-12
+    enum-told-13
+    enum-told-14
     returns
     returns-2
     returns-3
@@ -107,4 +121,6 @@ dimensions-spec =
     returns-9
     returns-10
     returns-11
-    returns-12)
+    returns-12
+    returns-13
+    returns-14)

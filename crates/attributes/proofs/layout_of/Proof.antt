@@ -34,17 +34,23 @@ enum-told-8 c = search needs
 enum-told-9 : tie.Need-enum-told-9
 enum-told-9 c = search needs
 
+points-layout-requires : tie.Need-points-layout-requires
+points-layout-requires c κs = search needs
+
 enum-told-10 : tie.Need-enum-told-10
 enum-told-10 c = search needs
 
 enum-told-11 : tie.Need-enum-told-11
 enum-told-11 c = search needs
 
-points-layout-requires : tie.Need-points-layout-requires
-points-layout-requires c κs = search needs
-
 enum-told-12 : tie.Need-enum-told-12
 enum-told-12 c = search needs
+
+enum-told-13 : tie.Need-enum-told-13
+enum-told-13 c = search needs
+
+enum-told-14 : tie.Need-enum-told-14
+enum-told-14 c = search needs
 
 returns : tie.Need-returns
 returns c = ap (λ (z : DataType). layoutBy (kindOf (c .before .before .args .kind)) (typeOf z)) (sym (c .enum-told .given .1))
@@ -71,16 +77,22 @@ returns-8 : tie.Need-returns-8
 returns-8 c = ap (λ (z : DataType). layoutBy (kindOf (c .before .before .args .kind)) (typeOf z)) (sym (c .enum-told8 .given .1))
 
 returns-9 : tie.Need-returns-9
-returns-9 c = ap (λ (z : DataType). layoutBy (kindOf (c .before .before .args .kind)) (typeOf z)) (sym (c .enum-told9 .given .1))
+returns-9 c = c .points-layout .ensures ∙ ap (λ (z : DataType). layoutBy (kindOf (c .before .before .before .args .kind)) (typeOf z)) (sym (c .before .enum-told9 .given .1))
 
 returns-10 : tie.Need-returns-10
 returns-10 c = ap (λ (z : DataType). layoutBy (kindOf (c .before .before .args .kind)) (typeOf z)) (sym (c .enum-told10 .given .1))
 
 returns-11 : tie.Need-returns-11
-returns-11 c = c .points-layout .ensures ∙ ap (λ (z : DataType). layoutBy (kindOf (c .before .before .before .args .kind)) (typeOf z)) (sym (c .before .enum-told11 .given .1))
+returns-11 c = ap (λ (z : DataType). layoutBy (kindOf (c .before .before .args .kind)) (typeOf z)) (sym (c .enum-told11 .given .1))
 
 returns-12 : tie.Need-returns-12
 returns-12 c = ap (λ (z : DataType). layoutBy (kindOf (c .before .before .args .kind)) (typeOf z)) (sym (c .enum-told12 .given .1))
+
+returns-13 : tie.Need-returns-13
+returns-13 c = ap (λ (z : DataType). layoutBy (kindOf (c .before .before .args .kind)) (typeOf z)) (sym (c .enum-told13 .given .1))
+
+returns-14 : tie.Need-returns-14
+returns-14 c = ap (λ (z : DataType). layoutBy (kindOf (c .before .before .args .kind)) (typeOf z)) (sym (c .enum-told14 .given .1))
 
 pub layout-of-spec : {M : Type 1} → statement M
 layout-of-spec =
@@ -95,10 +107,12 @@ layout-of-spec =
     enum-told-7
     enum-told-8
     enum-told-9
+    points-layout-requires
     enum-told-10
     enum-told-11
-    points-layout-requires
     enum-told-12
+    enum-told-13
+    enum-told-14
     returns
     returns-2
     returns-3
@@ -110,4 +124,6 @@ layout-of-spec =
     returns-9
     returns-10
     returns-11
-    returns-12)
+    returns-12
+    returns-13
+    returns-14)

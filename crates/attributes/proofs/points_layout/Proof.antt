@@ -28,6 +28,9 @@ enum-told-6 c = search needs
 enum-told-7 : tie.Need-enum-told-7
 enum-told-7 c = search needs
 
+enum-told-8 : tie.Need-enum-told-8
+enum-told-8 c = search needs
+
 returns : tie.Need-returns
 returns c = ap (λ (z : Kind). pointsBy (kindOf z)) (sym (c .enum-told .given .1))
 
@@ -49,6 +52,9 @@ returns-6 c = ap (λ (z : Kind). pointsBy (kindOf z)) (sym (c .enum-told6 .given
 returns-7 : tie.Need-returns-7
 returns-7 c = ap (λ (z : Kind). pointsBy (kindOf z)) (sym (c .enum-told7 .given .1))
 
+returns-8 : tie.Need-returns-8
+returns-8 c = ap (λ (z : Kind). pointsBy (kindOf z)) (sym (c .enum-told8 .given .1))
+
 pub points-layout-spec : {M : Type 1} → statement M
 points-layout-spec =
     tie.close
@@ -60,10 +66,12 @@ points-layout-spec =
     enum-told-5
     enum-told-6
     enum-told-7
+    enum-told-8
     returns
     returns-2
     returns-3
     returns-4
     returns-5
     returns-6
-    returns-7)
+    returns-7
+    returns-8)

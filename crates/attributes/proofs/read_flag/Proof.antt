@@ -1,7 +1,7 @@
 -- `attributes::read_flag` meets its contract: the flag of the kind that the `match` tells.
 use denote.Ref.{now}
 use Rattle.bits.specs.Places.{orderOf}
-use Rattle.attributes.specs.declared.Kind.the-variants.{Value, Fixed, BitFlag, Simple, Discrete, MultiDimension, Spatial}
+use Rattle.attributes.specs.declared.Kind.the-variants.{Value, Fixed, BitFlag, Simple, Discrete, MultiDimension, Spatial, Custom}
 use Rattle.attributes.proofs.FlagLaws.{flag-of, one-bit, fixed-is}
 use borrow.Author.Needs.{needs}
 use Rattle.attributes.proofs.read_flag.Statement.{statement}
@@ -46,6 +46,12 @@ enum-told-7 c = search needs
 read-three-flags-requires : tie.Need-read-three-flags-requires
 read-three-flags-requires c κs = search needs
 
+enum-told-8 : tie.Need-enum-told-8
+enum-told-8 c = search needs
+
+read-ub-requires-3 : tie.Need-read-ub-requires-3
+read-ub-requires-3 c κs = search needs
+
 returns : tie.Need-returns
 returns c = let a = c .before .before .before .before .args in flag-of (orderOf (a .order)) (now (a .body)) (a .at .0) Value (c .before .enum-told .given .1) (one-bit (orderOf (a .order)) (now (a .body)) (a .at .0) (c .read-ub .ensures))
 
@@ -67,6 +73,9 @@ returns-6 c = let a = c .before .before .before .before .args in flag-of (orderO
 returns-7 : tie.Need-returns-7
 returns-7 c = let a = c .before .before .before .before .args in flag-of (orderOf (a .order)) (now (a .body)) (a .at .0) Spatial (c .before .enum-told7 .given .1) (c .read-three-flags .ensures)
 
+returns-8 : tie.Need-returns-8
+returns-8 c = let a = c .before .before .before .before .args in flag-of (orderOf (a .order)) (now (a .body)) (a .at .0) Custom (c .before .enum-told8 .given .1) (one-bit (orderOf (a .order)) (now (a .body)) (a .at .0) (c .read-ub3 .ensures))
+
 pub read-flag-spec : {M : Type 1} → statement M
 read-flag-spec =
     tie.close
@@ -84,10 +93,13 @@ read-flag-spec =
     read-two-flags-requires-3
     enum-told-7
     read-three-flags-requires
+    enum-told-8
+    read-ub-requires-3
     returns
     returns-2
     returns-3
     returns-4
     returns-5
     returns-6
-    returns-7)
+    returns-7
+    returns-8)

@@ -1,92 +1,93 @@
 use denote.Ref.{now}
 use mathlib.Core.Path.{refl}
 use Rattle.bits.specs.Places.{orderOf}
+use Rattle.bits.specs.declared.BytePlace.{BytePlace}
+use Rattle.bodies.specs.declared.Shown.the-variants.{Done}
 use Rattle.classes.specs.declared.Class.the-variants.{Opaque, End, Container, Fixed, Attributes}
-use Rattle.tags.proofs.TagLaws.{front-is}
-use Rattle.canvas.proofs.JudgeLaws.{ended-of, ended-by}
+use Rattle.canvas.proofs.JudgeLaws.{values-told, values-by}
 use borrow.Author.Needs.{needs}
 use Rattle.canvas.proofs.judge_values.Statement.{statement}
 use Rattle.canvas.proofs.judge_values.Tie as tie
 use Rattle.canvas.proofs.judge_values.Reads as reads
 use Rattle.canvas.proofs.judge_values.Lts as lts
 use Rattle.bodies.proofs.read_body.Reads as read-body-reads
-use Rattle.bodies.proofs.read_to_end.Reads as read-to-end-reads
+use Rattle.bodies.proofs.read_container.Reads as read-container-reads
 
--- src/lib.rt:107:38
+-- src/lib.rt:110:38
 enum-told : tie.Need-enum-told
 enum-told c = search needs
 
--- src/lib.rt:108:35
+-- src/lib.rt:111:35
 enum-told-2 : tie.Need-enum-told-2
 enum-told-2 c = search needs
 
--- src/lib.rt:109:75
+-- src/lib.rt:112:71
 enum-told-3 : tie.Need-enum-told-3
 enum-told-3 c = search needs
 
--- src/lib.rt:109:75
+-- src/lib.rt:112:71
 array-borrow-prefix-none : tie.Need-array-borrow-prefix-none
 array-borrow-prefix-none c = search needs
 
--- src/lib.rt:109:75
-slice-aggregate-read-to-end : tie.Need-slice-aggregate-read-to-end
-slice-aggregate-read-to-end c = search needs
+-- src/lib.rt:112:71
+slice-aggregate-read-container : tie.Need-slice-aggregate-read-container
+slice-aggregate-read-container c = search needs
 
--- src/lib.rt:109:29
-read-to-end-requires : tie.Need-read-to-end-requires
-read-to-end-requires c κs = search needs
+-- src/lib.rt:112:29
+read-container-requires : tie.Need-read-container-requires
+read-container-requires c κs = search needs
 
--- src/lib.rt:110:62
+-- src/lib.rt:113:62
 enum-told-4 : tie.Need-enum-told-4
 enum-told-4 c = search needs
 
--- src/lib.rt:110:62
+-- src/lib.rt:113:62
 array-borrow-prefix-none-2 : tie.Need-array-borrow-prefix-none-2
 array-borrow-prefix-none-2 c = search needs
 
--- src/lib.rt:110:62
+-- src/lib.rt:113:62
 slice-aggregate-read-body : tie.Need-slice-aggregate-read-body
 slice-aggregate-read-body c = search needs
 
--- src/lib.rt:110:25
+-- src/lib.rt:113:25
 read-body-requires : tie.Need-read-body-requires
 read-body-requires c κs = search needs
 
--- src/lib.rt:111:67
+-- src/lib.rt:114:67
 enum-told-5 : tie.Need-enum-told-5
 enum-told-5 c = search needs
 
--- src/lib.rt:111:67
+-- src/lib.rt:114:67
 array-borrow-prefix-none-3 : tie.Need-array-borrow-prefix-none-3
 array-borrow-prefix-none-3 c = search needs
 
--- src/lib.rt:111:67
+-- src/lib.rt:114:67
 slice-aggregate-read-body-2 : tie.Need-slice-aggregate-read-body-2
 slice-aggregate-read-body-2 c = search needs
 
--- src/lib.rt:111:30
+-- src/lib.rt:114:30
 read-body-requires-2 : tie.Need-read-body-requires-2
 read-body-requires-2 c κs = search needs
 
--- src/lib.rt:101:1
+-- src/lib.rt:104:1
 returns : tie.Need-returns
-returns c = let a = c .before .before .before .args in ended-of (orderOf (a .order)) (now (a .body)) (a .code) Opaque (c .enum-told .given .1) refl
+returns c = let a = c .before .before .before .args in values-told (orderOf (a .order)) (now (a .body)) (a .code) (Done (record { 0 = 0 }) 0) Opaque (c .enum-told .given .1) (refl, refl)
 
--- src/lib.rt:101:1
+-- src/lib.rt:104:1
 returns-2 : tie.Need-returns-2
-returns-2 c = let a = c .before .before .before .args in ended-of (orderOf (a .order)) (now (a .body)) (a .code) End (c .enum-told2 .given .1) refl
+returns-2 c = let a = c .before .before .before .args in values-told (orderOf (a .order)) (now (a .body)) (a .code) (Done (record { 0 = 0 }) 0) End (c .enum-told2 .given .1) (refl, refl)
 
--- src/lib.rt:101:1
+-- src/lib.rt:104:1
 returns-3 : tie.Need-returns-3
-returns-3 c = let a = c .before .before .before .before .before .before .args in ended-of (orderOf (a .order)) (now (a .body)) (a .code) Container (c .before .before .before .enum-told3 .given .1) (ended-by _ 0 (c .before .read-to-end .result) (c .before .read-to-end .ensures) (front-is (orderOf (a .order)) (now (a .body)) (a .code)))
+returns-3 c = let a = c .before .before .before .before .before .before .args in values-told (orderOf (a .order)) (now (a .body)) (a .code) (c .before .read-container .result) Container (c .before .before .before .enum-told3 .given .1) (values-by _ 0 (c .before .read-container .result) (c .before .read-container .ensures))
 
--- src/lib.rt:101:1
+-- src/lib.rt:104:1
 returns-4 : tie.Need-returns-4
-returns-4 c = let a = c .before .before .before .before .before .before .args in ended-of (orderOf (a .order)) (now (a .body)) (a .code) Fixed (c .before .before .before .enum-told4 .given .1) (ended-by _ 0 (c .before .read-body .result) (c .before .read-body .ensures) refl)
+returns-4 c = let a = c .before .before .before .before .before .before .args in values-told (orderOf (a .order)) (now (a .body)) (a .code) (c .before .read-body .result) Fixed (c .before .before .before .enum-told4 .given .1) (values-by _ 0 (c .before .read-body .result) (c .before .read-body .ensures))
 
--- src/lib.rt:101:1
+-- src/lib.rt:104:1
 returns-5 : tie.Need-returns-5
-returns-5 c = let a = c .before .before .before .before .before .before .args in ended-of (orderOf (a .order)) (now (a .body)) (a .code) Attributes (c .before .before .before .enum-told5 .given .1) (ended-by _ 0 (c .before .read-body2 .result) (c .before .read-body2 .ensures) refl)
+returns-5 c = let a = c .before .before .before .before .before .before .args in values-told (orderOf (a .order)) (now (a .body)) (a .code) (c .before .read-body2 .result) Attributes (c .before .before .before .enum-told5 .given .1) (values-by _ 0 (c .before .read-body2 .result) (c .before .read-body2 .ensures))
 
 pub judge-values-spec : {M : Type 1} → statement M
 judge-values-spec =
@@ -96,8 +97,8 @@ judge-values-spec =
     enum-told-2
     enum-told-3
     array-borrow-prefix-none
-    slice-aggregate-read-to-end
-    read-to-end-requires
+    slice-aggregate-read-container
+    read-container-requires
     enum-told-4
     array-borrow-prefix-none-2
     slice-aggregate-read-body

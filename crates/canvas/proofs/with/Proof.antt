@@ -6,19 +6,19 @@ use Rattle.canvas.proofs.with.Statement.{statement}
 use Rattle.canvas.proofs.with.Tie as tie
 use Rattle.canvas.proofs.with.Reads as reads
 use Rattle.canvas.proofs.with.Lts as lts
-use Rattle.bodies.proofs.read_to_end.Reads as read-to-end-reads
+use Rattle.bodies.proofs.read_body.Reads as read-body-reads
 
 -- src/lib.rt:254:48
-slice-aggregate-read-to-end : tie.Need-slice-aggregate-read-to-end
-slice-aggregate-read-to-end c = search needs
+slice-aggregate-read-body : tie.Need-slice-aggregate-read-body
+slice-aggregate-read-body c = search needs
 
 -- src/lib.rt:254:5
-read-to-end-requires : tie.Need-read-to-end-requires
-read-to-end-requires c κs = search needs
+read-body-requires : tie.Need-read-body-requires
+read-body-requires c κs = search needs
 
 -- src/lib.rt:249:1
 returns : tie.Need-returns
-returns c = let a = c .before .before .before .before .args in filled-is (orderOf (a .order)) (now (a .body)) (a .headers) (c .before .read-to-end .result) (c .before .read-to-end .ensures)
+returns c = let a = c .before .before .before .before .args in filled-is (orderOf (a .order)) (now (a .body)) (a .headers) (c .before .read-body .result) (c .before .read-body .ensures)
 
 pub with-spec : {M : Type 1} → statement M
-with-spec = tie.close (tie.spec slice-aggregate-read-to-end read-to-end-requires returns)
+with-spec = tie.close (tie.spec slice-aggregate-read-body read-body-requires returns)

@@ -36,6 +36,9 @@ enum-told-5 c = search needs
 enum-told-6 : tie.Need-enum-told-6
 enum-told-6 c = search needs
 
+enum-told-7 : tie.Need-enum-told-7
+enum-told-7 c = search needs
+
 returns : tie.Need-returns
 unfolding rangeFault
 returns c = rw (c .before .before .kind .given .1, le-leb (c .before .before .before .before .args .value) _ (c .if1 .taken))
@@ -84,6 +87,10 @@ returns-12 : tie.Need-returns-12
 unfolding rangeFault
 returns-12 c = rw (c .enum-told6 .given .1)
 
+returns-13 : tie.Need-returns-13
+unfolding rangeFault
+returns-13 c = rw (c .enum-told7 .given .1)
+
 pub out-of-range-spec : {M : Type 1} → statement M
 out-of-range-spec =
     tie.close
@@ -98,6 +105,7 @@ out-of-range-spec =
     enum-told-4
     enum-told-5
     enum-told-6
+    enum-told-7
     returns
     returns-2
     returns-3
@@ -109,4 +117,5 @@ out-of-range-spec =
     returns-9
     returns-10
     returns-11
-    returns-12)
+    returns-12
+    returns-13)

@@ -1,81 +1,33 @@
--- `items::read_float` meets its contract: four bytes are there, or fewer.
 use denote.Ref.{now}
-use mathlib.Core.Path.{sym, refl}
+use mathlib.Core.Path.{sym}
 use native.Mathlib.Omega.{arith}
+use Rattle.items.proofs.ItemLaws.{le-past}
 use borrow.Author.Needs.{needs}
-use Rattle.items.proofs.ItemLaws.{le-past, float-is}
 use Rattle.items.proofs.read_float.Statement.{statement}
 use Rattle.items.proofs.read_float.Tie as tie
+use Rattle.items.proofs.read_float.Reads as reads
+use Rattle.items.proofs.read_float.Lts as lts
+use Rattle.items.proofs.float_at.Reads as float-at-reads
 
+-- src/lib.rt:60:8
 sub-if1 : tie.Need-sub-if1
 sub-if1 c = search needs
 
+-- src/lib.rt:61:9
 returns : tie.Need-returns
 returns c = λ o. sym (le-past o (now (c .before .before .args .body)) (c .before .before .args .byte .0) (c .before .before .args .bit .0) 4 (c .before .before .pre .1) (omega arith) (omega arith))
 
-byte-at-requires : tie.Need-byte-at-requires
-byte-at-requires c κs = search needs
+-- src/lib.rt:63:16
+float-at-requires : tie.Need-float-at-requires
+float-at-requires c κs = search needs
 
-add-byte-at : tie.Need-add-byte-at
-add-byte-at c = search needs
+-- src/lib.rt:63:44
+add-t5 : tie.Need-add-t5
+add-t5 c = search needs
 
-byte-at-requires-2 : tie.Need-byte-at-requires-2
-byte-at-requires-2 c κs = search needs
-
-add-byte-at-2 : tie.Need-add-byte-at-2
-add-byte-at-2 c = search needs
-
-byte-at-requires-3 : tie.Need-byte-at-requires-3
-byte-at-requires-3 c κs = search needs
-
-add-byte-at-3 : tie.Need-add-byte-at-3
-add-byte-at-3 c = search needs
-
-byte-at-requires-4 : tie.Need-byte-at-requires-4
-byte-at-requires-4 c κs = search needs
-
-mul-t12 : tie.Need-mul-t12
-mul-t12 c = search needs
-
-add-t13 : tie.Need-add-t13
-add-t13 c = search needs
-
-mul-t14 : tie.Need-mul-t14
-mul-t14 c = search needs
-
-add-t15 : tie.Need-add-t15
-add-t15 c = search needs
-
-mul-t16 : tie.Need-mul-t16
-mul-t16 c = search needs
-
-add-t17 : tie.Need-add-t17
-add-t17 c = search needs
-
-add-t10 : tie.Need-add-t10
-add-t10 c = search needs
-
+-- src/lib.rt:55:1
 returns-2 : tie.Need-returns-2
-returns-2 c = λ o. float-is o (now (c .before .before .before .before .before .before .before .args .body)) (c .before .before .before .before .before .before .before .args .byte .0) (c .before .before .before .before .before .before .before .args .bit .0) (c .before .before .before .before .before .before .before .pre .1) (omega arith) (c .before .before .before .before .byte-at .ensures) (c .before .before .before .byte-at2 .ensures) (c .before .before .byte-at3 .ensures) (c .before .byte-at4 .ensures) refl
+returns-2 c = λ o. rw (c .before .before .before .before .pre .1) (c .before .float-at .ensures o)
 
 pub read-float-spec : {M : Type 1} → statement M
-read-float-spec =
-    tie.close
-    (tie.spec
-    sub-if1
-    returns
-    byte-at-requires
-    add-byte-at
-    byte-at-requires-2
-    add-byte-at-2
-    byte-at-requires-3
-    add-byte-at-3
-    byte-at-requires-4
-    mul-t12
-    add-t13
-    mul-t14
-    add-t15
-    mul-t16
-    add-t17
-    add-t10
-    returns-2)
+read-float-spec = tie.close (tie.spec sub-if1 returns float-at-requires add-t5 returns-2)

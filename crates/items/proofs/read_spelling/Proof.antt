@@ -36,17 +36,23 @@ read-float-requires c κs = search needs
 enum-told-6 : tie.Need-enum-told-6
 enum-told-6 c = search needs
 
-read-byte-requires : tie.Need-read-byte-requires
-read-byte-requires c κs = search needs
+read-uint16-requires : tie.Need-read-uint16-requires
+read-uint16-requires c κs = search needs
 
 enum-told-7 : tie.Need-enum-told-7
 enum-told-7 c = search needs
 
-read-byte-requires-2 : tie.Need-read-byte-requires-2
-read-byte-requires-2 c κs = search needs
+read-byte-requires : tie.Need-read-byte-requires
+read-byte-requires c κs = search needs
 
 enum-told-8 : tie.Need-enum-told-8
 enum-told-8 c = search needs
+
+read-byte-requires-2 : tie.Need-read-byte-requires-2
+read-byte-requires-2 c κs = search needs
+
+enum-told-9 : tie.Need-enum-told-9
+enum-told-9 c = search needs
 
 read-byte-requires-3 : tie.Need-read-byte-requires-3
 read-byte-requires-3 c κs = search needs
@@ -67,13 +73,16 @@ returns-5 : tie.Need-returns-5
 returns-5 c = λ o. rw (c .before .enum-told5 .given .1) (c .read-float .ensures o)
 
 returns-6 : tie.Need-returns-6
-returns-6 c = λ o. rw (c .before .enum-told6 .given .1) (c .read-byte .ensures o)
+returns-6 c = λ o. rw (c .before .enum-told6 .given .1) (c .read-uint16 .ensures o)
 
 returns-7 : tie.Need-returns-7
-returns-7 c = λ o. rw (c .before .enum-told7 .given .1) (c .read-byte2 .ensures o)
+returns-7 c = λ o. rw (c .before .enum-told7 .given .1) (c .read-byte .ensures o)
 
 returns-8 : tie.Need-returns-8
-returns-8 c = λ o. rw (c .before .enum-told8 .given .1) (c .read-byte3 .ensures o)
+returns-8 c = λ o. rw (c .before .enum-told8 .given .1) (c .read-byte2 .ensures o)
+
+returns-9 : tie.Need-returns-9
+returns-9 c = λ o. rw (c .before .enum-told9 .given .1) (c .read-byte3 .ensures o)
 
 pub read-spelling-spec : {M : Type 1} → statement M
 read-spelling-spec =
@@ -90,10 +99,12 @@ read-spelling-spec =
     enum-told-5
     read-float-requires
     enum-told-6
-    read-byte-requires
+    read-uint16-requires
     enum-told-7
-    read-byte-requires-2
+    read-byte-requires
     enum-told-8
+    read-byte-requires-2
+    enum-told-9
     read-byte-requires-3
     returns
     returns-2
@@ -102,4 +113,5 @@ read-spelling-spec =
     returns-5
     returns-6
     returns-7
-    returns-8)
+    returns-8
+    returns-9)

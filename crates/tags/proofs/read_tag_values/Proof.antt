@@ -1,9 +1,7 @@
 use denote.Ref.{now}
-use mathlib.Core.Path.{refl, ap, _∙_}
-use Rattle.table.specs.State.{shownOver}
 use Rattle.bits.specs.Places.{orderOf}
 use Rattle.classes.specs.declared.Class.the-variants.{Opaque, End, Container, Fixed, Attributes}
-use Rattle.tags.proofs.TagLaws.{none-left, front-is, values-of}
+use Rattle.tags.proofs.TagLaws.{none-shown, values-of}
 use borrow.Author.Needs.{needs}
 use Rattle.tags.proofs.read_tag_values.Statement.{statement}
 use Rattle.tags.proofs.read_tag_values.Tie as tie
@@ -11,7 +9,7 @@ use Rattle.tags.proofs.read_tag_values.Reads as reads
 use Rattle.tags.proofs.read_tag_values.Lts as lts
 use Rattle.bodies.proofs.read_body.Reads as read-body-reads
 use Rattle.tags.proofs.pack_bytes.Reads as pack-bytes-reads
-use Rattle.bodies.proofs.read_to_end.Reads as read-to-end-reads
+use Rattle.bodies.proofs.read_container.Reads as read-container-reads
 
 enum-told : tie.Need-enum-told
 enum-told c = search needs
@@ -25,8 +23,8 @@ enum-told-2 c = search needs
 enum-told-3 : tie.Need-enum-told-3
 enum-told-3 c = search needs
 
-read-to-end-requires : tie.Need-read-to-end-requires
-read-to-end-requires c κs = search needs
+read-container-requires : tie.Need-read-container-requires
+read-container-requires c κs = search needs
 
 enum-told-4 : tie.Need-enum-told-4
 enum-told-4 c = search needs
@@ -47,13 +45,13 @@ returns : tie.Need-returns
 returns c = let a = c .before .before .before .before .before .before .before .before .args in values-of (orderOf (a .order)) (now (a .body)) (now (a .table)) (a .from) (a .code) Opaque (c .before .before .before .before .enum-told .given .1) (c .before .before .pack-bytes .ensures)
 
 returns-2 : tie.Need-returns-2
-returns-2 c = let a = c .before .before .before .before .args in values-of (orderOf (a .order)) (now (a .body)) (now (a .table)) (a .from) (a .code) End (c .enum-told2 .given .1) (none-left (now (a .table)) (a .from) refl)
+returns-2 c = let a = c .before .before .before .before .args in values-of (orderOf (a .order)) (now (a .body)) (now (a .table)) (a .from) (a .code) End (c .enum-told2 .given .1) (none-shown (now (a .table)) (a .from))
 
 same-length-2 : tie.Need-same-length-2
 same-length-2 c = search needs
 
 returns-3 : tie.Need-returns-3
-returns-3 c = let a = c .before .before .before .before .before .before .before .before .args in values-of (orderOf (a .order)) (now (a .body)) (now (a .table)) (a .from) (a .code) Container (c .before .before .before .before .enum-told3 .given .1) (c .before .before .read-to-end .ensures ∙ ap (shownOver (now (a .table)) (a .from)) (front-is (orderOf (a .order)) (now (a .body)) (a .code)))
+returns-3 c = let a = c .before .before .before .before .before .before .before .before .args in values-of (orderOf (a .order)) (now (a .body)) (now (a .table)) (a .from) (a .code) Container (c .before .before .before .before .enum-told3 .given .1) (c .before .before .read-container .ensures)
 
 same-length-3 : tie.Need-same-length-3
 same-length-3 c = search needs
@@ -75,7 +73,7 @@ read-tag-values-spec =
     pack-bytes-requires
     enum-told-2
     enum-told-3
-    read-to-end-requires
+    read-container-requires
     enum-told-4
     read-body-requires
     enum-told-5

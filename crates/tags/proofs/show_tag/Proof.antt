@@ -8,7 +8,7 @@ use lib.ListN.{length}
 use Rattle.format.specs.Tests.{pick}
 use Rattle.format.specs.FileAndTags.{isRead, stateOf}
 use Rattle.classes.specs.Classes.{bare}
-use Rattle.tags.specs.Shown.{valuesOf}
+use Rattle.tags.specs.Shown.{valuesOf, listOf}
 use Rattle.tags.proofs.TagLaws.{index-le, headed-stored, headed-out}
 use borrow.Author.Needs.{needs}
 use Rattle.tags.proofs.show_tag.Statement.{statement}
@@ -32,7 +32,7 @@ same-length c = search needs
 
 returns : tie.Need-returns
 returns c = let a = c .before .before .before .before .before .before .before .args in
-    headed-out (now (a .table)) (a .from) (a .code) (stateOf (bare (a .class)) (a .size) (length (now (a .body)))) (valuesOf (orderOf (a .order)) (a .class) (a .code) (now (a .body))) (c .before .before .before .read-tag-values .result) (c .before .before .before .read-tag-values .ensures) (c .if1 .taken)
+    headed-out (now (a .table)) (a .from) (a .code) (stateOf (bare (a .class)) (a .size) (length (now (a .body)))) (valuesOf (orderOf (a .order)) (a .class) (a .code) (now (a .body))) (listOf (orderOf (a .order)) (a .class) (a .code) (now (a .body))) (c .before .before .before .read-tag-values .result) (c .before .before .before .read-tag-values .ensures) (c .if1 .taken)
 
 cast-long-on-short : tie.Need-cast-long-on-short
 cast-long-on-short c = search needs
@@ -65,7 +65,7 @@ sub-put : tie.Need-sub-put
 sub-put c =
     let a = c .before .before .before .before .before .before .before .before .before .before .before .before .before .before .before .before .before .before .before .args in
     let shown = c .before .before .before .before .before .before .before .before .before .before .before .before .before .before .before .read-tag-values in
-    omega (arith, c .index-behind .ensures, index-le (now (a .table)) (a .from + 3) (valuesOf (orderOf (a .order)) (a .class) (a .code) (now (a .body))) (shown .result) (shown .ensures))
+    omega (arith, c .index-behind .ensures, index-le (now (a .table)) (a .from + 3) (valuesOf (orderOf (a .order)) (a .class) (a .code) (now (a .body))) (shown .result) (shown .ensures .left))
 
 put-requires-3 : tie.Need-put-requires-3
 put-requires-3 c κs = search needs
@@ -77,7 +77,7 @@ returns-2 : tie.Need-returns-2
 returns-2 c =
     let a = c .before .before .before .before .before .before .before .before .before .before .before .before .before .before .before .before .before .before .before .before .before .before .args in
     let shown = c .before .before .before .before .before .before .before .before .before .before .before .before .before .before .before .before .before .before .read-tag-values in
-    headed-stored (now (a .table)) (a .from) (a .code) (stateOf (bare (a .class)) (a .size) (length (now (a .body)))) (valuesOf (orderOf (a .order)) (a .class) (a .code) (now (a .body))) (shown .result) (shown .ensures)
+    headed-stored (now (a .table)) (a .from) (a .code) (stateOf (bare (a .class)) (a .size) (length (now (a .body)))) (valuesOf (orderOf (a .order)) (a .class) (a .code) (now (a .body))) (listOf (orderOf (a .order)) (a .class) (a .code) (now (a .body))) (shown .result) (shown .ensures)
     (c .before .before .before .before .before .before .before .before .before .before .before .put .ensures) (c .before .before .before .before .before .before .before .before .before .before .before .before .before .state .ensures ∙ ap (λ (g : Bool). isRead (bare (a .class)) + pick g 2 0) (c .before .before .before .before .before .before .before .before .before .before .before .before .before .before .long-on-short .ensures)) (c .before .before .before .before .before .before .before .put2 .ensures) (ap (λ (z : ℕ). z - (a .from + 3)) (c .before .before .before .index-behind .ensures)) (c .before .before .put3 .ensures)
 
 pub show-tag-spec : {M : Type 1} → statement M

@@ -1,72 +1,76 @@
 use denote.Ref.{now}
-use mathlib.Core.Path.{refl}
-use native.Mathlib.Omega.{arith}
-use borrow.Author.Needs.{needs}
 use Rattle.bits.specs.Places.{orderOf}
-use Rattle.format.specs.Formats.{times}
-use Rattle.format.specs.Bodies.{value}
-use Rattle.format.proofs.SizeLaws.{fair-value}
-use Rattle.attributes.specs.Rows.{typeOf}
-use Rattle.table.proofs.RunLaws.{Going, going-size, going-next, going-stop, going-done, times-more, times-zero}
+use Rattle.attributes.specs.declared.DataType.the-variants.{Float, Point}
+use Rattle.values.proofs.ValueLaws.{in-turn-of, points-are}
+use borrow.Author.Needs.{needs}
 use Rattle.values.proofs.read_in_turn.Statement.{statement}
 use Rattle.values.proofs.read_in_turn.Tie as tie
 use Rattle.values.proofs.read_in_turn.Reads as reads
 use Rattle.values.proofs.read_in_turn.Lts as lts
-use Rattle.values.proofs.read_value.Reads as read-value-reads
+use Rattle.table.proofs.in_turn.read_floats.Reads as read-floats-reads
+use Rattle.values.proofs.read_each.Reads as read-each-reads
 
-abbrev Inv-loop : tie.InvT-loop
-Inv-loop order what count body table₀ from place₀ index₀ left₀ table place index left = Going (orderOf order) body table₀ from (times count (value (typeOf what))) (place₀ .0) table (place .0) index (times left (value (typeOf what)))
-
-abbrev μ-loop : tie.MeasureT-loop
-μ-loop order what count body table₀ from place₀ index₀ left₀ table place index left = left
-
-loop-holds : tie.Need-loop-holds Inv-loop μ-loop
-loop-holds c = record { size = refl; same = refl; fits = c .before .before .pre }
-
-read-value-requires : tie.Need-read-value-requires Inv-loop μ-loop
-read-value-requires c κs = c .before .before .loop .inv .fits
-
-enum-known-r : tie.Need-enum-known-r Inv-loop μ-loop
-enum-known-r c = search needs
-
-enum-told : tie.Need-enum-told Inv-loop μ-loop
+-- src/lib.rt:330:80
+enum-told : tie.Need-enum-told
 enum-told c = search needs
 
-same-length : tie.Need-same-length Inv-loop μ-loop
-same-length c = going-size (orderOf (c .before .before .before .before .before .before .before .before .before .before .args .order)) (c .before .before .before .before .before .before .before .loop .inv) (times-more (c .before .before .before .before .before .before .before .loop .left) (value (typeOf (c .before .before .before .before .before .before .before .before .before .before .args .what))) (c .before .before .before .before .before .before .loop-test .taken)) (c .before .before .before .before .read-value .ensures)
+-- src/lib.rt:330:28
+read-floats-requires : tie.Need-read-floats-requires
+read-floats-requires c κs = search needs
 
-returns : tie.Need-returns Inv-loop μ-loop
-returns c = going-stop (orderOf (c .before .before .before .before .before .before .before .before .before .before .args .order)) (c .before .before .before .before .before .before .before .loop .inv) (times-more (c .before .before .before .before .before .before .before .loop .left) (value (typeOf (c .before .before .before .before .before .before .before .before .before .before .args .what))) (c .before .before .before .before .before .before .loop-test .taken)) (c .enum-told .given .1) (c .before .before .before .before .read-value .ensures)
+-- src/lib.rt:331:63
+enum-told-2 : tie.Need-enum-told-2
+enum-told-2 c = search needs
 
-sub-left : tie.Need-sub-left Inv-loop μ-loop
-sub-left c = omega arith
+-- src/lib.rt:331:63
+mul-read-floats : tie.Need-mul-read-floats
+mul-read-floats c = search needs
 
-loop-less : tie.Need-loop-less Inv-loop μ-loop
-loop-less c = omega arith
+-- src/lib.rt:331:28
+read-floats-requires-2 : tie.Need-read-floats-requires-2
+read-floats-requires-2 c κs = search needs
 
-loop-again : tie.Need-loop-again Inv-loop μ-loop
-loop-again c = going-next (orderOf (c .before .before .before .before .before .before .before .before .before .before .before .args .order)) (c .before .before .before .before .before .before .before .before .loop .inv) (times-more (c .before .before .before .before .before .before .before .before .loop .left) (value (typeOf (c .before .before .before .before .before .before .before .before .before .before .before .args .what))) (c .before .before .before .before .before .before .before .loop-test .taken)) (fair-value (orderOf (c .before .before .before .before .before .before .before .before .before .before .before .args .order)) (typeOf (c .before .before .before .before .before .before .before .before .before .before .before .args .what))) (c .before .r .given .1) (c .before .before .before .before .before .read-value .ensures)
+-- src/lib.rt:332:14
+read-each-requires : tie.Need-read-each-requires
+read-each-requires c κs = search needs
 
-same-length-2 : tie.Need-same-length-2 Inv-loop μ-loop
-same-length-2 c = c .before .loop .inv .size
+-- src/lib.rt:317:1
+same-length : tie.Need-same-length
+same-length c = search needs
 
-returns-2 : tie.Need-returns-2 Inv-loop μ-loop
-returns-2 c = going-done (orderOf (c .before .before .before .before .args .order)) (c .before .loop .inv) (times-zero (c .before .loop .left) (value (typeOf (c .before .before .before .before .args .what))) (omega arith))
+-- src/lib.rt:317:1
+returns : tie.Need-returns
+returns c = let a = c .before .before .before .before .before .before .before .before .args in in-turn-of (orderOf (a .order)) (now (a .body)) (now (a .table)) (a .from) (a .count) (a .at .0) Float (c .before .before .before .before .enum-told .given .1) (c .before .before .read-floats .ensures)
+
+-- src/lib.rt:317:1
+same-length-2 : tie.Need-same-length-2
+same-length-2 c = search needs
+
+-- src/lib.rt:317:1
+returns-2 : tie.Need-returns-2
+returns-2 c = let a = c .before .before .before .before .before .before .before .before .args in in-turn-of (orderOf (a .order)) (now (a .body)) (now (a .table)) (a .from) (a .count) (a .at .0) Point (c .before .before .before .before .enum-told2 .given .1) (points-are (orderOf (a .order)) (now (a .body)) (now (a .table)) (a .from) (a .count) (a .at .0) (c .before .before .read-floats2 .ensures))
+
+-- src/lib.rt:317:1
+same-length-3 : tie.Need-same-length-3
+same-length-3 c = search needs
+
+-- src/lib.rt:317:1
+returns-3 : tie.Need-returns-3
+returns-3 c = search needs
 
 pub read-in-turn-spec : {M : Type 1} → statement M
 read-in-turn-spec =
     tie.close
     (tie.spec
-    Inv-loop
-    μ-loop
-    loop-holds
-    read-value-requires
-    enum-known-r
     enum-told
+    read-floats-requires
+    enum-told-2
+    mul-read-floats
+    read-floats-requires-2
+    read-each-requires
     same-length
     returns
-    sub-left
-    loop-less
-    loop-again
     same-length-2
-    returns-2)
+    returns-2
+    same-length-3
+    returns-3)

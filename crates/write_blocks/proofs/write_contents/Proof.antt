@@ -7,24 +7,24 @@ use borrow.Author.Needs.{needs}
 use Rattle.bits.specs.Places.{orderOf}
 use Rattle.attributes.specs.Rows.{attributeOf, rowsFrom}
 use Rattle.attributes.proofs.FlagLaws.{rowAt, rows-next}
-use Rattle.write_blocks.proofs.FillLaws.{Filling, no-rows, fill-start, fill-short, fill-flag, fill-gone, fill-next, fill-done}
+use Rattle.write_blocks.proofs.FillLaws.{Filling, fill-start, fill-short, fill-flag, fill-gone, fill-next, fill-done, from-first, none-after}
 use Rattle.write_blocks.proofs.write_contents.Statement.{statement}
 use Rattle.write_blocks.proofs.write_contents.Tie as tie
 
 abbrev Inv-loop : tie.InvT-loop
-Inv-loop order values out₀ attributes end flags₀ cur₀ index₀ row₀ out flags cur index row = (row₀ ≤ row) × (row ≤ end) × Filling (orderOf order) (rowsFrom row₀ end) values out₀ cur₀ out flags cur (row - row₀) index (rowsFrom row end)
+Inv-loop order values out₀ rows count flags₀ cur₀ index₀ row₀ out flags cur index row = (row ≤ count) × Filling (orderOf order) (rowsFrom rows 0 count) values out₀ cur₀ out flags cur index (rowsFrom rows row (count - row))
 
 abbrev μ-loop : tie.MeasureT-loop
-μ-loop order values out₀ attributes end flags₀ cur₀ index₀ row₀ out flags cur index row = end - row
+μ-loop order values out₀ rows count flags₀ cur₀ index₀ row₀ out flags cur index row = count - row
 
 loop-holds : tie.Need-loop-holds Inv-loop μ-loop
-loop-holds c = let a = c .before .before .args in (omega arith, c .before .before .pre .0 .up, fill-start (orderOf (a .order)) (rowsFrom (a .rows .start) (a .rows .end)) (now (a .values)) (now (a .out)) (a .sink) (a .rows .start - a .rows .start) (c .before .before .pre .1))
+loop-holds c = let a = c .before .before .before .args in (omega arith, from-first (a .block .rows) (a .block .count) (fill-start (orderOf (a .order)) (rowsFrom (a .block .rows) 0 (a .block .count)) (now (a .values)) (now (a .out)) (a .sink) (c .before .before .before .pre .1 .few) (c .before .before .before .pre .2)))
 
 same-length : tie.Need-same-length Inv-loop μ-loop
-same-length c = c .before .before .loop .inv .2 .size
+same-length c = c .before .before .loop .inv .1 .size
 
 returns : tie.Need-returns Inv-loop μ-loop
-returns c = (fill-short (c .before .before .loop .inv .2) (attributeOf (rowAt (c .before .before .loop .row))) (rowsFrom (c .before .before .loop .row + 1) (c .before .before .before .before .before .args .rows .end)) (rows-next (c .before .loop-test .taken) (c .before .before .before .before .before .pre .0 .inside)) (omega (arith, c .if1 .taken)), tt)
+returns c = (fill-short (c .before .before .loop .inv .1) (attributeOf (rowAt (c .before .before .before .before .before .before .args .block .rows) (c .before .before .loop .row))) (rowsFrom (c .before .before .before .before .before .before .args .block .rows) (c .before .before .loop .row + 1) (c .before .before .before .before .before .before .args .block .count - (c .before .before .loop .row + 1))) (rows-next (c .before .before .before .before .before .before .args .block .rows) (c .before .loop-test .taken)) (omega (arith, c .if1 .taken)), tt)
 
 mul-number : tie.Need-mul-number Inv-loop μ-loop
 mul-number c = search needs
@@ -33,13 +33,13 @@ shared-slice-read-number : tie.Need-shared-slice-read-number Inv-loop μ-loop
 shared-slice-read-number c = search needs
 
 mul-attribute : tie.Need-mul-attribute Inv-loop μ-loop
-mul-attribute c = search needs
+mul-attribute c = omega (arith, c .before .before .before .before .before .before .before .pre .0, c .before .before .loop-test .taken)
 
 array-copy-out-attribute : tie.Need-array-copy-out-attribute Inv-loop μ-loop
-array-copy-out-attribute c = omega (arith, c .before .before .before .before .before .before .pre .0 .inside, c .before .before .loop-test .taken)
+array-copy-out-attribute c = omega (arith, c .before .before .before .before .before .before .before .pre .0, c .before .before .loop-test .taken)
 
 add-flags-requires : tie.Need-add-flags-requires Inv-loop μ-loop
-add-flags-requires c κs = (c .before .before .before .before .loop .inv .2 .held, omega (arith, c .before .before .before .before .loop .inv .2 .few, c .before .before .before .before .loop .inv .0, c .before .before .before .loop-test .taken, c .before .before .before .before .before .before .before .pre .0 .few))
+add-flags-requires c κs = (c .before .before .before .before .loop .inv .1 .held, omega (arith, c .before .before .before .before .loop .inv .1 .few))
 
 enum-known-flagged : tie.Need-enum-known-flagged Inv-loop μ-loop
 enum-known-flagged c = search needs
@@ -48,16 +48,16 @@ enum-told : tie.Need-enum-told Inv-loop μ-loop
 enum-told c = search needs
 
 same-length-2 : tie.Need-same-length-2 Inv-loop μ-loop
-same-length-2 c = c .before .before .before .before .before .before .before .loop .inv .2 .size
+same-length-2 c = c .before .before .before .before .before .before .before .loop .inv .1 .size
 
 returns-2 : tie.Need-returns-2 Inv-loop μ-loop
-returns-2 c = (fill-flag (c .before .before .before .before .before .before .before .loop .inv .2) (attributeOf (rowAt (c .before .before .before .before .before .before .before .loop .row))) (rowsFrom (c .before .before .before .before .before .before .before .loop .row + 1) (c .before .before .before .before .before .before .before .before .before .before .args .rows .end)) (rows-next (c .before .before .before .before .before .before .loop-test .taken) (c .before .before .before .before .before .before .before .before .before .before .pre .0 .inside)) (omega (arith, c .before .before .before .before .before .if1 .left)) (c .before .before .add-flags .result) (c .before .before .add-flags .ensures) (c .enum-told .given .1), tt)
+returns-2 c = (fill-flag (c .before .before .before .before .before .before .before .loop .inv .1) (attributeOf (rowAt (c .before .before .before .before .before .before .before .before .before .before .before .args .block .rows) (c .before .before .before .before .before .before .before .loop .row))) (rowsFrom (c .before .before .before .before .before .before .before .before .before .before .before .args .block .rows) (c .before .before .before .before .before .before .before .loop .row + 1) (c .before .before .before .before .before .before .before .before .before .before .before .args .block .count - (c .before .before .before .before .before .before .before .loop .row + 1))) (rows-next (c .before .before .before .before .before .before .before .before .before .before .before .args .block .rows) (c .before .before .before .before .before .before .loop-test .taken)) (omega (arith, c .before .before .before .before .before .if1 .left)) (c .before .before .add-flags .result) (c .before .before .add-flags .ensures) (c .enum-told .given .1), tt)
 
 add-write-content : tie.Need-add-write-content Inv-loop μ-loop
 add-write-content c = search needs
 
 write-content-requires : tie.Need-write-content-requires Inv-loop μ-loop
-write-content-requires c κs = c .before .before .before .before .before .before .before .before .before .loop .inv .2 .fine
+write-content-requires c κs = c .before .before .before .before .before .before .before .before .before .loop .inv .1 .fine
 
 enum-known-r : tie.Need-enum-known-r Inv-loop μ-loop
 enum-known-r c = search needs
@@ -66,25 +66,25 @@ enum-told-2 : tie.Need-enum-told-2 Inv-loop μ-loop
 enum-told-2 c = search needs
 
 same-length-3 : tie.Need-same-length-3 Inv-loop μ-loop
-same-length-3 c = c .before .before .before .before .write-content .kept .1 .1 .1 .0 ∙ c .before .before .before .before .before .before .before .before .before .before .before .before .before .before .loop .inv .2 .size
+same-length-3 c = c .before .before .before .before .write-content .kept .1 .1 .1 .0 ∙ c .before .before .before .before .before .before .before .before .before .before .before .before .before .before .loop .inv .1 .size
 
 returns-3 : tie.Need-returns-3 Inv-loop μ-loop
-returns-3 c = (fill-gone (c .before .before .before .before .before .before .before .before .before .before .before .before .before .before .loop .inv .2) (attributeOf (rowAt (c .before .before .before .before .before .before .before .before .before .before .before .before .before .before .loop .row))) (rowsFrom (c .before .before .before .before .before .before .before .before .before .before .before .before .before .before .loop .row + 1) (c .before .before .before .before .before .before .before .before .before .before .before .before .before .before .before .before .before .args .rows .end)) (rows-next (c .before .before .before .before .before .before .before .before .before .before .before .before .before .loop-test .taken) (c .before .before .before .before .before .before .before .before .before .before .before .before .before .before .before .before .before .pre .0 .inside)) (omega (arith, c .before .before .before .before .before .before .before .before .before .before .before .before .if1 .left)) (c .before .before .before .before .before .before .before .before .before .add-flags .result) (c .before .before .before .before .before .before .before .before .before .add-flags .ensures) (c .before .before .before .before .write-content .last .1 .1 .1 .0) (c .before .before .before .before .write-content .result) (c .before .before .before .before .write-content .ensures) (c .enum-told2 .given .1), tt)
+returns-3 c = (fill-gone (c .before .before .before .before .before .before .before .before .before .before .before .before .before .before .loop .inv .1) (attributeOf (rowAt (c .before .before .before .before .before .before .before .before .before .before .before .before .before .before .before .before .before .before .args .block .rows) (c .before .before .before .before .before .before .before .before .before .before .before .before .before .before .loop .row))) (rowsFrom (c .before .before .before .before .before .before .before .before .before .before .before .before .before .before .before .before .before .before .args .block .rows) (c .before .before .before .before .before .before .before .before .before .before .before .before .before .before .loop .row + 1) (c .before .before .before .before .before .before .before .before .before .before .before .before .before .before .before .before .before .before .args .block .count - (c .before .before .before .before .before .before .before .before .before .before .before .before .before .before .loop .row + 1))) (rows-next (c .before .before .before .before .before .before .before .before .before .before .before .before .before .before .before .before .before .before .args .block .rows) (c .before .before .before .before .before .before .before .before .before .before .before .before .before .loop-test .taken)) (omega (arith, c .before .before .before .before .before .before .before .before .before .before .before .before .if1 .left)) (c .before .before .before .before .before .before .before .before .before .add-flags .result) (c .before .before .before .before .before .before .before .before .before .add-flags .ensures) (c .before .before .before .before .write-content .last .1 .1 .1 .0) (c .before .before .before .before .write-content .result) (c .before .before .before .before .write-content .ensures) (c .enum-told2 .given .1), tt)
 
 add-row : tie.Need-add-row Inv-loop μ-loop
-add-row c = omega (arith, c .before .before .before .before .before .before .before .before .before .before .before .before .before .before .before .before .before .before .pre .0 .inside, c .before .before .before .before .before .before .before .before .before .before .before .before .before .before .loop-test .taken)
+add-row c = omega (arith, c .before .before .before .before .before .before .before .before .before .before .before .before .before .before .before .before .before .before .before .pre .0, c .before .before .before .before .before .before .before .before .before .before .before .before .before .before .loop-test .taken)
 
 loop-less : tie.Need-loop-less Inv-loop μ-loop
 loop-less c = omega (arith, c .before .before .before .before .before .before .before .before .before .before .before .before .before .before .loop-test .taken)
 
 loop-again : tie.Need-loop-again Inv-loop μ-loop
-loop-again c = (omega (arith, c .before .before .before .before .before .before .before .before .before .before .before .before .before .before .before .loop .inv .0), omega (arith, c .before .before .before .before .before .before .before .before .before .before .before .before .before .before .loop-test .taken), fill-next (c .before .before .before .before .before .before .before .before .before .before .before .before .before .before .before .loop .inv .2) (attributeOf (rowAt (c .before .before .before .before .before .before .before .before .before .before .before .before .before .before .before .loop .row))) (rowsFrom (c .before .before .before .before .before .before .before .before .before .before .before .before .before .before .before .loop .row + 1) (c .before .before .before .before .before .before .before .before .before .before .before .before .before .before .before .before .before .before .args .rows .end)) (rows-next (c .before .before .before .before .before .before .before .before .before .before .before .before .before .before .loop-test .taken) (c .before .before .before .before .before .before .before .before .before .before .before .before .before .before .before .before .before .before .pre .0 .inside)) (omega (arith, c .before .before .before .before .before .before .before .before .before .before .before .before .before .if1 .left)) (c .before .before .before .before .before .before .before .before .before .before .add-flags .result) (c .before .before .before .before .before .before .before .before .before .before .add-flags .ensures) (c .before .before .before .before .before .write-content .last .1 .1 .1 .0) (c .before .before .before .before .before .write-content .result) (c .before .before .before .before .before .write-content .ensures) (c .before .before .before .before .before .before .before .before .flagged .given .0 .0) (c .before .r .given .0 .0) (c .before .r .given .0 .1 .0) (c .before .before .before .before .before .before .before .before .before .before .before .before .before .before .before .loop .row + 1 - c .before .before .before .before .before .before .before .before .before .before .before .before .before .before .before .before .before .before .args .rows .start) (c .before .before .before .before .before .before .before .before .flagged .given .1) (c .before .r .given .1) (c .before .before .before .before .before .write-content .kept .1 .1 .1 .0) (omega (arith, c .before .before .before .before .before .before .before .before .before .before .before .before .before .before .before .loop .inv .0)))
+loop-again c = (omega (arith, c .before .before .before .before .before .before .before .before .before .before .before .before .before .before .loop-test .taken), fill-next (c .before .before .before .before .before .before .before .before .before .before .before .before .before .before .before .loop .inv .1) (attributeOf (rowAt (c .before .before .before .before .before .before .before .before .before .before .before .before .before .before .before .before .before .before .before .args .block .rows) (c .before .before .before .before .before .before .before .before .before .before .before .before .before .before .before .loop .row))) (rowsFrom (c .before .before .before .before .before .before .before .before .before .before .before .before .before .before .before .before .before .before .before .args .block .rows) (c .before .before .before .before .before .before .before .before .before .before .before .before .before .before .before .loop .row + 1) (c .before .before .before .before .before .before .before .before .before .before .before .before .before .before .before .before .before .before .before .args .block .count - (c .before .before .before .before .before .before .before .before .before .before .before .before .before .before .before .loop .row + 1))) (rows-next (c .before .before .before .before .before .before .before .before .before .before .before .before .before .before .before .before .before .before .before .args .block .rows) (c .before .before .before .before .before .before .before .before .before .before .before .before .before .before .loop-test .taken)) (omega (arith, c .before .before .before .before .before .before .before .before .before .before .before .before .before .if1 .left)) (c .before .before .before .before .before .before .before .before .before .before .add-flags .result) (c .before .before .before .before .before .before .before .before .before .before .add-flags .ensures) (c .before .before .before .before .before .write-content .last .1 .1 .1 .0) (c .before .before .before .before .before .write-content .result) (c .before .before .before .before .before .write-content .ensures) (c .before .before .before .before .before .before .before .before .flagged .given .0 .0) (c .before .r .given .0 .0) (c .before .r .given .0 .1 .0) (c .before .before .before .before .before .before .before .before .flagged .given .1) (c .before .r .given .1) (c .before .before .before .before .before .write-content .kept .1 .1 .1 .0))
 
 same-length-4 : tie.Need-same-length-4 Inv-loop μ-loop
-same-length-4 c = c .before .loop .inv .2 .size
+same-length-4 c = c .before .loop .inv .1 .size
 
 returns-4 : tie.Need-returns-4 Inv-loop μ-loop
-returns-4 c = (fill-done (c .before .loop .inv .2) (no-rows (c .before .loop .row) (c .before .before .before .before .args .rows .end) (omega (arith, c .before .loop .inv .1, c .loop-test .left))), (c .before .loop .inv .2 .held, omega (arith, c .before .loop .inv .2 .few, c .before .loop .inv .0, c .before .loop .inv .1, c .before .before .before .before .pre .0 .few), c .before .loop .inv .2 .fine))
+returns-4 c = (fill-done (c .before .loop .inv .1) (none-after (c .before .before .before .before .before .args .block .rows) (c .before .before .before .before .before .args .block .count) (c .before .loop .row) (c .loop-test .left)), (c .before .loop .inv .1 .held, omega (arith, c .before .loop .inv .1 .few), c .before .loop .inv .1 .fine))
 
 pub write-contents-spec : {M : Type 1} → statement M
 write-contents-spec =

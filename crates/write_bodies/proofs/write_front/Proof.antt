@@ -1,29 +1,53 @@
--- `write_bodies::write_front` meets its contract.
-use Prim.Native.Nat.{_*_}
-use mathlib.Core.Path.{refl}
 use denote.Ref.{now}
+use mathlib.Core.Path.{sym, _∙_}
 use Rattle.bits.specs.Places.{orderOf}
-use Rattle.fixed.specs.Fixed.{fixedOf}
-use Rattle.spelling.proofs.EndLaws.{lies-over, start-fine, front-fine, front-done}
+use Rattle.write_bodies.proofs.BodyLaws.{body-fixed}
 use borrow.Author.Needs.{needs}
 use Rattle.write_bodies.proofs.write_front.Statement.{statement}
 use Rattle.write_bodies.proofs.write_front.Tie as tie
+use Rattle.write_bodies.proofs.write_front.Reads as reads
+use Rattle.write_bodies.proofs.write_front.Lts as lts
+use Rattle.bodies.proofs.is_block.Reads as is-block-reads
+use Rattle.write_bodies.proofs.write_body.Reads as write-body-reads
+use Rattle.write_bodies.proofs.write_items.Reads as write-items-reads
 
-returns : tie.Need-returns
-returns c = let a = c .before .before .before .before .args in lies-over (now (a .out)) (a .at .0) _ (c .if1 .taken)
 
-write-fixed-requires : tie.Need-write-fixed-requires
-write-fixed-requires c κs = c .before .if1 .left
+-- src/lib.rt:49:8
+is-block-requires : tie.Need-is-block-requires
+is-block-requires c κs = search needs
 
-conclude-requires : tie.Need-conclude-requires
-conclude-requires c κs = let a = c .before .before .before .before .before .before .before .before .before .args in front-fine (orderOf (a .order)) (now (a .values)) (now (a .out)) (record { place = record { 0 = 8 * a .at .0 }; part = 0 }) (fixedOf (a .code)) (c .before .before .before .write-fixed .last .1 .1 .0) (c .before .before .before .write-fixed .result) (start-fine (a .at .0) _ refl (c .before .before .before .before .before .if1 .left)) (c .before .before .before .write-fixed .ensures)
+-- src/lib.rt:50:9
+write-body-requires : tie.Need-write-body-requires
+write-body-requires c κs = search needs
 
+-- src/lib.rt:50:9
 same-length : tie.Need-same-length
 same-length c = search needs
 
+-- src/lib.rt:50:9
+returns : tie.Need-returns
+returns c = c .before .before .write-body .ensures
+
+-- src/lib.rt:52:5
+write-items-requires : tie.Need-write-items-requires
+write-items-requires c κs = search needs
+
+-- src/lib.rt:45:1
+same-length-2 : tie.Need-same-length-2
+same-length-2 c = search needs
+
+-- src/lib.rt:45:1
 returns-2 : tie.Need-returns-2
-returns-2 c = let a = c .before .before .before .before .before .before .before .before .before .before .before .before .args in front-done (orderOf (a .order)) (fixedOf (a .code)) (now (a .values)) (now (a .out)) (a .at .0) refl (c .before .before .conclude .ensures) (c .before .before .before .before .before .before .write-fixed .ensures)
+returns-2 c = let a = c .before .before .before .before .before .before .before .before .args in body-fixed (orderOf (a .order)) (now (a .values)) (now (a .out)) (a .at .0) (a .code) (sym (c .before .before .before .before .before .is-block .ensures) ∙ c .before .before .before .before .if1 .left) (c .before .before .write-items .ensures)
 
 pub write-front-spec : {M : Type 1} → statement M
 write-front-spec =
-    tie.close (tie.spec returns write-fixed-requires conclude-requires same-length returns-2)
+    tie.close
+    (tie.spec
+    is-block-requires
+    write-body-requires
+    same-length
+    returns
+    write-items-requires
+    same-length-2
+    returns-2)

@@ -1,70 +1,77 @@
--- `write_values::write_in_turn` meets its contract. The loop's invariant: the values are those that are left from here on.
-use Prim.Native.Nat.{_-_}
-use mathlib.Core.Path.{_∙_}
-use native.Mathlib.Omega.{arith}
-use borrow.Author.Needs.{needs}
 use denote.Ref.{now}
 use Rattle.bits.specs.Places.{orderOf}
-use Rattle.format.specs.Formats.{times}
-use Rattle.format.specs.Bodies.{value}
-use Rattle.attributes.specs.Rows.{typeOf}
-use Rattle.spelling.proofs.RunLaws.{Going, going-none, going-stop, going-next, going-over, times-more, times-over}
+use Rattle.sink.specs.Laying.{at}
+use Rattle.attributes.specs.declared.DataType.the-variants.{Float, Point}
+use Rattle.write_values.proofs.ValueLaws.{in-turn-of, points-are}
+use borrow.Author.Needs.{needs}
 use Rattle.write_values.proofs.write_in_turn.Statement.{statement}
 use Rattle.write_values.proofs.write_in_turn.Tie as tie
+use Rattle.write_values.proofs.write_in_turn.Reads as reads
+use Rattle.write_values.proofs.write_in_turn.Lts as lts
+use Rattle.spelling.proofs.in_turn.write_floats.Reads as write-floats-reads
+use Rattle.write_values.proofs.write_each.Reads as write-each-reads
 
-abbrev Inv-loop : tie.InvT-loop
-Inv-loop order what count out₀ values from cur₀ index₀ left₀ out cur index left = Going (orderOf order) values out₀ cur₀ from (times count (value (typeOf what))) out cur index (times left (value (typeOf what)))
-
-abbrev μ-loop : tie.MeasureT-loop
-μ-loop order what count out₀ values from cur₀ index₀ left₀ out cur index left = left
-
-loop-holds : tie.Need-loop-holds Inv-loop μ-loop
-loop-holds c = going-none (orderOf (c .before .before .args .order)) (now (c .before .before .args .values)) (now (c .before .before .args .out)) (c .before .before .args .sink) (c .before .before .args .from) (times (c .before .before .args .count) (value (typeOf (c .before .before .args .what)))) (c .before .before .pre)
-
-write-value-requires : tie.Need-write-value-requires Inv-loop μ-loop
-write-value-requires c κs = c .before .before .loop .inv .fine
-
-enum-known-r : tie.Need-enum-known-r Inv-loop μ-loop
-enum-known-r c = search needs
-
-enum-told : tie.Need-enum-told Inv-loop μ-loop
+-- src/lib.rt:345:74
+enum-told : tie.Need-enum-told
 enum-told c = search needs
 
-same-length : tie.Need-same-length Inv-loop μ-loop
-same-length c = c .before .before .before .before .write-value .kept .1 .1 .0 ∙ c .before .before .before .before .before .before .before .loop .inv .size
+-- src/lib.rt:345:28
+write-floats-requires : tie.Need-write-floats-requires
+write-floats-requires c κs = search needs
 
-returns : tie.Need-returns Inv-loop μ-loop
-returns c = going-stop (c .before .before .before .before .before .before .before .loop .inv) (value (typeOf (c .before .before .before .before .before .before .before .before .before .before .args .what))) (times (c .before .before .before .before .before .before .before .loop .left - 1) (value (typeOf (c .before .before .before .before .before .before .before .before .before .before .args .what)))) (times-more (value (typeOf (c .before .before .before .before .before .before .before .before .before .before .args .what))) (c .before .before .before .before .before .before .before .loop .left) (c .before .before .before .before .before .before .loop-test .taken)) (c .before .before .before .before .write-value .last .1 .1 .0) (c .before .before .before .before .write-value .result) (c .before .before .before .before .write-value .ensures) (c .enum-told .given .1)
+-- src/lib.rt:348:13
+enum-told-2 : tie.Need-enum-told-2
+enum-told-2 c = search needs
 
-sub-left : tie.Need-sub-left Inv-loop μ-loop
-sub-left c = omega (arith, c .before .before .before .before .before .before .before .loop-test .taken)
+-- src/lib.rt:348:13
+mul-write-floats : tie.Need-mul-write-floats
+mul-write-floats c = search needs
 
-loop-less : tie.Need-loop-less Inv-loop μ-loop
-loop-less c = omega (arith, c .before .before .before .before .before .before .before .loop-test .taken)
+-- src/lib.rt:346:28
+write-floats-requires-2 : tie.Need-write-floats-requires-2
+write-floats-requires-2 c κs = search needs
 
-loop-again : tie.Need-loop-again Inv-loop μ-loop
-loop-again c = going-next (c .before .before .before .before .before .before .before .before .loop .inv) (value (typeOf (c .before .before .before .before .before .before .before .before .before .before .before .args .what))) (times (c .before .before .before .before .before .before .before .before .loop .left - 1) (value (typeOf (c .before .before .before .before .before .before .before .before .before .before .before .args .what)))) (times-more (value (typeOf (c .before .before .before .before .before .before .before .before .before .before .before .args .what))) (c .before .before .before .before .before .before .before .before .loop .left) (c .before .before .before .before .before .before .before .loop-test .taken)) (c .before .before .before .before .before .write-value .last .1 .1 .0) (c .before .before .before .before .before .write-value .result) (c .before .before .before .before .before .write-value .ensures) (c .before .before .before .before .before .write-value .kept .1 .1 .0) (c .before .r .given .0 .0) (c .before .r .given .0 .1 .0) (c .before .r .given .1)
+-- src/lib.rt:354:14
+write-each-requires : tie.Need-write-each-requires
+write-each-requires c κs = search needs
 
-same-length-2 : tie.Need-same-length-2 Inv-loop μ-loop
-same-length-2 c = c .before .loop .inv .size
+-- src/lib.rt:332:1
+same-length : tie.Need-same-length
+same-length c = search needs
 
-returns-2 : tie.Need-returns-2 Inv-loop μ-loop
-returns-2 c = going-over (c .before .loop .inv) (times-over (value (typeOf (c .before .before .before .before .args .what))) (c .before .loop .left) (omega (arith, c .loop-test .left)))
+-- src/lib.rt:332:1
+returns : tie.Need-returns
+returns c = let a = c .before .before .before .before .before .before .before .before .args in in-turn-of (orderOf (a .order)) (now (a .values)) (at (now (a .out)) (a .sink)) (a .from) (a .count) Float (c .before .before .before .before .enum-told .given .1) (c .before .before .write-floats .ensures)
+
+-- src/lib.rt:332:1
+same-length-2 : tie.Need-same-length-2
+same-length-2 c = search needs
+
+-- src/lib.rt:332:1
+returns-2 : tie.Need-returns-2
+returns-2 c = let a = c .before .before .before .before .before .before .before .before .args in in-turn-of (orderOf (a .order)) (now (a .values)) (at (now (a .out)) (a .sink)) (a .from) (a .count) Point (c .before .before .before .before .enum-told2 .given .1) (points-are (orderOf (a .order)) (now (a .values)) (at (now (a .out)) (a .sink)) (a .from) (a .count) (c .before .before .write-floats2 .ensures))
+
+-- src/lib.rt:332:1
+same-length-3 : tie.Need-same-length-3
+same-length-3 c = search needs
+
+-- src/lib.rt:332:1
+returns-3 : tie.Need-returns-3
+returns-3 c = search needs
 
 pub write-in-turn-spec : {M : Type 1} → statement M
 write-in-turn-spec =
     tie.close
     (tie.spec
-    Inv-loop
-    μ-loop
-    loop-holds
-    write-value-requires
-    enum-known-r
     enum-told
+    write-floats-requires
+    enum-told-2
+    mul-write-floats
+    write-floats-requires-2
+    write-each-requires
     same-length
     returns
-    sub-left
-    loop-less
-    loop-again
     same-length-2
-    returns-2)
+    returns-2
+    same-length-3
+    returns-3)

@@ -1,8 +1,10 @@
 -- `write_values::write_value` meets its contract.
 use denote.Ref.{now}
+use mathlib.Core.Path.{sym}
 use Rattle.bits.specs.Places.{orderOf}
 use Rattle.sink.specs.Laying.{at}
-use Rattle.attributes.specs.declared.DataType.the-variants.{U32, Time, Float, Ratio, Bool, Byte, BlendMode, TrackMatteType, MaskMode, Path, Point, AnchorPointGrouping}
+use Rattle.attributes.specs.declared.DataType.the-variants.{U32, Time, Float, Ratio, Bool, Byte, BlendMode, Path, Point, Color, GradientColor, Enum, Dashes, TagBlock}
+use Rattle.spelling.proofs.RunLaws.{ran-nothing}
 use Rattle.write_values.proofs.ValueLaws.{value-of}
 use borrow.Author.Needs.{needs}
 use Rattle.write_values.proofs.write_value.Statement.{statement}
@@ -53,32 +55,44 @@ write-one-requires-6 c κs = search needs
 enum-told-8 : tie.Need-enum-told-8
 enum-told-8 c = search needs
 
-write-one-requires-7 : tie.Need-write-one-requires-7
-write-one-requires-7 c κs = search needs
+write-path-requires : tie.Need-write-path-requires
+write-path-requires c κs = search needs
 
 enum-told-9 : tie.Need-enum-told-9
 enum-told-9 c = search needs
 
-write-one-requires-8 : tie.Need-write-one-requires-8
-write-one-requires-8 c κs = search needs
+write-pair-requires-2 : tie.Need-write-pair-requires-2
+write-pair-requires-2 c κs = search needs
 
 enum-told-10 : tie.Need-enum-told-10
 enum-told-10 c = search needs
 
-write-path-requires : tie.Need-write-path-requires
-write-path-requires c κs = search needs
+write-bytes-requires : tie.Need-write-bytes-requires
+write-bytes-requires c κs = search needs
 
 enum-told-11 : tie.Need-enum-told-11
 enum-told-11 c = search needs
 
-write-pair-requires-2 : tie.Need-write-pair-requires-2
-write-pair-requires-2 c κs = search needs
+write-gradient-requires : tie.Need-write-gradient-requires
+write-gradient-requires c κs = search needs
+
+enum-known-what : tie.Need-enum-known-what
+enum-known-what c = search needs
+
+cast-t41 : tie.Need-cast-t41
+cast-t41 c = search needs
+
+write-one-requires-7 : tie.Need-write-one-requires-7
+write-one-requires-7 c κs = search needs
 
 enum-told-12 : tie.Need-enum-told-12
 enum-told-12 c = search needs
 
-write-one-requires-9 : tie.Need-write-one-requires-9
-write-one-requires-9 c κs = search needs
+write-dashes-requires : tie.Need-write-dashes-requires
+write-dashes-requires c κs = search needs
+
+enum-told-13 : tie.Need-enum-told-13
+enum-told-13 c = search needs
 
 same-length : tie.Need-same-length
 same-length c = search needs
@@ -126,31 +140,40 @@ same-length-8 : tie.Need-same-length-8
 same-length-8 c = search needs
 
 returns-8 : tie.Need-returns-8
-returns-8 c = let a = c .before .before .before .before .before .before .before .before .args in value-of (orderOf (a .order)) (now (a .values)) (at (now (a .out)) (a .sink)) (a .from) TrackMatteType (c .before .before .before .before .enum-told8 .given .1) (c .before .before .write-one7 .ensures)
+returns-8 c = let a = c .before .before .before .before .before .before .before .before .args in value-of (orderOf (a .order)) (now (a .values)) (at (now (a .out)) (a .sink)) (a .from) Path (c .before .before .before .before .enum-told8 .given .1) (c .before .before .write-path .ensures)
 
 same-length-9 : tie.Need-same-length-9
 same-length-9 c = search needs
 
 returns-9 : tie.Need-returns-9
-returns-9 c = let a = c .before .before .before .before .before .before .before .before .args in value-of (orderOf (a .order)) (now (a .values)) (at (now (a .out)) (a .sink)) (a .from) MaskMode (c .before .before .before .before .enum-told9 .given .1) (c .before .before .write-one8 .ensures)
+returns-9 c = let a = c .before .before .before .before .before .before .before .before .args in value-of (orderOf (a .order)) (now (a .values)) (at (now (a .out)) (a .sink)) (a .from) Point (c .before .before .before .before .enum-told9 .given .1) (c .before .before .write-pair2 .ensures)
 
 same-length-10 : tie.Need-same-length-10
 same-length-10 c = search needs
 
 returns-10 : tie.Need-returns-10
-returns-10 c = let a = c .before .before .before .before .before .before .before .before .args in value-of (orderOf (a .order)) (now (a .values)) (at (now (a .out)) (a .sink)) (a .from) Path (c .before .before .before .before .enum-told10 .given .1) (c .before .before .write-path .ensures)
+returns-10 c = let a = c .before .before .before .before .before .before .before .before .args in value-of (orderOf (a .order)) (now (a .values)) (at (now (a .out)) (a .sink)) (a .from) Color (c .before .before .before .before .enum-told10 .given .1) (c .before .before .write-bytes .ensures)
 
 same-length-11 : tie.Need-same-length-11
 same-length-11 c = search needs
 
 returns-11 : tie.Need-returns-11
-returns-11 c = let a = c .before .before .before .before .before .before .before .before .args in value-of (orderOf (a .order)) (now (a .values)) (at (now (a .out)) (a .sink)) (a .from) Point (c .before .before .before .before .enum-told11 .given .1) (c .before .before .write-pair2 .ensures)
+returns-11 c = let a = c .before .before .before .before .before .before .before .before .args in value-of (orderOf (a .order)) (now (a .values)) (at (now (a .out)) (a .sink)) (a .from) GradientColor (c .before .before .before .before .enum-told11 .given .1) (c .before .before .write-gradient .ensures)
 
 same-length-12 : tie.Need-same-length-12
 same-length-12 c = search needs
 
 returns-12 : tie.Need-returns-12
-returns-12 c = let a = c .before .before .before .before .before .before .before .before .args in value-of (orderOf (a .order)) (now (a .values)) (at (now (a .out)) (a .sink)) (a .from) AnchorPointGrouping (c .before .before .before .before .enum-told12 .given .1) (c .before .before .write-one9 .ensures)
+returns-12 c = let a = c .before .before .before .before .before .before .before .before .before .args in value-of (orderOf (a .order)) (now (a .values)) (at (now (a .out)) (a .sink)) (a .from) (Enum (c .before .before .before .before .before .what .given .0 .0)) (c .before .before .before .before .before .what .given .1) (c .before .before .write-one7 .ensures)
+
+same-length-13 : tie.Need-same-length-13
+same-length-13 c = search needs
+
+returns-13 : tie.Need-returns-13
+returns-13 c = let a = c .before .before .before .before .before .before .before .before .args in value-of (orderOf (a .order)) (now (a .values)) (at (now (a .out)) (a .sink)) (a .from) Dashes (c .before .before .before .before .enum-told12 .given .1) (c .before .before .write-dashes .ensures)
+
+returns-14 : tie.Need-returns-14
+returns-14 c = let a = c .before .before .before .before .args in value-of (orderOf (a .order)) (now (a .values)) (at (now (a .out)) (a .sink)) (a .from) TagBlock (c .enum-told13 .given .1) (sym (ran-nothing (orderOf (a .order)) (now (a .values)) (at (now (a .out)) (a .sink)) (a .from) (c .before .before .before .before .pre .1)))
 
 pub write-value-spec : {M : Type 1} → statement M
 write-value-spec =
@@ -171,15 +194,19 @@ write-value-spec =
     enum-told-7
     write-one-requires-6
     enum-told-8
-    write-one-requires-7
-    enum-told-9
-    write-one-requires-8
-    enum-told-10
     write-path-requires
-    enum-told-11
+    enum-told-9
     write-pair-requires-2
+    enum-told-10
+    write-bytes-requires
+    enum-told-11
+    write-gradient-requires
+    enum-known-what
+    cast-t41
+    write-one-requires-7
     enum-told-12
-    write-one-requires-9
+    write-dashes-requires
+    enum-told-13
     same-length
     returns
     same-length-2
@@ -203,4 +230,7 @@ write-value-spec =
     same-length-11
     returns-11
     same-length-12
-    returns-12)
+    returns-12
+    same-length-13
+    returns-13
+    returns-14)

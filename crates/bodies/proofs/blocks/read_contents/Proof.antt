@@ -1,72 +1,84 @@
--- `blocks::read_contents` meets its contract. The loop's invariant: the rows' attributes are what is left from here on.
-use Prim.Native.Nat.{_-_}
-use denote.Ref.{now}
-use mathlib.Core.Path.{refl, _∙_}
 use native.Mathlib.Omega.{arith}
 use borrow.Author.Needs.{needs}
+use denote.Ref.{now}
+use Prim.Native.Nat.{_-_}
+use mathlib.Core.Path.{refl, _∙_}
 use Rattle.bits.specs.Places.{orderOf}
 use Rattle.bodies.proofs.ContentLaws.{Going, rows-next-row, rows-stop, rows-done, rows-start}
 use Rattle.bodies.proofs.blocks.read_contents.Statement.{statement}
 use Rattle.bodies.proofs.blocks.read_contents.Tie as tie
+use Rattle.bodies.proofs.blocks.read_contents.Reads as reads
+use Rattle.bodies.proofs.blocks.read_contents.Lts as lts
+use Rattle.bodies.proofs.blocks.read_attribute.Reads as read-attribute-reads
 
 abbrev Inv-loop : tie.InvT-loop
-Inv-loop order flags body table₀ from attributes start end place₀ index₀ row₀ table place index row = Going (orderOf order) body table₀ flags from start end (place₀ .0) table (place .0) index row
+Inv-loop order flags body table₀ from rows count place₀ index₀ row₀ table place index row = Going (orderOf order) body table₀ flags from rows count (place₀ .0) table (place .0) index row
 
 abbrev μ-loop : tie.MeasureT-loop
-μ-loop order flags body table₀ from attributes start end place₀ index₀ row₀ table place index row = end - row
+μ-loop order flags body table₀ from rows count place₀ index₀ row₀ table place index row = count - row
 
+-- src/blocks.rt:90:5
 loop-holds : tie.Need-loop-holds Inv-loop μ-loop
-loop-holds c = let a = c .before .before .before .args in rows-start (orderOf (a .order)) (now (a .body)) (now (a .table)) (now (a .flags)) (a .from) (a .rows .start) (a .rows .end) (a .at .0) (c .before .before .before .pre .0) (c .before .before .before .pre .2)
+loop-holds c = let a = c .before .before .before .before .args in rows-start (orderOf (a .order)) (now (a .body)) (now (a .table)) (now (a .flags)) (a .from) (a .block .rows) (a .block .count) (a .at .0) (c .before .before .before .before .pre .0) (c .before .before .before .before .pre .2)
 
-sub-flag : tie.Need-sub-flag Inv-loop μ-loop
-sub-flag c = omega (arith, c .before .loop .inv .from)
-
+-- src/blocks.rt:91:20
 mul-flag : tie.Need-mul-flag Inv-loop μ-loop
-mul-flag c = search needs
+mul-flag c = omega (arith, c .before .before .before .before .before .before .pre .0)
 
+-- src/blocks.rt:91:20
 shared-slice-read-flag : tie.Need-shared-slice-read-flag Inv-loop μ-loop
-shared-slice-read-flag c = omega (arith, c .before .before .loop .inv .from, c .before .before .before .before .before .before .pre .0 .few, c .before .before .before .before .before .before .pre .1)
+shared-slice-read-flag c = omega (arith, c .before .before .before .before .before .before .before .pre .0, c .before .before .before .before .before .before .before .pre .1)
 
+-- src/blocks.rt:92:25
 mul-attribute : tie.Need-mul-attribute Inv-loop μ-loop
-mul-attribute c = search needs
+mul-attribute c = omega (arith, c .before .before .before .before .before .before .before .pre .0)
 
+-- src/blocks.rt:92:25
 array-copy-out-attribute : tie.Need-array-copy-out-attribute Inv-loop μ-loop
-array-copy-out-attribute c = omega (arith, c .before .before .before .before .before .before .pre .0 .inside)
+array-copy-out-attribute c = omega (arith, c .before .before .before .before .before .before .before .pre .0)
 
+-- src/blocks.rt:93:13
 read-attribute-requires : tie.Need-read-attribute-requires Inv-loop μ-loop
 read-attribute-requires c κs = (c .before .before .before .before .loop .inv .fits .0, omega (arith, c .before .before .before .before .loop .inv .fits .1))
 
+-- src/blocks.rt:94:23
 enum-known-r : tie.Need-enum-known-r Inv-loop μ-loop
 enum-known-r c = search needs
 
+-- src/blocks.rt:95:13
 enum-told : tie.Need-enum-told Inv-loop μ-loop
 enum-told c = search needs
 
+-- src/blocks.rt:95:13
 same-length : tie.Need-same-length Inv-loop μ-loop
 same-length c = c .before .before .before .before .read-attribute .kept .1 .1 .1 .1 .1 .0 ∙ c .before .before .before .before .before .before .before .before .before .loop .inv .size
 
+-- src/blocks.rt:95:13
 returns : tie.Need-returns Inv-loop μ-loop
-returns c = let a = c .before .before .before .before .before .before .before .before .before .before .before .before .before .args in
-    rows-stop (orderOf (a .order)) (now (a .body)) (now (a .table)) (now (a .flags)) (a .from) (a .rows .start) (a .rows .end) (a .at .0) (c .before .before .before .before .before .before .before .before .loop-test .taken) (c .before .before .before .before .before .before .before .before .before .before .before .before .before .pre .0 .inside)
-    (omega (arith, c .before .before .before .before .before .before .before .before .before .before .before .before .before .pre .0 .few, c .before .before .before .before .before .before .before .before .before .before .before .before .before .pre .1)) refl (c .before .before .before .before .before .before .before .before .before .loop .inv) (c .before .before .before .before .read-attribute .ensures) (c .enum-told .given .1)
+returns c = let a = c .before .before .before .before .before .before .before .before .before .before .before .before .before .before .args in
+    rows-stop (orderOf (a .order)) (now (a .body)) (now (a .table)) (now (a .flags)) (a .from) (a .block .rows) (a .block .count) (a .at .0) (c .before .before .before .before .before .before .before .before .loop-test .taken) (omega (arith, c .before .before .before .before .before .before .before .before .before .before .before .before .before .before .pre .0, c .before .before .before .before .before .before .before .before .before .before .before .before .before .before .pre .1)) refl (c .before .before .before .before .before .before .before .before .before .loop .inv) (c .before .before .before .before .read-attribute .ensures) (c .enum-told .given .1)
 
+-- src/blocks.rt:99:9
 add-row : tie.Need-add-row Inv-loop μ-loop
-add-row c = omega (arith, c .before .before .before .before .before .before .before .before .before .before .before .before .before .before .pre .0 .inside)
+add-row c = omega (arith, c .before .before .before .before .before .before .before .before .before .before .before .before .before .before .before .pre .0)
 
+-- src/blocks.rt:90:5
 loop-less : tie.Need-loop-less Inv-loop μ-loop
 loop-less c = omega arith
 
+-- src/blocks.rt:90:5
 loop-again : tie.Need-loop-again Inv-loop μ-loop
-loop-again c = let a = c .before .before .before .before .before .before .before .before .before .before .before .before .before .before .args in
-    rows-next-row (orderOf (a .order)) (now (a .body)) (now (a .table)) (now (a .flags)) (a .from) (a .rows .start) (a .rows .end) (a .at .0) (c .before .before .before .before .before .before .before .before .before .loop-test .taken) (c .before .before .before .before .before .before .before .before .before .before .before .before .before .before .pre .0 .inside)
-    (omega (arith, c .before .before .before .before .before .before .before .before .before .before .before .before .before .before .pre .0 .few, c .before .before .before .before .before .before .before .before .before .before .before .before .before .before .pre .1)) refl (c .before .before .before .before .before .before .before .before .before .before .loop .inv) (c .before .before .before .before .before .read-attribute .ensures) (c .before .before .before .before .before .read-attribute .kept .1 .1 .1 .1 .1 .0) (c .before .r .given .1)
+loop-again c = let a = c .before .before .before .before .before .before .before .before .before .before .before .before .before .before .before .args in
+    rows-next-row (orderOf (a .order)) (now (a .body)) (now (a .table)) (now (a .flags)) (a .from) (a .block .rows) (a .block .count) (a .at .0) (c .before .before .before .before .before .before .before .before .before .loop-test .taken) (omega (arith, c .before .before .before .before .before .before .before .before .before .before .before .before .before .before .before .pre .0, c .before .before .before .before .before .before .before .before .before .before .before .before .before .before .before .pre .1)) refl (c .before .before .before .before .before .before .before .before .before .before .loop .inv) (c .before .before .before .before .before .read-attribute .ensures) (c .before .before .before .before .before .read-attribute .kept .1 .1 .1 .1 .1 .0) (c .before .r .given .1)
 
+-- src/blocks.rt:73:1
 same-length-2 : tie.Need-same-length-2 Inv-loop μ-loop
 same-length-2 c = c .before .loop .inv .size
 
+-- src/blocks.rt:73:1
 returns-2 : tie.Need-returns-2 Inv-loop μ-loop
-returns-2 c = let a = c .before .before .before .before .before .args in
-    rows-done (orderOf (a .order)) (now (a .body)) (now (a .table)) (now (a .flags)) (a .from) (a .rows .start) (a .rows .end) (a .at .0) (c .loop-test .left) (c .before .loop .inv)
+returns-2 c = let a = c .before .before .before .before .before .before .args in
+    rows-done (orderOf (a .order)) (now (a .body)) (now (a .table)) (now (a .flags)) (a .from) (a .block .rows) (a .block .count) (a .at .0) (c .loop-test .left) (c .before .loop .inv)
 
 pub read-contents-spec : {M : Type 1} → statement M
 read-contents-spec =
@@ -75,7 +87,6 @@ read-contents-spec =
     Inv-loop
     μ-loop
     loop-holds
-    sub-flag
     mul-flag
     shared-slice-read-flag
     mul-attribute

@@ -1,0 +1,45 @@
+// Floats in turn.
+ghost use mathlib.Core.Path.{_≡_};
+ghost use Rattle.format.specs.Formats.{times};
+ghost use Rattle.format.specs.Items.{float};
+ghost use Rattle.bits.specs.Places.{orderOf};
+ghost use Rattle.sink.specs.Laying.{at as under};
+ghost use Rattle.spelling.specs.Writing.{seen, ran, Fine};
+use crate::Put;
+use crate::spell_next;
+use bits::BytePlace;
+use bits::Order;
+use items::Item;
+use sink::Sink;
+
+// n Floats: once on a whole byte, they stay on whole bytes.
+pub fn write_floats(
+    order: Order,
+    count: usize,
+    out: &mut [u8],
+    sink: Sink,
+    values: &[u64],
+    from: usize,
+) -> Put
+    requires { ⌜ Fine sink ⌝ }
+    ensures { λ r. ⌜ seen (now (out .exit)) r ≡ ran (orderOf order) (now (values .entry)) (under (now (out .entry)) sink) from (times count float) ⌝ }
+{
+    if count == 0 {
+        return Put::Done(sink, from);
+    }
+    let start = sink::align(order, out, sink);
+    let mut byte = start.byte.0;
+    let mut index = from;
+    let mut left = count;
+    while 0 < left {
+        let next = spell_next(Item::Float, out, byte, values, index);
+        if next == 0 {
+            return Put::Impossible;
+        }
+        byte = next;
+        index += 1;
+        left -= 1;
+    }
+    let place = bits::first_bit(BytePlace(byte));
+    Put::Done(Sink { place, part: 0 }, index)
+}

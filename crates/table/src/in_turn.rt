@@ -1,0 +1,78 @@
+// Items of one kind in turn.
+ghost use mathlib.Core.Path.{_≡_};
+ghost use Prim.Native.Nat.{_≤_, _<_, _^_};
+ghost use Rattle.format.specs.Formats.{times};
+ghost use Rattle.format.specs.Items.{run, float};
+ghost use Rattle.items.specs.Kinds.{formatOf};
+ghost use Rattle.table.specs.State.{shownOver};
+ghost use Rattle.table.specs.Run.{runLeaves};
+ghost use Rattle.table.specs.Fields.{Fits};
+ghost use Rattle.bits.specs.Places.{orderOf};
+use crate::Run;
+use crate::read_one;
+use crate::room_for;
+use bits::BitPlace;
+use bits::Order;
+use items::Item;
+
+// n items, one by one.
+pub fn read_items(
+    order: Order,
+    kind: Item,
+    count: usize,
+    body: &[u8],
+    at: BitPlace,
+    table: &mut [u64],
+    from: usize,
+) -> Run
+    requires { ⌜ Fits (now body) (at .0) from ⌝ }
+    ensures { λ r. ⌜ runLeaves (now (table .exit)) r ≡ shownOver (now (table .entry)) from (run (orderOf order) (now (body .entry)) (times count (formatOf kind)) (at .0)) ⌝ }
+{
+    let mut place = at;
+    let mut index = from;
+    let mut left = count;
+    while 0 < left {
+        let r = read_one(order, kind, body, place, table, index);
+        let Run::Done(next, behind) = r else {
+            return r;
+        };
+        place = next;
+        index = behind;
+        left -= 1;
+    }
+    Run::Done(place, index)
+}
+
+// n Floats. Where all of them stand on whole bytes they show whatever these are, so only those are read that there is room for.
+pub fn read_floats(
+    order: Order,
+    count: usize,
+    body: &[u8],
+    at: BitPlace,
+    table: &mut [u64],
+    from: usize,
+) -> Run
+    requires { ⌜ Fits (now body) (at .0) from × (count < 2 ^ 32) ⌝ }
+    ensures { λ r. ⌜ runLeaves (now (table .exit)) r ≡ shownOver (now (table .entry)) from (run (orderOf order) (now (body .entry)) (times count float) (at .0)) ⌝ }
+{
+    let whole = bits::next_byte(at);
+    let bit = whole.bit;
+    let byte = whole.byte;
+    let end = bit.0 + count * 32;
+    if at.0 != bit.0 {
+        return read_items(order, Item::Float, count, body, at, table, from);
+    }
+    if body.len() * 8 < end {
+        return read_items(order, Item::Float, count, body, at, table, from);
+    }
+    let room = room_for(table.len(), from, count);
+    let mut place = byte.0;
+    let mut i = 0;
+    while i < room {
+        let index = from + i;
+        table[index] = items::float_at(body, place);
+        place += 4;
+        i += 1;
+    }
+    Run::Done(BitPlace(end), from + count)
+}
