@@ -11,7 +11,6 @@ use Rattle.bodies.proofs.is_block.Reads as is-block-reads
 use Rattle.write_bodies.proofs.write_body.Reads as write-body-reads
 use Rattle.write_bodies.proofs.write_items.Reads as write-items-reads
 
-
 -- src/lib.rt:49:8
 is-block-requires : tie.Need-is-block-requires
 is-block-requires c κs = search needs
