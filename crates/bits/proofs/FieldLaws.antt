@@ -11,7 +11,7 @@ use lib.Seq.{getD-drop, drop-cons, drop-length}
 use lib.Arith.{digits-div, digits-mod}
 use lib.Pow.{pow-lt, pow-mono}
 use lib.Dec.{leb, ltb, eqb}
-use borrow.Author.Tests.{le-leb, lt-leb, leb-true, ltb-true, ltb-false, ne-eqb}
+use borrow.Author.Tests.{le-leb, lt-leb, leb-true, ltb-true, ltb-false, lt-ltb, le-ltb, ne-eqb}
 use Rattle.format.specs.Bits.{Order, high, low, bitAt, ub}
 use Rattle.format.specs.FileAndTags.{le64}
 use Rattle.format.specs.WritingItems.{below}
@@ -20,7 +20,7 @@ use Rattle.format.specs.Reading.{shows, stop}
 use Rattle.format.proofs.BitLaws.{ub-lt, ub-split, ub-within}
 use Rattle.format.proofs.ByteLaws.{ub-byte}
 use Rattle.format.proofs.Absurd.{clash}
-use Rattle.bits.specs.Places.{alignedAt, numOf, turnedOf, orderedBy}
+use Rattle.bits.specs.Places.{alignedAt, numOf, turnedOf, orderedBy, withSign}
 use Rattle.bits.specs.declared.BitPlace.{BitPlace}
 use Rattle.bits.specs.declared.BytePlace.{BytePlace}
 use Rattle.bits.specs.declared.Aligned.{Aligned}
@@ -216,31 +216,45 @@ map-got o f b p n {v} {q} e = go (leb (p + n) (8 * length b)) refl
 pub ub-got : (o : Order) (b : List ℕ) (p n : ℕ) {v q : ℕ} → num v q ≡ readUB o b p n → IsField o (λ x. x) b p n v q
 ub-got o b p n e = map-got o (λ x. x) b p n (ap (mapNum (λ x. x)) e)
 
--- ---- signs: the code's size z is 2 ^ n, and its difference wraps
+-- ---- signs: of the numbers below z the last h are negative ones
+
+-- as many, added before and taken away after by a difference that wraps, make them so
+pub signed-by : (v z h : ℕ) {r : ℕ} → v < z → h ≤ z → z ≤ 2 ^ 32 → r < 2 ^ 64 → (r + h) % 2 ^ 64 ≡ (v + h) % z → r ≡ withSign z h v
+signed-by v z h {r} l m top n w = go (ltb (v + h) z) refl
+  where
+    go : (t : Bool) → ltb (v + h) z ≡ t → r ≡ withSign z h v
+    go true t =
+        let k : v + h < z = ltb-true _ _ t in
+        let y : (v + h) % z ≡ v + h = mod-eq-of-lt k in
+        rw t (omega (arith, y))
+    go false t =
+        let k : z ≤ v + h = ltb-false _ _ t in
+        let y : (v + h) % z ≡ v + h - z = mod-eq-sub-mod k ∙ mod-eq-of-lt (omega arith) in
+        rw t (omega (arith, y))
 
 even-pow : (n : ℕ) → 1 ≤ n → 2 * (2 ^ n / 2) ≡ 2 ^ n
 even-pow zero h = absurd (omega arith)
 even-pow (suc n) h = let e : 2 ^ suc n ≡ 2 ^ n * 2 = pow-suc 2 n in omega (arith, e)
 
--- half of it, added before and taken away after, makes the upper half negative
-pub extended : (n v : ℕ) {z r : ℕ} → z ≡ 2 ^ n → 1 ≤ n → n ≤ 32 → v < 2 ^ n → r < 2 ^ 64 → (r + z / 2) % 2 ^ 64 ≡ (v + z / 2) % z → r ≡ signExtend n v
-extended n v {z} {r} e o h l m w = go (ltb (v * 2) (2 ^ n)) refl
+-- the code's size z is 2 ^ n: of a signed field's numbers half are negative, and of an unsigned one's none
+pub extended : (n v : ℕ) {z r : ℕ} → z ≡ 2 ^ n → 1 ≤ n → v < 2 ^ n → r ≡ withSign z (z / 2) v → r ≡ signExtend n v
+extended n v {z} {r} e o l w = go (ltb (v * 2) (2 ^ n)) refl
   where
     even : 2 * (z / 2) ≡ z
     even = rw e (even-pow n o)
 
-    top : z ≤ 2 ^ 32
-    top = rw e (pow-mono h)
-
     go : (t : Bool) → ltb (v * 2) (2 ^ n) ≡ t → r ≡ signExtend n v
     go true t =
         let k : v * 2 < 2 ^ n = ltb-true _ _ t in
-        let y : (v + z / 2) % z ≡ v + z / 2 = mod-eq-of-lt (omega (arith, e, even)) in
-        rw t (omega (arith, even, top, y))
+        let y : ltb (v + z / 2) z ≡ true = lt-ltb (v + z / 2) z (omega (arith, e, even)) in
+        w ∙ rw (y, t)
     go false t =
         let k : 2 ^ n ≤ v * 2 = ltb-false _ _ t in
-        let y : (v + z / 2) % z ≡ v + z / 2 - z = mod-eq-sub-mod (omega (arith, e, even)) ∙ mod-eq-of-lt (omega (arith, e, even)) in
-        rw t (omega (arith, even, top, e, y))
+        let y : ltb (v + z / 2) z ≡ false = le-ltb (v + z / 2) z (omega (arith, e, even)) in
+        w ∙ rw (y, t, e)
+
+pub unsigned : (v z : ℕ) {r : ℕ} → v < z → r ≡ withSign z 0 v → r ≡ v
+unsigned v z l w = let y : ltb (v + 0) z ≡ true = lt-ltb (v + 0) z (omega arith) in w ∙ rw y
 
 -- ---- the next whole byte, where n bits are skipped
 

@@ -6,7 +6,7 @@ ghost use Rattle.format.specs.Bits.{low, ub as fieldAt};
 ghost use Rattle.format.specs.Items.{readUB, readSB, readWidth, signExtend};
 ghost use Rattle.format.specs.FileAndTags.{le64};
 ghost use Rattle.format.specs.WritingItems.{below as belowOf};
-ghost use Rattle.bits.specs.Places.{PlaceIn, numOf, orderOf, turnedOf, orderedBy};
+ghost use Rattle.bits.specs.Places.{PlaceIn, numOf, orderOf, turnedOf, orderedBy, withSign};
 use crate::BitPlace;
 use crate::Got;
 use crate::Order;
@@ -134,14 +134,22 @@ pub fn read_ub(order: Order, bytes: &[u8], at: BitPlace, width: u64) -> Got
     Got::Value(field(order, bytes, at, width), BitPlace(next))
 }
 
-// A field of n bits as a signed number: a negative one is kept modulo 2^64, by a difference that wraps. No branch, since signs are hard to foretell.
+// A number below `size`, the last so many of which are negative ones: those are kept modulo 2^64, by a difference that wraps. No branch, since signs are hard to foretell.
+pub fn with_sign(value: u64, size: u64, negatives: u64) -> u64
+    requires { ⌜ (value < size) × (negatives ≤ size) × (size ≤ 2 ^ 32) ⌝ }
+    ensures { λ r. ⌜ r ≡ withSign size negatives value ⌝ }
+{
+    std::num::wrapping_sub_u64((value + negatives) % size, negatives)
+}
+
+// A field of n bits as a signed number: of the numbers that n bits have, the upper half are negative ones.
 pub fn extend(value: u64, width: u64) -> u64
     requires { ⌜ (1 ≤ width) × (width ≤ 32) × (value < 2 ^ width) ⌝ }
     ensures { λ r. ⌜ r ≡ signExtend width value ⌝ }
 {
     let size = 1u64 << width;
     let half = size / 2;
-    std::num::wrapping_sub_u64((value + half) % size, half)
+    with_sign(value, size, half)
 }
 
 // SB[n].
