@@ -115,7 +115,11 @@ pub fn out_of_range(kind: Item, value: u64) -> u32
         } else {
             16
         },
-        Item::Count(least) => if between(least as u64, value, 4096) { 0 } else { 17 },
+        Item::Count(least) => if between(least as u64, value, 4096) {
+            0
+        } else {
+            17
+        },
         Item::U32 => 0,
         Item::I32 => 0,
         Item::Time => 0,

@@ -27,12 +27,11 @@ fn write_items(
     requires { ⌜ (start ≤ end) × (end ≤ 18) × (at .0 ≤ longest) ⌝ }
     ensures { λ r. ⌜ InEither (λ o. seen (now (out .exit)) r ≡ ran o (now (values .entry)) (mk (now (out .entry)) (8 * at .0) 0) from (inOrder (itemsFrom start end))) ⌝ }
 {
-    let rows = fixed::ITEMS;
     let mut byte = at.0;
     let mut index = from;
     let mut row = start;
     while row < end {
-        let kind = rows[row];
+        let kind = fixed::item_at(row);
         let next = spelling::spell_next(kind, out, byte, values, index);
         if next == 0 {
             return Put::Impossible;
