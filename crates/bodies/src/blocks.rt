@@ -90,7 +90,7 @@ pub fn read_contents(
     while row < count {
         let flag = flags[row];
         let attribute = rows[row];
-        let r = read_attribute(order, attribute, flag, body, place, table, index);
+        let r = table::again(read_attribute(order, attribute, flag, body, place, table, index));
         let Run::Done(next, behind) = r else {
             return r;
         };

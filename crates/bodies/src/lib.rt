@@ -55,7 +55,7 @@ fn read_part(
 {
     if block {
         let mut flags = [0u64; 12];
-        return blocks::read_block(
+        return table::again(blocks::read_block(
             order,
             attributes::blocks::block_of(code),
             body,
@@ -63,9 +63,9 @@ fn read_part(
             &mut flags,
             table,
             from,
-        );
+        ));
     }
-    fixed::read_fixed(order, code, body, BitPlace(0), table, from)
+    table::again(fixed::read_fixed(order, code, body, BitPlace(0), table, from))
 }
 
 // At a whole byte of a body of this size: its list follows; or nothing more may follow (18).

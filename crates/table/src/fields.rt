@@ -11,6 +11,7 @@ ghost use Rattle.table.specs.Run.{runLeaves};
 ghost use Rattle.table.specs.Fields.{Fits, allows, signed, fieldOf, announces, announced, weights, showsAll};
 ghost use Rattle.bits.specs.Places.{orderOf};
 use crate::Run;
+use crate::again;
 use crate::put;
 use crate::room_for;
 use bits::BitPlace;
@@ -236,7 +237,7 @@ pub fn read_scaled(
     match r {
         Got::Value(width, next) => {
             put(table, from, width);
-            read_run(order, kind, width, count, body, next, table, from + 1)
+            again(read_run(order, kind, width, count, body, next, table, from + 1))
         }
         Got::Fault(why) => Run::Stop(why, from),
     }

@@ -240,7 +240,7 @@ fn read_keyframes(
 }
 
 // Keyframed content, with 1 to 4,096 frames, of an attribute with this flag number.
-pub fn read_keyframed(
+fn read_counted(
     order: Order,
     kind: Kind,
     what: DataType,
@@ -271,4 +271,21 @@ pub fn read_keyframed(
         }
         Got::Fault(why) => Run::Stop(why, from),
     }
+}
+
+// The same, for its callers.
+pub fn read_keyframed(
+    order: Order,
+    kind: Kind,
+    what: DataType,
+    flag: u64,
+    body: &[u8],
+    at: BitPlace,
+    table: &mut [u64],
+    from: usize,
+) -> Run
+    requires { ⌜ Fits (now body) (at .0) from ⌝ }
+    ensures { λ r. ⌜ runLeaves (now (table .exit)) r ≡ shownOver (now (table .entry)) from (run (orderOf order) (now (body .entry)) (keyframed (kindOf kind) (typeOf what) flag) (at .0)) ⌝ }
+{
+    table::again(read_counted(order, kind, what, flag, body, at, table, from))
 }

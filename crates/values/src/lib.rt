@@ -249,7 +249,7 @@ fn read_dashes(order: Order, body: &[u8], at: BitPlace, table: &mut [u64], from:
 }
 
 // One value that is not keyframed. A TagBlock has nothing here: its list stands behind the block.
-pub fn read_value(
+fn read_by_type(
     order: Order,
     what: DataType,
     body: &[u8],
@@ -272,17 +272,25 @@ pub fn read_value(
         DataType::Point => read_pair(order, Item::Float, Item::Float, body, at, table, from),
         DataType::Color => table::in_turn::read_items(order, Item::Byte, 3, body, at, table, from),
         DataType::GradientColor => read_gradient(order, body, at, table, from),
-        DataType::Enum(top) => table::read_one(
-            order,
-            Item::Enum(top as u64),
-            body,
-            at,
-            table,
-            from,
-        ),
+        DataType::Enum(top) => table::read_one(order, Item::Enum(top), body, at, table, from),
         DataType::Dashes => read_dashes(order, body, at, table, from),
         DataType::TagBlock => Run::Done(at, from),
     }
+}
+
+// The same, for its callers.
+pub fn read_value(
+    order: Order,
+    what: DataType,
+    body: &[u8],
+    at: BitPlace,
+    table: &mut [u64],
+    from: usize,
+) -> Run
+    requires { ⌜ Fits (now body) (at .0) from ⌝ }
+    ensures { λ r. ⌜ runLeaves (now (table .exit)) r ≡ shownOver (now (table .entry)) from (run (orderOf order) (now (body .entry)) (valueOf (typeOf what)) (at .0)) ⌝ }
+{
+    table::again(read_by_type(order, what, body, at, table, from))
 }
 
 // n values in turn, one by one.

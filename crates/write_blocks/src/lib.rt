@@ -173,7 +173,15 @@ fn write_contents(order: Order, block: Block, values: &[u64], out: &mut [u8], si
         let Flagged::With(more) = flagged else {
             return Filled::No;
         };
-        let r = write_content(order, attribute, number, out, cur, values, index + 1);
+        let r = spelling::again(write_content(
+            order,
+            attribute,
+            number,
+            out,
+            cur,
+            values,
+            index + 1,
+        ));
         let Put::Done(next, behind) = r else {
             return Filled::No;
         };

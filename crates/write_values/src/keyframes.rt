@@ -222,7 +222,7 @@ fn write_keyframes(
 }
 
 // Keyframed content, with 1 to 4,096 frames, of an attribute with this flag number.
-pub fn write_keyframed(
+fn write_counted(
     order: Order,
     kind: Kind,
     what: DataType,
@@ -250,4 +250,21 @@ pub fn write_keyframed(
         values,
         behind,
     )
+}
+
+// The same, for its callers.
+pub fn write_keyframed(
+    order: Order,
+    kind: Kind,
+    what: DataType,
+    flag: u64,
+    out: &mut [u8],
+    sink: Sink,
+    values: &[u64],
+    from: usize,
+) -> Put
+    requires { ⌜ Fine sink ⌝ }
+    ensures { λ r. ⌜ seen (now (out .exit)) r ≡ ran (orderOf order) (now (values .entry)) (under (now (out .entry)) sink) from (keyframed (kindOf kind) (typeOf what) flag) ⌝ }
+{
+    spelling::again(write_counted(order, kind, what, flag, out, sink, values, from))
 }

@@ -264,7 +264,7 @@ fn write_dashes(order: Order, out: &mut [u8], sink: Sink, values: &[u64], from: 
 }
 
 // One value that is not keyframed. A TagBlock has nothing here: its list stands behind the block.
-pub fn write_value(
+fn write_by_type(
     order: Order,
     what: DataType,
     out: &mut [u8],
@@ -287,17 +287,25 @@ pub fn write_value(
         DataType::Point => write_pair(order, Item::Float, Item::Float, out, sink, values, from),
         DataType::Color => write_bytes(order, 3, out, sink, values, from),
         DataType::GradientColor => write_gradient(order, out, sink, values, from),
-        DataType::Enum(top) => spelling::write_one(
-            order,
-            Item::Enum(top as u64),
-            out,
-            sink,
-            values,
-            from,
-        ),
+        DataType::Enum(top) => spelling::write_one(order, Item::Enum(top), out, sink, values, from),
         DataType::Dashes => write_dashes(order, out, sink, values, from),
         DataType::TagBlock => Put::Done(sink, from),
     }
+}
+
+// The same, for its callers.
+pub fn write_value(
+    order: Order,
+    what: DataType,
+    out: &mut [u8],
+    sink: Sink,
+    values: &[u64],
+    from: usize,
+) -> Put
+    requires { ⌜ Fine sink ⌝ }
+    ensures { λ r. ⌜ seen (now (out .exit)) r ≡ ran (orderOf order) (now (values .entry)) (under (now (out .entry)) sink) from (valueOf (typeOf what)) ⌝ }
+{
+    spelling::again(write_by_type(order, what, out, sink, values, from))
 }
 
 // n values in turn, one by one.

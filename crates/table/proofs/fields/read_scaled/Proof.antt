@@ -29,6 +29,9 @@ add-read-run c = search needs
 read-run-requires : tie.Need-read-run-requires
 read-run-requires c κs = let a = c .before .before .before .before .before .before .before .before .before .before .before .args in let f = width-fits (orderOf (a .order)) (now (a .body)) (a .at .0) (c .before .before .before .before .before .before .before .before .read-width .ensures) (c .before .before .before .before .before .before .r .given .1) (c .before .before .before .before .before .before .before .before .before .before .before .pre .0) in (f .0, f .1, f .2, c .before .before .before .before .before .before .before .before .before .before .before .pre .1)
 
+again-requires : tie.Need-again-requires
+again-requires c κs = search needs
+
 enum-known-r-2 : tie.Need-enum-known-r-2
 enum-known-r-2 c = search needs
 
@@ -36,9 +39,9 @@ same-length : tie.Need-same-length
 same-length c = search needs
 
 returns : tie.Need-returns
-returns c = let a = c .before .before .before .before .before .before .before .before .before .before .before .before .before .before .args in
-    then-one (orderOf (a .order)) (now (a .body)) (now (a .table)) (a .from) (item Item.width) (λ w. times (a .count) (fieldOf (a .kind) (the w))) (a .at .0)
-    (width-one (orderOf (a .order)) (now (a .body)) (a .at .0) (c .before .before .before .before .before .before .before .before .before .before .before .read-width .ensures) (c .before .before .before .before .before .before .before .before .before .r .given .1)) (c .before .before .before .before .before .before .put .ensures) (c .before .before .read-run .ensures)
+returns c = let a = c .before .before .before .before .before .before .before .before .before .before .before .before .before .before .before .args in
+    rw (c .again .ensures) (then-one (orderOf (a .order)) (now (a .body)) (now (a .table)) (a .from) (item Item.width) (λ w. times (a .count) (fieldOf (a .kind) (the w))) (a .at .0)
+    (width-one (orderOf (a .order)) (now (a .body)) (a .at .0) (c .before .before .before .before .before .before .before .before .before .before .before .before .read-width .ensures) (c .before .before .before .before .before .before .before .before .before .before .r .given .1)) (c .before .before .before .before .before .before .before .put .ensures) (c .before .before .before .read-run .ensures))
 
 returns-2 : tie.Need-returns-2
 returns-2 c = let a = c .before .before .before .before .before .before .args in
@@ -54,6 +57,7 @@ read-scaled-spec =
     put-requires
     add-read-run
     read-run-requires
+    again-requires
     enum-known-r-2
     same-length
     returns
