@@ -41,6 +41,9 @@ array-copy-out-attribute c = omega (arith, c .before .before .before .before .be
 read-attribute-requires : tie.Need-read-attribute-requires Inv-loop μ-loop
 read-attribute-requires c κs = (c .before .before .before .before .loop .inv .fits .0, omega (arith, c .before .before .before .before .loop .inv .fits .1))
 
+again-requires : tie.Need-again-requires Inv-loop μ-loop
+again-requires c κs = search needs
+
 -- src/blocks.rt:94:23
 enum-known-r : tie.Need-enum-known-r Inv-loop μ-loop
 enum-known-r c = search needs
@@ -51,16 +54,16 @@ enum-told c = search needs
 
 -- src/blocks.rt:95:13
 same-length : tie.Need-same-length Inv-loop μ-loop
-same-length c = c .before .before .before .before .read-attribute .kept .1 .1 .1 .1 .1 .0 ∙ c .before .before .before .before .before .before .before .before .before .loop .inv .size
+same-length c = c .before .before .before .before .before .read-attribute .kept .1 .1 .1 .1 .1 .0 ∙ c .before .before .before .before .before .before .before .before .before .before .loop .inv .size
 
 -- src/blocks.rt:95:13
 returns : tie.Need-returns Inv-loop μ-loop
-returns c = let a = c .before .before .before .before .before .before .before .before .before .before .before .before .before .before .args in
-    rows-stop (orderOf (a .order)) (now (a .body)) (now (a .table)) (now (a .flags)) (a .from) (a .block .rows) (a .block .count) (a .at .0) (c .before .before .before .before .before .before .before .before .loop-test .taken) (omega (arith, c .before .before .before .before .before .before .before .before .before .before .before .before .before .before .pre .0, c .before .before .before .before .before .before .before .before .before .before .before .before .before .before .pre .1)) refl (c .before .before .before .before .before .before .before .before .before .loop .inv) (c .before .before .before .before .read-attribute .ensures) (c .enum-told .given .1)
+returns c = let a = c .before .before .before .before .before .before .before .before .before .before .before .before .before .before .before .args in
+    rows-stop (orderOf (a .order)) (now (a .body)) (now (a .table)) (now (a .flags)) (a .from) (a .block .rows) (a .block .count) (a .at .0) (c .before .before .before .before .before .before .before .before .before .loop-test .taken) (omega (arith, c .before .before .before .before .before .before .before .before .before .before .before .before .before .before .before .pre .0, c .before .before .before .before .before .before .before .before .before .before .before .before .before .before .before .pre .1)) refl (c .before .before .before .before .before .before .before .before .before .before .loop .inv) (rw (c .before .before .again .ensures) (c .before .before .before .before .before .read-attribute .ensures)) (c .enum-told .given .1)
 
 -- src/blocks.rt:99:9
 add-row : tie.Need-add-row Inv-loop μ-loop
-add-row c = omega (arith, c .before .before .before .before .before .before .before .before .before .before .before .before .before .before .before .pre .0)
+add-row c = omega (arith, c .before .before .before .before .before .before .before .before .before .before .before .before .before .before .before .before .pre .0)
 
 -- src/blocks.rt:90:5
 loop-less : tie.Need-loop-less Inv-loop μ-loop
@@ -68,8 +71,8 @@ loop-less c = omega arith
 
 -- src/blocks.rt:90:5
 loop-again : tie.Need-loop-again Inv-loop μ-loop
-loop-again c = let a = c .before .before .before .before .before .before .before .before .before .before .before .before .before .before .before .args in
-    rows-next-row (orderOf (a .order)) (now (a .body)) (now (a .table)) (now (a .flags)) (a .from) (a .block .rows) (a .block .count) (a .at .0) (c .before .before .before .before .before .before .before .before .before .loop-test .taken) (omega (arith, c .before .before .before .before .before .before .before .before .before .before .before .before .before .before .before .pre .0, c .before .before .before .before .before .before .before .before .before .before .before .before .before .before .before .pre .1)) refl (c .before .before .before .before .before .before .before .before .before .before .loop .inv) (c .before .before .before .before .before .read-attribute .ensures) (c .before .before .before .before .before .read-attribute .kept .1 .1 .1 .1 .1 .0) (c .before .r .given .1)
+loop-again c = let a = c .before .before .before .before .before .before .before .before .before .before .before .before .before .before .before .before .args in
+    rows-next-row (orderOf (a .order)) (now (a .body)) (now (a .table)) (now (a .flags)) (a .from) (a .block .rows) (a .block .count) (a .at .0) (c .before .before .before .before .before .before .before .before .before .before .loop-test .taken) (omega (arith, c .before .before .before .before .before .before .before .before .before .before .before .before .before .before .before .before .pre .0, c .before .before .before .before .before .before .before .before .before .before .before .before .before .before .before .before .pre .1)) refl (c .before .before .before .before .before .before .before .before .before .before .before .loop .inv) (rw (c .before .before .before .again .ensures) (c .before .before .before .before .before .before .read-attribute .ensures)) (c .before .before .before .before .before .before .read-attribute .kept .1 .1 .1 .1 .1 .0) (c .before .r .given .1)
 
 -- src/blocks.rt:73:1
 same-length-2 : tie.Need-same-length-2 Inv-loop μ-loop
@@ -92,6 +95,7 @@ read-contents-spec =
     mul-attribute
     array-copy-out-attribute
     read-attribute-requires
+    again-requires
     enum-known-r
     enum-told
     same-length
