@@ -67,16 +67,16 @@ fn read_items(
     from: usize,
 ) -> Run
     requires { ⌜ (start ≤ end) × (end ≤ 18) × Fits (now body) (at .0) from ⌝ }
-    ensures { λ r. ⌜ runLeaves (now (table .exit)) r ≡ shownOver (now (table .entry)) from (run (orderOf order) (now (body .entry)) (inOrder (itemsFrom start end)) (at .0)) ⌝ }
+    ensures { λ run. ⌜ runLeaves (now (table .exit)) run ≡ shownOver (now (table .entry)) from (run (orderOf order) (now (body .entry)) (inOrder (itemsFrom start end)) (at .0)) ⌝ }
 {
     let mut place = at;
     let mut index = from;
     let mut row = start;
     while row < end {
         let kind = item_at(row);
-        let r = table::read_one(order, kind, body, place, table, index);
-        let Run::Done(next, behind) = r else {
-            return r;
+        let run = table::read_one(order, kind, body, place, table, index);
+        let Run::Done(next, behind) = run else {
+            return run;
         };
         place = next;
         index = behind;
@@ -95,15 +95,15 @@ fn read_strings(
     from: usize,
 ) -> Run
     requires { ⌜ Fits (now body) (at .0) from ⌝ }
-    ensures { λ r. ⌜ runLeaves (now (table .exit)) r ≡ shownOver (now (table .entry)) from (run (orderOf order) (now (body .entry)) (times count string) (at .0)) ⌝ }
+    ensures { λ run. ⌜ runLeaves (now (table .exit)) run ≡ shownOver (now (table .entry)) from (run (orderOf order) (now (body .entry)) (times count string) (at .0)) ⌝ }
 {
     let mut place = at;
     let mut index = from;
     let mut left = count;
     while 0 < left {
-        let r = table::text::read_string(order, body, place, table, index);
-        let Run::Done(next, behind) = r else {
-            return r;
+        let run = table::text::read_string(order, body, place, table, index);
+        let Run::Done(next, behind) = run else {
+            return run;
         };
         place = next;
         index = behind;

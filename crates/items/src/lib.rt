@@ -132,15 +132,15 @@ pub fn out_of_range(kind: Item, value: u64) -> u32
 // An item: skipped bits (15), its bytes (13), its spelling (14), its range (16, 17).
 pub fn read_item(order: Order, kind: Item, body: &[u8], at: BitPlace) -> Got
     requires { ⌜ PlaceIn (now body) (at .0) ⌝ }
-    ensures { λ r. ⌜ showNum (numOf r) ≡ run (orderOf order) (now (body .entry)) (formatOf kind) (at .0) ⌝ }
+    ensures { λ got. ⌜ showNum (numOf got) ≡ run (orderOf order) (now (body .entry)) (formatOf kind) (at .0) ⌝ }
 {
     let aligned = bits::align(order, body, at);
     let Aligned::Clean(byte, bit) = aligned else {
         return Got::Fault(15);
     };
-    let r = read_spelling(kind, body, byte, bit);
-    let Got::Value(value, next) = r else {
-        return r;
+    let got = read_spelling(kind, body, byte, bit);
+    let Got::Value(value, next) = got else {
+        return got;
     };
     let why = out_of_range(kind, value);
     if why == 0 {

@@ -26,15 +26,15 @@ pub fn read_items(
     from: usize,
 ) -> Run
     requires { ⌜ Fits (now body) (at .0) from ⌝ }
-    ensures { λ r. ⌜ runLeaves (now (table .exit)) r ≡ shownOver (now (table .entry)) from (run (orderOf order) (now (body .entry)) (times count (formatOf kind)) (at .0)) ⌝ }
+    ensures { λ run. ⌜ runLeaves (now (table .exit)) run ≡ shownOver (now (table .entry)) from (run (orderOf order) (now (body .entry)) (times count (formatOf kind)) (at .0)) ⌝ }
 {
     let mut place = at;
     let mut index = from;
     let mut left = count;
     while 0 < left {
-        let r = read_one(order, kind, body, place, table, index);
-        let Run::Done(next, behind) = r else {
-            return r;
+        let run = read_one(order, kind, body, place, table, index);
+        let Run::Done(next, behind) = run else {
+            return run;
         };
         place = next;
         index = behind;

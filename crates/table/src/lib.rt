@@ -66,10 +66,10 @@ pub fn read_one(
     from: usize,
 ) -> Run
     requires { ⌜ Fits (now body) (at .0) from ⌝ }
-    ensures { λ r. ⌜ runLeaves (now (table .exit)) r ≡ shownOver (now (table .entry)) from (run (orderOf order) (now (body .entry)) (formatOf kind) (at .0)) ⌝ }
+    ensures { λ got. ⌜ runLeaves (now (table .exit)) got ≡ shownOver (now (table .entry)) from (run (orderOf order) (now (body .entry)) (formatOf kind) (at .0)) ⌝ }
 {
-    let r = items::read_item(order, kind, body, at);
-    match r {
+    let got = items::read_item(order, kind, body, at);
+    match got {
         Got::Value(value, next) => {
             put(table, from, value);
             Run::Done(next, from + 1)

@@ -149,11 +149,11 @@ fn read_eased(
     from: usize,
 ) -> Run
     requires { ⌜ Fits (now body) (at .0) from × (frames ≤ 4096) × (easing < 2 ^ 32) ⌝ }
-    ensures { λ r. ⌜ runLeaves (now (table .exit)) r ≡ shownOver (now (table .entry)) from (run (orderOf order) (now (body .entry)) ((aligned ▸ scaled easing) ▸ pick (hasSpatial flag) (spatial frames) nothing) (at .0)) ⌝ }
+    ensures { λ run. ⌜ runLeaves (now (table .exit)) run ≡ shownOver (now (table .entry)) from (run (orderOf order) (now (body .entry)) ((aligned ▸ scaled easing) ▸ pick (hasSpatial flag) (spatial frames) nothing) (at .0)) ⌝ }
 {
-    let r = read_easing(order, easing, body, at, table, from);
-    let Run::Done(eased, after_easing) = r else {
-        return r;
+    let run = read_easing(order, easing, body, at, table, from);
+    let Run::Done(eased, after_easing) = run else {
+        return run;
     };
     read_spatial(order, flag, frames, body, eased, table, after_easing)
 }
@@ -172,13 +172,13 @@ fn read_frames(
     from: usize,
 ) -> Run
     requires { ⌜ Fits (now body) (at .0) from × (frames ≤ 4096) × (easing < 2 ^ 32) ⌝ }
-    ensures { λ r. ⌜ runLeaves (now (table .exit)) r ≡ shownOver (now (table .entry)) from (run (orderOf order) (now (body .entry)) (framesOf (kindOf kind) (typeOf what) flag frames easing) (at .0)) ⌝ }
+    ensures { λ run. ⌜ runLeaves (now (table .exit)) run ≡ shownOver (now (table .entry)) from (run (orderOf order) (now (body .entry)) (framesOf (kindOf kind) (typeOf what) flag frames easing) (at .0)) ⌝ }
 {
-    let r = read_times(order, frames + 1, body, at, table, from);
-    let Run::Done(timed, after_times) = r else {
-        return r;
+    let run = read_times(order, frames + 1, body, at, table, from);
+    let Run::Done(timed, after_times) = run else {
+        return run;
     };
-    let r = read_values_part(
+    let run = read_values_part(
         order,
         kind,
         what,
@@ -188,8 +188,8 @@ fn read_frames(
         table,
         after_times,
     );
-    let Run::Done(valued, after_values) = r else {
-        return r;
+    let Run::Done(valued, after_values) = run else {
+        return run;
     };
     read_eased(
         order,
@@ -216,13 +216,13 @@ fn read_keyframes(
     from: usize,
 ) -> Run
     requires { ⌜ Fits (now body) (at .0) from × (frames ≤ 4096) ⌝ }
-    ensures { λ r. ⌜ runLeaves (now (table .exit)) r ≡ shownOver (now (table .entry)) from (run (orderOf order) (now (body .entry)) (keyframesOf (kindOf kind) (typeOf what) flag frames) (at .0)) ⌝ }
+    ensures { λ run. ⌜ runLeaves (now (table .exit)) run ≡ shownOver (now (table .entry)) from (run (orderOf order) (now (body .entry)) (keyframesOf (kindOf kind) (typeOf what) flag frames) (at .0)) ⌝ }
 {
     let kinds = read_interpolations(order, kind, frames, body, at, table, from);
     let beziers = kinds.count;
-    let r = kinds.run;
-    let Run::Done(next, behind) = r else {
-        return r;
+    let run = kinds.run;
+    let Run::Done(next, behind) = run else {
+        return run;
     };
     let easing = beziers * attributes::curves(kind, what);
     read_frames(

@@ -36,11 +36,11 @@ fn read_pair(
     from: usize,
 ) -> Run
     requires { ⌜ Fits (now body) (at .0) from ⌝ }
-    ensures { λ r. ⌜ runLeaves (now (table .exit)) r ≡ shownOver (now (table .entry)) from (run (orderOf order) (now (body .entry)) (formatOf first ▸ formatOf second) (at .0)) ⌝ }
+    ensures { λ run. ⌜ runLeaves (now (table .exit)) run ≡ shownOver (now (table .entry)) from (run (orderOf order) (now (body .entry)) (formatOf first ▸ formatOf second) (at .0)) ⌝ }
 {
-    let r = table::read_one(order, first, body, at, table, from);
-    let Run::Done(next, behind) = r else {
-        return r;
+    let run = table::read_one(order, first, body, at, table, from);
+    let Run::Done(next, behind) = run else {
+        return run;
     };
     table::read_one(order, second, body, next, table, behind)
 }
@@ -57,13 +57,13 @@ fn read_announcing(
     from: usize,
 ) -> Run
     requires { ⌜ Fits (now body) (at .0) from × (1 ≤ width) × (width ≤ 32) × (count ≤ 8192) ⌝ }
-    ensures { λ r. ⌜ runLeaves (now (table .exit)) r ≡ shownOver (now (table .entry)) from (run (orderOf order) (now (body .entry)) (announcing kind width count) (at .0)) ⌝ }
+    ensures { λ run. ⌜ runLeaves (now (table .exit)) run ≡ shownOver (now (table .entry)) from (run (orderOf order) (now (body .entry)) (announcing kind width count) (at .0)) ⌝ }
 {
     let fields = table::fields::read_fields(order, kind, width, count, body, at, table, from);
     let announced = fields.count;
-    let r = fields.run;
-    let Run::Done(next, behind) = r else {
-        return r;
+    let run = fields.run;
+    let Run::Done(next, behind) = run else {
+        return run;
     };
     table::fields::read_scaled(
         order,
@@ -110,11 +110,11 @@ fn read_stop(
     from: usize,
 ) -> Run
     requires { ⌜ Fits (now body) (at .0) from ⌝ }
-    ensures { λ r. ⌜ runLeaves (now (table .exit)) r ≡ shownOver (now (table .entry)) from (run (orderOf order) (now (body .entry)) (stopOf bytes) (at .0)) ⌝ }
+    ensures { λ run. ⌜ runLeaves (now (table .exit)) run ≡ shownOver (now (table .entry)) from (run (orderOf order) (now (body .entry)) (stopOf bytes) (at .0)) ⌝ }
 {
-    let r = read_pair(order, Item::Uint16, Item::Uint16, body, at, table, from);
-    let Run::Done(next, behind) = r else {
-        return r;
+    let run = read_pair(order, Item::Uint16, Item::Uint16, body, at, table, from);
+    let Run::Done(next, behind) = run else {
+        return run;
     };
     table::in_turn::read_items(order, Item::Byte, bytes, body, next, table, behind)
 }
@@ -130,15 +130,15 @@ fn read_stops(
     from: usize,
 ) -> Run
     requires { ⌜ Fits (now body) (at .0) from ⌝ }
-    ensures { λ r. ⌜ runLeaves (now (table .exit)) r ≡ shownOver (now (table .entry)) from (run (orderOf order) (now (body .entry)) (times count (stopOf bytes)) (at .0)) ⌝ }
+    ensures { λ run. ⌜ runLeaves (now (table .exit)) run ≡ shownOver (now (table .entry)) from (run (orderOf order) (now (body .entry)) (times count (stopOf bytes)) (at .0)) ⌝ }
 {
     let mut place = at;
     let mut index = from;
     let mut left = count;
     while 0 < left {
-        let r = read_stop(order, bytes, body, place, table, index);
-        let Run::Done(next, behind) = r else {
-            return r;
+        let run = read_stop(order, bytes, body, place, table, index);
+        let Run::Done(next, behind) = run else {
+            return run;
         };
         place = next;
         index = behind;
@@ -158,11 +158,11 @@ fn read_both_stops(
     from: usize,
 ) -> Run
     requires { ⌜ Fits (now body) (at .0) from ⌝ }
-    ensures { λ r. ⌜ runLeaves (now (table .exit)) r ≡ shownOver (now (table .entry)) from (run (orderOf order) (now (body .entry)) (stopsOf alphas colors) (at .0)) ⌝ }
+    ensures { λ run. ⌜ runLeaves (now (table .exit)) run ≡ shownOver (now (table .entry)) from (run (orderOf order) (now (body .entry)) (stopsOf alphas colors) (at .0)) ⌝ }
 {
-    let r = read_stops(order, 1, alphas, body, at, table, from);
-    let Run::Done(next, behind) = r else {
-        return r;
+    let run = read_stops(order, 1, alphas, body, at, table, from);
+    let Run::Done(next, behind) = run else {
+        return run;
     };
     read_stops(order, 3, colors, body, next, table, behind)
 }
@@ -207,10 +207,10 @@ fn read_gradient(order: Order, body: &[u8], at: BitPlace, table: &mut [u64], fro
 // The flag of an offset of dashes: exist, and, if it is set, animatable.
 fn read_offset_flag(order: Order, body: &[u8], at: BitPlace, table: &mut [u64], from: usize) -> Run
     requires { ⌜ Fits (now body) (at .0) from ⌝ }
-    ensures { λ r. ⌜ runLeaves (now (table .exit)) r ≡ shownOver (now (table .entry)) from (run (orderOf order) (now (body .entry)) offsetFlag (at .0)) ⌝ }
+    ensures { λ got. ⌜ runLeaves (now (table .exit)) got ≡ shownOver (now (table .entry)) from (run (orderOf order) (now (body .entry)) offsetFlag (at .0)) ⌝ }
 {
-    let r = bits::fields::read_ub(order, body, at, 1);
-    match r {
+    let got = bits::fields::read_ub(order, body, at, 1);
+    match got {
         Got::Value(exist, next) => {
             table::put(table, from, exist);
             let fields = table::fields::read_fields(
@@ -232,14 +232,14 @@ fn read_offset_flag(order: Order, body: &[u8], at: BitPlace, table: &mut [u64], 
 // Dashes: from a whole byte on their length, shown plus 1, and the flag of their offset.
 fn read_dashes(order: Order, body: &[u8], at: BitPlace, table: &mut [u64], from: usize) -> Run
     requires { ⌜ Fits (now body) (at .0) from ⌝ }
-    ensures { λ r. ⌜ runLeaves (now (table .exit)) r ≡ shownOver (now (table .entry)) from (run (orderOf order) (now (body .entry)) dashes (at .0)) ⌝ }
+    ensures { λ got. ⌜ runLeaves (now (table .exit)) got ≡ shownOver (now (table .entry)) from (run (orderOf order) (now (body .entry)) dashes (at .0)) ⌝ }
 {
     let aligned = bits::align(order, body, at);
     let Aligned::Clean(_, start) = aligned else {
         return Run::Stop(15, from);
     };
-    let r = bits::fields::read_ub(order, body, start, 3);
-    match r {
+    let got = bits::fields::read_ub(order, body, start, 3);
+    match got {
         Got::Value(length, next) => {
             table::put(table, from, length + 1);
             read_offset_flag(order, body, next, table, from + 1)
@@ -304,15 +304,15 @@ fn read_each(
     from: usize,
 ) -> Run
     requires { ⌜ Fits (now body) (at .0) from ⌝ }
-    ensures { λ r. ⌜ runLeaves (now (table .exit)) r ≡ shownOver (now (table .entry)) from (run (orderOf order) (now (body .entry)) (times count (valueOf (typeOf what))) (at .0)) ⌝ }
+    ensures { λ run. ⌜ runLeaves (now (table .exit)) run ≡ shownOver (now (table .entry)) from (run (orderOf order) (now (body .entry)) (times count (valueOf (typeOf what))) (at .0)) ⌝ }
 {
     let mut place = at;
     let mut index = from;
     let mut left = count;
     while 0 < left {
-        let r = read_value(order, what, body, place, table, index);
-        let Run::Done(next, behind) = r else {
-            return r;
+        let run = read_value(order, what, body, place, table, index);
+        let Run::Done(next, behind) = run else {
+            return run;
         };
         place = next;
         index = behind;
@@ -351,15 +351,15 @@ fn read_times(
     from: usize,
 ) -> Run
     requires { ⌜ Fits (now body) (at .0) from ⌝ }
-    ensures { λ r. ⌜ runLeaves (now (table .exit)) r ≡ shownOver (now (table .entry)) from (run (orderOf order) (now (body .entry)) (times count time) (at .0)) ⌝ }
+    ensures { λ run. ⌜ runLeaves (now (table .exit)) run ≡ shownOver (now (table .entry)) from (run (orderOf order) (now (body .entry)) (times count time) (at .0)) ⌝ }
 {
     let mut place = at;
     let mut index = from;
     let mut left = count;
     while 0 < left {
-        let r = table::read_one(order, Item::Time, body, place, table, index);
-        let Run::Done(next, behind) = r else {
-            return r;
+        let run = table::read_one(order, Item::Time, body, place, table, index);
+        let Run::Done(next, behind) = run else {
+            return run;
         };
         place = next;
         index = behind;

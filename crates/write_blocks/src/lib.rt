@@ -154,7 +154,7 @@ fn write_content(
 // The contents of all rows; their flags are gathered on the way.
 fn write_contents(order: Order, block: Block, values: &[u64], out: &mut [u8], sink: Sink) -> Filled
     requires { ⌜ (block .count ≤ 12) × HasFlags (rowsFrom (block .rows) 0 (block .count)) × Fine sink ⌝ }
-    ensures { λ r. ⌜ (filled (orderOf order) (now (out .exit)) r ≡ fills (orderOf order) (rowsFrom (block .rows) 0 (block .count)) (now (values .entry)) (under (now (out .entry)) sink)) × Ready r ⌝ }
+    ensures { λ put. ⌜ (filled (orderOf order) (now (out .exit)) put ≡ fills (orderOf order) (rowsFrom (block .rows) 0 (block .count)) (now (values .entry)) (under (now (out .entry)) sink)) × Ready put ⌝ }
 {
     let rows = block.rows;
     let count = block.count;
@@ -173,7 +173,7 @@ fn write_contents(order: Order, block: Block, values: &[u64], out: &mut [u8], si
         let Flagged::With(more) = flagged else {
             return Filled::No;
         };
-        let r = spelling::again(write_content(
+        let put = spelling::again(write_content(
             order,
             attribute,
             number,
@@ -182,7 +182,7 @@ fn write_contents(order: Order, block: Block, values: &[u64], out: &mut [u8], si
             values,
             index + 1,
         ));
-        let Put::Done(next, behind) = r else {
+        let Put::Done(next, behind) = put else {
             return Filled::No;
         };
         flags = more;
@@ -226,7 +226,7 @@ pub fn write_block(
     at: BytePlace,
 ) -> Body
     requires { ⌜ (block .count ≤ 12) × HasFlags (rowsFrom (block .rows) 0 (block .count)) ⌝ }
-    ensures { λ r. ⌜ lainAs (now (out .exit)) r ≡ lies (now (out .entry)) (at .0) (writeBody (orderOf order) (attributesBody (rowsFrom (block .rows) 0 (block .count))) (now (values .entry))) ⌝ }
+    ensures { λ filled. ⌜ lainAs (now (out .exit)) filled ≡ lies (now (out .entry)) (at .0) (writeBody (orderOf order) (attributesBody (rowsFrom (block .rows) 0 (block .count))) (now (values .entry))) ⌝ }
 {
     if 16777216 <= at.0 {
         return Body::No;
@@ -234,8 +234,8 @@ pub fn write_block(
     let from = at.0 + 1;
     let place = bits::first_bit(BytePlace(from));
     let sink = Sink { place, part: 0 };
-    let r = write_contents(order, block, values, out, sink);
-    let Filled::With(flags, next, behind) = r else {
+    let filled = write_contents(order, block, values, out, sink);
+    let Filled::With(flags, next, behind) = filled else {
         return Body::No;
     };
     let concluded = spelling::conclude(order, Put::Done(next, behind), values.len(), out);

@@ -14,27 +14,27 @@ use sink::Body;
 // A body that is no attribute block, from a byte place on. No file is longer than 16,777,216 bytes.
 fn write_items(order: Order, code: u32, values: &[u64], out: &mut [u8], at: BytePlace) -> Body
     requires { ⌜ at .0 ≤ 16777218 ⌝ }
-    ensures { λ r. ⌜ lainAs (now (out .exit)) r ≡ lies (now (out .entry)) (at .0) (writeBody (orderOf order) (fixed (fixedOf code)) (now (values .entry))) ⌝ }
+    ensures { λ items. ⌜ lainAs (now (out .exit)) items ≡ lies (now (out .entry)) (at .0) (writeBody (orderOf order) (fixed (fixedOf code)) (now (values .entry))) ⌝ }
 {
     if 16777216 < at.0 {
         return Body::No;
     }
-    let r = write_fixed::write_fixed(order, code, out, at, values, 0);
-    spelling::conclude(order, r, values.len(), out)
+    let items = write_fixed::write_fixed(order, code, out, at, values, 0);
+    spelling::conclude(order, items, values.len(), out)
 }
 
 // The body of a leaf tag, from a byte place on.
 pub fn write_body(order: Order, code: u32, values: &[u64], out: &mut [u8], at: BytePlace) -> Body
     requires { ⌜ at .0 ≤ 16777218 ⌝ }
-    ensures { λ r. ⌜ lainAs (now (out .exit)) r ≡ lies (now (out .entry)) (at .0) (writeBody (orderOf order) (leafBody code) (now (values .entry))) ⌝ }
+    ensures { λ written. ⌜ lainAs (now (out .exit)) written ≡ lies (now (out .entry)) (at .0) (writeBody (orderOf order) (leafBody code) (now (values .entry))) ⌝ }
 {
     if bodies::is_block(code) {
         let block = attributes::blocks::block_of(code);
         return write_blocks::write_block(order, block, values, out, at);
     }
     // The answer is made again, not handed on whole: see `write_blocks::write_contents`.
-    let r = write_items(order, code, values, out, at);
-    match r {
+    let written = write_items(order, code, values, out, at);
+    match written {
         Body::To(end) => Body::To(end),
         Body::No => Body::No,
     }

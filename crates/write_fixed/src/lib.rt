@@ -54,15 +54,15 @@ fn write_strings(
     from: usize,
 ) -> Put
     requires { ⌜ Fine sink ⌝ }
-    ensures { λ r. ⌜ seen (now (out .exit)) r ≡ ran (orderOf order) (now (values .entry)) (under (now (out .entry)) sink) from (times count string) ⌝ }
+    ensures { λ put. ⌜ seen (now (out .exit)) put ≡ ran (orderOf order) (now (values .entry)) (under (now (out .entry)) sink) from (times count string) ⌝ }
 {
     let mut cur = sink;
     let mut index = from;
     let mut left = count;
     while 0 < left {
-        let r = spelling::text::write_string(order, out, cur, values, index);
-        let Put::Done(next, behind) = r else {
-            return r;
+        let put = spelling::text::write_string(order, out, cur, values, index);
+        let Put::Done(next, behind) = put else {
+            return put;
         };
         cur = next;
         index = behind;
@@ -74,11 +74,11 @@ fn write_strings(
 // 1: a count, then two Strings each.
 fn write_fonts(order: Order, out: &mut [u8], sink: Sink, values: &[u64], from: usize) -> Put
     requires { ⌜ Fine sink ⌝ }
-    ensures { λ r. ⌜ seen (now (out .exit)) r ≡ ran (orderOf order) (now (values .entry)) (under (now (out .entry)) sink) from fontTables ⌝ }
+    ensures { λ put. ⌜ seen (now (out .exit)) put ≡ ran (orderOf order) (now (values .entry)) (under (now (out .entry)) sink) from fontTables ⌝ }
 {
-    let r = spelling::write_one(order, Item::Count(0), out, sink, values, from);
-    let Put::Done(next, behind) = r else {
-        return r;
+    let put = spelling::write_one(order, Item::Count(0), out, sink, values, from);
+    let Put::Done(next, behind) = put else {
+        return put;
     };
     write_strings(
         order,

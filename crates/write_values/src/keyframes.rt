@@ -131,11 +131,11 @@ fn write_eased(
     from: usize,
 ) -> Put
     requires { ⌜ Fine sink × (frames ≤ 4096) × (easing < 2 ^ 32) ⌝ }
-    ensures { λ r. ⌜ seen (now (out .exit)) r ≡ ran (orderOf order) (now (values .entry)) (under (now (out .entry)) sink) from ((aligned ▸ scaled easing) ▸ pick (hasSpatial flag) (spatial frames) nothing) ⌝ }
+    ensures { λ put. ⌜ seen (now (out .exit)) put ≡ ran (orderOf order) (now (values .entry)) (under (now (out .entry)) sink) from ((aligned ▸ scaled easing) ▸ pick (hasSpatial flag) (spatial frames) nothing) ⌝ }
 {
-    let r = write_easing(order, easing, out, sink, values, from);
-    let Put::Done(eased, after_easing) = r else {
-        return r;
+    let put = write_easing(order, easing, out, sink, values, from);
+    let Put::Done(eased, after_easing) = put else {
+        return put;
     };
     write_spatial(order, flag, frames, out, eased, values, after_easing)
 }
@@ -154,13 +154,13 @@ fn write_frames(
     from: usize,
 ) -> Put
     requires { ⌜ Fine sink × (frames ≤ 4096) × (easing < 2 ^ 32) ⌝ }
-    ensures { λ r. ⌜ seen (now (out .exit)) r ≡ ran (orderOf order) (now (values .entry)) (under (now (out .entry)) sink) from (framesOf (kindOf kind) (typeOf what) flag frames easing) ⌝ }
+    ensures { λ put. ⌜ seen (now (out .exit)) put ≡ ran (orderOf order) (now (values .entry)) (under (now (out .entry)) sink) from (framesOf (kindOf kind) (typeOf what) flag frames easing) ⌝ }
 {
-    let r = write_times(order, frames + 1, out, sink, values, from);
-    let Put::Done(timed, after_times) = r else {
-        return r;
+    let put = write_times(order, frames + 1, out, sink, values, from);
+    let Put::Done(timed, after_times) = put else {
+        return put;
     };
-    let r = write_values_part(
+    let put = write_values_part(
         order,
         kind,
         what,
@@ -170,8 +170,8 @@ fn write_frames(
         values,
         after_times,
     );
-    let Put::Done(valued, after_values) = r else {
-        return r;
+    let Put::Done(valued, after_values) = put else {
+        return put;
     };
     write_eased(
         order,
@@ -198,13 +198,13 @@ fn write_keyframes(
     from: usize,
 ) -> Put
     requires { ⌜ Fine sink × (frames ≤ 4096) ⌝ }
-    ensures { λ r. ⌜ seen (now (out .exit)) r ≡ ran (orderOf order) (now (values .entry)) (under (now (out .entry)) sink) from (keyframesOf (kindOf kind) (typeOf what) flag frames) ⌝ }
+    ensures { λ put. ⌜ seen (now (out .exit)) put ≡ ran (orderOf order) (now (values .entry)) (under (now (out .entry)) sink) from (keyframesOf (kindOf kind) (typeOf what) flag frames) ⌝ }
 {
     let kinds = write_interpolations(order, kind, frames, out, sink, values, from);
     let beziers = kinds.count;
-    let r = kinds.put;
-    let Put::Done(next, behind) = r else {
-        return r;
+    let put = kinds.put;
+    let Put::Done(next, behind) = put else {
+        return put;
     };
     let easing = beziers * attributes::curves(kind, what);
     write_frames(
@@ -233,11 +233,11 @@ fn write_counted(
     from: usize,
 ) -> Put
     requires { ⌜ Fine sink ⌝ }
-    ensures { λ r. ⌜ seen (now (out .exit)) r ≡ ran (orderOf order) (now (values .entry)) (under (now (out .entry)) sink) from (keyframed (kindOf kind) (typeOf what) flag) ⌝ }
+    ensures { λ put. ⌜ seen (now (out .exit)) put ≡ ran (orderOf order) (now (values .entry)) (under (now (out .entry)) sink) from (keyframed (kindOf kind) (typeOf what) flag) ⌝ }
 {
-    let r = spelling::write_one(order, Item::Count(1), out, sink, values, from);
-    let Put::Done(next, behind) = r else {
-        return r;
+    let put = spelling::write_one(order, Item::Count(1), out, sink, values, from);
+    let Put::Done(next, behind) = put else {
+        return put;
     };
     write_keyframes(
         order,

@@ -33,11 +33,11 @@ fn write_pair(
     from: usize,
 ) -> Put
     requires { ⌜ Fine sink ⌝ }
-    ensures { λ r. ⌜ seen (now (out .exit)) r ≡ ran (orderOf order) (now (values .entry)) (under (now (out .entry)) sink) from (formatOf first ▸ formatOf second) ⌝ }
+    ensures { λ put. ⌜ seen (now (out .exit)) put ≡ ran (orderOf order) (now (values .entry)) (under (now (out .entry)) sink) from (formatOf first ▸ formatOf second) ⌝ }
 {
-    let r = spelling::write_one(order, first, out, sink, values, from);
-    let Put::Done(next, behind) = r else {
-        return r;
+    let put = spelling::write_one(order, first, out, sink, values, from);
+    let Put::Done(next, behind) = put else {
+        return put;
     };
     spelling::write_one(order, second, out, next, values, behind)
 }
@@ -54,13 +54,13 @@ fn write_announcing(
     from: usize,
 ) -> Put
     requires { ⌜ Fine sink × (1 ≤ width) × (width ≤ 32) × (count ≤ 8192) ⌝ }
-    ensures { λ r. ⌜ seen (now (out .exit)) r ≡ ran (orderOf order) (now (values .entry)) (under (now (out .entry)) sink) from (announcing kind width count) ⌝ }
+    ensures { λ put. ⌜ seen (now (out .exit)) put ≡ ran (orderOf order) (now (values .entry)) (under (now (out .entry)) sink) from (announcing kind width count) ⌝ }
 {
     let fields = spelling::fields::write_fields(order, kind, width, count, out, sink, values, from);
     let announced = fields.count;
-    let r = fields.put;
-    let Put::Done(next, behind) = r else {
-        return r;
+    let put = fields.put;
+    let Put::Done(next, behind) = put else {
+        return put;
     };
     spelling::fields::write_scaled(
         order,
@@ -76,11 +76,11 @@ fn write_announcing(
 // A Path: its verb count, its verbs and its coordinates.
 fn write_path(order: Order, out: &mut [u8], sink: Sink, values: &[u64], from: usize) -> Put
     requires { ⌜ Fine sink ⌝ }
-    ensures { λ r. ⌜ seen (now (out .exit)) r ≡ ran (orderOf order) (now (values .entry)) (under (now (out .entry)) sink) from path ⌝ }
+    ensures { λ put. ⌜ seen (now (out .exit)) put ≡ ran (orderOf order) (now (values .entry)) (under (now (out .entry)) sink) from path ⌝ }
 {
-    let r = spelling::write_one(order, Item::Count(0), out, sink, values, from);
-    let Put::Done(next, behind) = r else {
-        return r;
+    let put = spelling::write_one(order, Item::Count(0), out, sink, values, from);
+    let Put::Done(next, behind) = put else {
+        return put;
     };
     write_announcing(
         order,
@@ -104,15 +104,15 @@ fn write_bytes(
     from: usize,
 ) -> Put
     requires { ⌜ Fine sink ⌝ }
-    ensures { λ r. ⌜ seen (now (out .exit)) r ≡ ran (orderOf order) (now (values .entry)) (under (now (out .entry)) sink) from (times count byte) ⌝ }
+    ensures { λ put. ⌜ seen (now (out .exit)) put ≡ ran (orderOf order) (now (values .entry)) (under (now (out .entry)) sink) from (times count byte) ⌝ }
 {
     let mut cur = sink;
     let mut index = from;
     let mut left = count;
     while 0 < left {
-        let r = spelling::write_one(order, Item::Byte, out, cur, values, index);
-        let Put::Done(next, behind) = r else {
-            return r;
+        let put = spelling::write_one(order, Item::Byte, out, cur, values, index);
+        let Put::Done(next, behind) = put else {
+            return put;
         };
         cur = next;
         index = behind;
@@ -131,11 +131,11 @@ fn write_stop(
     from: usize,
 ) -> Put
     requires { ⌜ Fine sink ⌝ }
-    ensures { λ r. ⌜ seen (now (out .exit)) r ≡ ran (orderOf order) (now (values .entry)) (under (now (out .entry)) sink) from (stopOf bytes) ⌝ }
+    ensures { λ put. ⌜ seen (now (out .exit)) put ≡ ran (orderOf order) (now (values .entry)) (under (now (out .entry)) sink) from (stopOf bytes) ⌝ }
 {
-    let r = write_pair(order, Item::Uint16, Item::Uint16, out, sink, values, from);
-    let Put::Done(next, behind) = r else {
-        return r;
+    let put = write_pair(order, Item::Uint16, Item::Uint16, out, sink, values, from);
+    let Put::Done(next, behind) = put else {
+        return put;
     };
     write_bytes(order, bytes, out, next, values, behind)
 }
@@ -151,15 +151,15 @@ fn write_stops(
     from: usize,
 ) -> Put
     requires { ⌜ Fine sink ⌝ }
-    ensures { λ r. ⌜ seen (now (out .exit)) r ≡ ran (orderOf order) (now (values .entry)) (under (now (out .entry)) sink) from (times count (stopOf bytes)) ⌝ }
+    ensures { λ put. ⌜ seen (now (out .exit)) put ≡ ran (orderOf order) (now (values .entry)) (under (now (out .entry)) sink) from (times count (stopOf bytes)) ⌝ }
 {
     let mut cur = sink;
     let mut index = from;
     let mut left = count;
     while 0 < left {
-        let r = write_stop(order, bytes, out, cur, values, index);
-        let Put::Done(next, behind) = r else {
-            return r;
+        let put = write_stop(order, bytes, out, cur, values, index);
+        let Put::Done(next, behind) = put else {
+            return put;
         };
         cur = next;
         index = behind;
@@ -179,11 +179,11 @@ fn write_both_stops(
     from: usize,
 ) -> Put
     requires { ⌜ Fine sink ⌝ }
-    ensures { λ r. ⌜ seen (now (out .exit)) r ≡ ran (orderOf order) (now (values .entry)) (under (now (out .entry)) sink) from (stopsOf alphas colors) ⌝ }
+    ensures { λ put. ⌜ seen (now (out .exit)) put ≡ ran (orderOf order) (now (values .entry)) (under (now (out .entry)) sink) from (stopsOf alphas colors) ⌝ }
 {
-    let r = write_stops(order, 1, alphas, out, sink, values, from);
-    let Put::Done(next, behind) = r else {
-        return r;
+    let put = write_stops(order, 1, alphas, out, sink, values, from);
+    let Put::Done(next, behind) = put else {
+        return put;
     };
     write_stops(order, 3, colors, out, next, values, behind)
 }
@@ -198,11 +198,11 @@ fn write_after_alphas(
     from: usize,
 ) -> Put
     requires { ⌜ Fine sink ⌝ }
-    ensures { λ r. ⌜ seen (now (out .exit)) r ≡ ran (orderOf order) (now (values .entry)) (under (now (out .entry)) sink) from (afterAlphas alphas) ⌝ }
+    ensures { λ put. ⌜ seen (now (out .exit)) put ≡ ran (orderOf order) (now (values .entry)) (under (now (out .entry)) sink) from (afterAlphas alphas) ⌝ }
 {
-    let r = spelling::write_one(order, Item::Count(0), out, sink, values, from);
-    let Put::Done(next, behind) = r else {
-        return r;
+    let put = spelling::write_one(order, Item::Count(0), out, sink, values, from);
+    let Put::Done(next, behind) = put else {
+        return put;
     };
     write_both_stops(
         order,
@@ -218,11 +218,11 @@ fn write_after_alphas(
 // A GradientColor: both counts, and the stops.
 fn write_gradient(order: Order, out: &mut [u8], sink: Sink, values: &[u64], from: usize) -> Put
     requires { ⌜ Fine sink ⌝ }
-    ensures { λ r. ⌜ seen (now (out .exit)) r ≡ ran (orderOf order) (now (values .entry)) (under (now (out .entry)) sink) from gradientColor ⌝ }
+    ensures { λ put. ⌜ seen (now (out .exit)) put ≡ ran (orderOf order) (now (values .entry)) (under (now (out .entry)) sink) from gradientColor ⌝ }
 {
-    let r = spelling::write_one(order, Item::Count(0), out, sink, values, from);
-    let Put::Done(next, behind) = r else {
-        return r;
+    let put = spelling::write_one(order, Item::Count(0), out, sink, values, from);
+    let Put::Done(next, behind) = put else {
+        return put;
     };
     write_after_alphas(order, values[from] as usize, out, next, values, behind)
 }
@@ -230,12 +230,12 @@ fn write_gradient(order: Order, out: &mut [u8], sink: Sink, values: &[u64], from
 // The flag of an offset of dashes: exist, and, if it is set, animatable.
 fn write_offset_flag(order: Order, out: &mut [u8], sink: Sink, values: &[u64], from: usize) -> Put
     requires { ⌜ Fine sink ⌝ }
-    ensures { λ r. ⌜ seen (now (out .exit)) r ≡ ran (orderOf order) (now (values .entry)) (under (now (out .entry)) sink) from offsetFlag ⌝ }
+    ensures { λ put. ⌜ seen (now (out .exit)) put ≡ ran (orderOf order) (now (values .entry)) (under (now (out .entry)) sink) from offsetFlag ⌝ }
 {
     let exist = spelling::fields::write_fields(order, Field::Plain, 1, 1, out, sink, values, from);
-    let r = exist.put;
-    let Put::Done(next, behind) = r else {
-        return r;
+    let put = exist.put;
+    let Put::Done(next, behind) = put else {
+        return put;
     };
     let animatable = spelling::fields::write_fields(
         order,
@@ -253,12 +253,12 @@ fn write_offset_flag(order: Order, out: &mut [u8], sink: Sink, values: &[u64], f
 // Dashes: from a whole byte on their length, and the flag of their offset.
 fn write_dashes(order: Order, out: &mut [u8], sink: Sink, values: &[u64], from: usize) -> Put
     requires { ⌜ Fine sink ⌝ }
-    ensures { λ r. ⌜ seen (now (out .exit)) r ≡ ran (orderOf order) (now (values .entry)) (under (now (out .entry)) sink) from dashes ⌝ }
+    ensures { λ put. ⌜ seen (now (out .exit)) put ≡ ran (orderOf order) (now (values .entry)) (under (now (out .entry)) sink) from dashes ⌝ }
 {
     let start = spelling::skip(order, out, sink);
-    let r = spelling::fields::write_dash_length(order, out, start, values, from);
-    let Put::Done(next, behind) = r else {
-        return r;
+    let put = spelling::fields::write_dash_length(order, out, start, values, from);
+    let Put::Done(next, behind) = put else {
+        return put;
     };
     write_offset_flag(order, out, next, values, behind)
 }
@@ -319,15 +319,15 @@ fn write_each(
     from: usize,
 ) -> Put
     requires { ⌜ Fine sink ⌝ }
-    ensures { λ r. ⌜ seen (now (out .exit)) r ≡ ran (orderOf order) (now (values .entry)) (under (now (out .entry)) sink) from (times count (valueOf (typeOf what))) ⌝ }
+    ensures { λ put. ⌜ seen (now (out .exit)) put ≡ ran (orderOf order) (now (values .entry)) (under (now (out .entry)) sink) from (times count (valueOf (typeOf what))) ⌝ }
 {
     let mut cur = sink;
     let mut index = from;
     let mut left = count;
     while 0 < left {
-        let r = write_value(order, what, out, cur, values, index);
-        let Put::Done(next, behind) = r else {
-            return r;
+        let put = write_value(order, what, out, cur, values, index);
+        let Put::Done(next, behind) = put else {
+            return put;
         };
         cur = next;
         index = behind;
@@ -373,15 +373,15 @@ fn write_times(
     from: usize,
 ) -> Put
     requires { ⌜ Fine sink ⌝ }
-    ensures { λ r. ⌜ seen (now (out .exit)) r ≡ ran (orderOf order) (now (values .entry)) (under (now (out .entry)) sink) from (times count time) ⌝ }
+    ensures { λ put. ⌜ seen (now (out .exit)) put ≡ ran (orderOf order) (now (values .entry)) (under (now (out .entry)) sink) from (times count time) ⌝ }
 {
     let mut cur = sink;
     let mut index = from;
     let mut left = count;
     while 0 < left {
-        let r = spelling::write_one(order, Item::Time, out, cur, values, index);
-        let Put::Done(next, behind) = r else {
-            return r;
+        let put = spelling::write_one(order, Item::Time, out, cur, values, index);
+        let Put::Done(next, behind) = put else {
+            return put;
         };
         cur = next;
         index = behind;

@@ -27,8 +27,8 @@ item-at-requires c κs = search needs
 read-one-requires : tie.Need-read-one-requires Inv-loop μ-loop
 read-one-requires c κs = c .before .before .before .loop .inv .1 .fits
 
-enum-known-r : tie.Need-enum-known-r Inv-loop μ-loop
-enum-known-r c = search needs
+enum-known-run : tie.Need-enum-known-run Inv-loop μ-loop
+enum-known-run c = search needs
 
 enum-told : tie.Need-enum-told Inv-loop μ-loop
 enum-told c = search needs
@@ -46,7 +46,7 @@ loop-less : tie.Need-loop-less Inv-loop μ-loop
 loop-less c = omega arith
 
 loop-again : tie.Need-loop-again Inv-loop μ-loop
-loop-again c = (omega arith, going-next (orderOf (c .before .before .before .before .before .before .before .before .before .before .before .before .args .order)) (c .before .before .before .before .before .before .before .before .before .loop .inv .1) (items-more (c .before .before .before .before .before .before .before .before .before .loop .row) (c .before .before .before .before .before .before .before .before .before .before .before .before .args .end) (c .before .before .before .before .before .before .before .item-at .ensures) (c .before .before .before .before .before .before .before .before .loop-test .taken) (c .before .before .before .before .before .before .before .before .before .before .before .before .pre .1)) (fair-kind (orderOf (c .before .before .before .before .before .before .before .before .before .before .before .before .args .order)) (c .before .before .before .before .before .before .before .item-at .result)) (c .before .r .given .1) (c .before .before .before .before .before .read-one .ensures))
+loop-again c = (omega arith, going-next (orderOf (c .before .before .before .before .before .before .before .before .before .before .before .before .args .order)) (c .before .before .before .before .before .before .before .before .before .loop .inv .1) (items-more (c .before .before .before .before .before .before .before .before .before .loop .row) (c .before .before .before .before .before .before .before .before .before .before .before .before .args .end) (c .before .before .before .before .before .before .before .item-at .ensures) (c .before .before .before .before .before .before .before .before .loop-test .taken) (c .before .before .before .before .before .before .before .before .before .before .before .before .pre .1)) (fair-kind (orderOf (c .before .before .before .before .before .before .before .before .before .before .before .before .args .order)) (c .before .before .before .before .before .before .before .item-at .result)) (c .before .run .given .1) (c .before .before .before .before .before .read-one .ensures))
 
 same-length-2 : tie.Need-same-length-2 Inv-loop μ-loop
 same-length-2 c = c .before .loop .inv .1 .size
@@ -63,7 +63,7 @@ read-items-spec =
     loop-holds
     item-at-requires
     read-one-requires
-    enum-known-r
+    enum-known-run
     enum-told
     same-length
     returns

@@ -62,8 +62,8 @@ write-content-requires c κs = c .before .before .before .before .before .before
 again-requires : tie.Need-again-requires Inv-loop μ-loop
 again-requires c κs = search needs
 
-enum-known-r : tie.Need-enum-known-r Inv-loop μ-loop
-enum-known-r c = search needs
+enum-known-put : tie.Need-enum-known-put Inv-loop μ-loop
+enum-known-put c = search needs
 
 enum-told-2 : tie.Need-enum-told-2 Inv-loop μ-loop
 enum-told-2 c = search needs
@@ -81,7 +81,7 @@ loop-less : tie.Need-loop-less Inv-loop μ-loop
 loop-less c = omega (arith, c .before .before .before .before .before .before .before .before .before .before .before .before .before .before .before .loop-test .taken)
 
 loop-again : tie.Need-loop-again Inv-loop μ-loop
-loop-again c = (omega (arith, c .before .before .before .before .before .before .before .before .before .before .before .before .before .before .before .loop-test .taken), fill-next (c .before .before .before .before .before .before .before .before .before .before .before .before .before .before .before .before .loop .inv .1) (attributeOf (rowAt (c .before .before .before .before .before .before .before .before .before .before .before .before .before .before .before .before .before .before .before .before .args .block .rows) (c .before .before .before .before .before .before .before .before .before .before .before .before .before .before .before .before .loop .row))) (rowsFrom (c .before .before .before .before .before .before .before .before .before .before .before .before .before .before .before .before .before .before .before .before .args .block .rows) (c .before .before .before .before .before .before .before .before .before .before .before .before .before .before .before .before .loop .row + 1) (c .before .before .before .before .before .before .before .before .before .before .before .before .before .before .before .before .before .before .before .before .args .block .count - (c .before .before .before .before .before .before .before .before .before .before .before .before .before .before .before .before .loop .row + 1))) (rows-next (c .before .before .before .before .before .before .before .before .before .before .before .before .before .before .before .before .before .before .before .before .args .block .rows) (c .before .before .before .before .before .before .before .before .before .before .before .before .before .before .before .loop-test .taken)) (omega (arith, c .before .before .before .before .before .before .before .before .before .before .before .before .before .before .if1 .left)) (c .before .before .before .before .before .before .before .before .before .before .before .add-flags .result) (c .before .before .before .before .before .before .before .before .before .before .before .add-flags .ensures) (c .before .before .before .before .before .before .write-content .last .1 .1 .1 .0) (c .before .before .before .again .result) (rw (c .before .before .before .again .ensures) (c .before .before .before .before .before .before .write-content .ensures)) (c .before .before .before .before .before .before .before .before .before .flagged .given .0 .0) (c .before .r .given .0 .0) (c .before .r .given .0 .1 .0) (c .before .before .before .before .before .before .before .before .before .flagged .given .1) (c .before .r .given .1) (c .before .before .before .before .before .before .write-content .kept .1 .1 .1 .0))
+loop-again c = (omega (arith, c .before .before .before .before .before .before .before .before .before .before .before .before .before .before .before .loop-test .taken), fill-next (c .before .before .before .before .before .before .before .before .before .before .before .before .before .before .before .before .loop .inv .1) (attributeOf (rowAt (c .before .before .before .before .before .before .before .before .before .before .before .before .before .before .before .before .before .before .before .before .args .block .rows) (c .before .before .before .before .before .before .before .before .before .before .before .before .before .before .before .before .loop .row))) (rowsFrom (c .before .before .before .before .before .before .before .before .before .before .before .before .before .before .before .before .before .before .before .before .args .block .rows) (c .before .before .before .before .before .before .before .before .before .before .before .before .before .before .before .before .loop .row + 1) (c .before .before .before .before .before .before .before .before .before .before .before .before .before .before .before .before .before .before .before .before .args .block .count - (c .before .before .before .before .before .before .before .before .before .before .before .before .before .before .before .before .loop .row + 1))) (rows-next (c .before .before .before .before .before .before .before .before .before .before .before .before .before .before .before .before .before .before .before .before .args .block .rows) (c .before .before .before .before .before .before .before .before .before .before .before .before .before .before .before .loop-test .taken)) (omega (arith, c .before .before .before .before .before .before .before .before .before .before .before .before .before .before .if1 .left)) (c .before .before .before .before .before .before .before .before .before .before .before .add-flags .result) (c .before .before .before .before .before .before .before .before .before .before .before .add-flags .ensures) (c .before .before .before .before .before .before .write-content .last .1 .1 .1 .0) (c .before .before .before .again .result) (rw (c .before .before .before .again .ensures) (c .before .before .before .before .before .before .write-content .ensures)) (c .before .before .before .before .before .before .before .before .before .flagged .given .0 .0) (c .before .put .given .0 .0) (c .before .put .given .0 .1 .0) (c .before .before .before .before .before .before .before .before .before .flagged .given .1) (c .before .put .given .1) (c .before .before .before .before .before .before .write-content .kept .1 .1 .1 .0))
 
 same-length-4 : tie.Need-same-length-4 Inv-loop μ-loop
 same-length-4 c = c .before .loop .inv .1 .size
@@ -110,7 +110,7 @@ write-contents-spec =
     add-write-content
     write-content-requires
     again-requires
-    enum-known-r
+    enum-known-put
     enum-told-2
     same-length-3
     returns-3

@@ -23,8 +23,8 @@ loop-holds c = going-none (orderOf (c .before .before .args .order)) (now (c .be
 write-one-requires : tie.Need-write-one-requires Inv-loop μ-loop
 write-one-requires c κs = c .before .before .loop .inv .fine
 
-enum-known-r : tie.Need-enum-known-r Inv-loop μ-loop
-enum-known-r c = search needs
+enum-known-put : tie.Need-enum-known-put Inv-loop μ-loop
+enum-known-put c = search needs
 
 enum-told : tie.Need-enum-told Inv-loop μ-loop
 enum-told c = search needs
@@ -42,7 +42,7 @@ loop-less : tie.Need-loop-less Inv-loop μ-loop
 loop-less c = omega (arith, c .before .before .before .before .before .before .before .loop-test .taken)
 
 loop-again : tie.Need-loop-again Inv-loop μ-loop
-loop-again c = going-next (c .before .before .before .before .before .before .before .before .loop .inv) byte (times (c .before .before .before .before .before .before .before .before .loop .left - 1) byte) (times-more byte (c .before .before .before .before .before .before .before .before .loop .left) (c .before .before .before .before .before .before .before .loop-test .taken)) (c .before .before .before .before .before .write-one .last .1 .1 .0) (c .before .before .before .before .before .write-one .result) (c .before .before .before .before .before .write-one .ensures) (c .before .before .before .before .before .write-one .kept .1 .1 .0) (c .before .r .given .0 .0) (c .before .r .given .0 .1 .0) (c .before .r .given .1)
+loop-again c = going-next (c .before .before .before .before .before .before .before .before .loop .inv) byte (times (c .before .before .before .before .before .before .before .before .loop .left - 1) byte) (times-more byte (c .before .before .before .before .before .before .before .before .loop .left) (c .before .before .before .before .before .before .before .loop-test .taken)) (c .before .before .before .before .before .write-one .last .1 .1 .0) (c .before .before .before .before .before .write-one .result) (c .before .before .before .before .before .write-one .ensures) (c .before .before .before .before .before .write-one .kept .1 .1 .0) (c .before .put .given .0 .0) (c .before .put .given .0 .1 .0) (c .before .put .given .1)
 
 same-length-2 : tie.Need-same-length-2 Inv-loop μ-loop
 same-length-2 c = c .before .loop .inv .size
@@ -58,7 +58,7 @@ write-bytes-spec =
     μ-loop
     loop-holds
     write-one-requires
-    enum-known-r
+    enum-known-put
     enum-told
     same-length
     returns
