@@ -103,11 +103,12 @@ fn put_fields(
     requires { ⌜ Fine sink × (1 ≤ width) × (width ≤ 32) × (count < 2 ^ 32) × (count ≤ length (now values) - from) ⌝ }
     ensures { λ r. ⌜ under (now (out .exit)) r ≡ lay (orderOf order) (under (now (out .entry)) sink) (digAll (orderOf order) width (take count (drop from (now (values .entry))))) ⌝ }
 {
+    // Without a field what waits goes on waiting, past the end too.
     if count == 0 {
         return sink;
     }
     let at = sink.place.0;
-    // Past the end nothing waits for its byte: so the run that measures puts nothing together.
+    // Behind a field that is past the end nothing waits: so the run that measures puts nothing together.
     if out.len() <= at / 8 {
         let place = BitPlace(at + count * width);
         return Sink { place, part: 0 };

@@ -1,9 +1,8 @@
 -- `spelling::fields::put_fields` meets its contract. The loop's invariant: the bits of all of them are laid by laying those that are left from here on.
-use Prim.Native.Nat.{_+_, _-_, _%_}
+use Prim.Native.Nat.{_+_, _-_}
 use denote.Ref.{now}
 use mathlib.Core.Path.{refl}
 use native.Mathlib.Omega.{arith}
-use borrow.Author.Needs.{needs}
 use lib.ListN.{getD}
 use Rattle.bits.specs.Places.{orderOf}
 use Rattle.table.proofs.FieldLaws.{run-small}
