@@ -1,7 +1,6 @@
 -- `spelling::fields::write_scaled` meets its contract.
-use mathlib.Core.Path.{sym, ap, _∙_}
+use mathlib.Core.Path.{sym, _∙_}
 use Rattle.bits.specs.Places.{orderOf}
-use Rattle.spelling.specs.Writing.{seen}
 use native.Mathlib.Omega.{arith}
 use denote.Ref.{now}
 use Rattle.format.specs.Formats.{Item, item}
@@ -25,7 +24,7 @@ same-length : tie.Need-same-length
 same-length c = search needs
 
 returns : tie.Need-returns
-returns c = let a = c .before .before .before .before .before .before .before .before .args in ap (seen (c .before .before .before .before .write-width .last .1 .0)) (c .enum-told .given .1) ∙ sym (scaled-stop (orderOf (a .order)) (a .kind) (now (a .values)) (at (now (a .out)) (a .sink)) (a .from) (a .count) (c .before .before .before .before .write-width .last .1 .0) (c .before .before .before .before .write-width .result) (c .before .before .before .before .write-width .ensures) (c .enum-told .given .1))
+returns c = let a = c .before .before .before .before .before .before .before .before .args in sym (scaled-stop (orderOf (a .order)) (a .kind) (now (a .values)) (at (now (a .out)) (a .sink)) (a .from) (a .count) (c .before .before .before .before .write-width .last .1 .0) (c .before .before .before .before .write-width .result) (c .before .before .before .before .write-width .ensures) (c .enum-told .given .1))
 
 mul-write-fields : tie.Need-mul-write-fields
 mul-write-fields c = let a = c .before .before .before .before .before .before .before .before .before .args in let h = width-range (orderOf (a .order)) (a .kind) (now (a .values)) (at (now (a .out)) (a .sink)) (a .from) (a .count) (c .before .before .before .before .before .write-width .last .1 .0) (c .before .before .before .before .before .write-width .result) (c .before .before .before .before .before .write-width .ensures) (c .before .r .given .0 .0) (c .before .r .given .0 .1 .0) (c .before .r .given .1) .0 in omega (arith, h)
