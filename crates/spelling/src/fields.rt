@@ -215,10 +215,10 @@ pub fn write_scaled(
     from: usize,
 ) -> Put
     requires { ⌜ Fine sink × (count < 2 ^ 32) ⌝ }
-    ensures { λ r. ⌜ seen (now (out .exit)) r ≡ ran (orderOf order) (now (values .entry)) (under (now (out .entry)) sink) from (item Item.width ▹ λ w. times count (fieldOf kind (the w))) ⌝ }
+    ensures { λ put. ⌜ seen (now (out .exit)) put ≡ ran (orderOf order) (now (values .entry)) (under (now (out .entry)) sink) from (item Item.width ▹ λ w. times count (fieldOf kind (the w))) ⌝ }
 {
-    let r = write_width(order, out, sink, values, from);
-    let Put::Done(next, behind) = r else {
+    let put = write_width(order, out, sink, values, from);
+    let Put::Done(next, behind) = put else {
         return Put::Impossible;
     };
     let fields = write_fields(
