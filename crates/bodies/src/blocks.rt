@@ -80,7 +80,7 @@ pub fn read_contents(
     from: usize,
 ) -> Run
     requires { ⌜ (block .count ≤ 12) × (12 ≤ length (now flags)) × Fits (now body) (at .0) (from + 12) ⌝ }
-    ensures { λ run. ⌜ runLeaves (now (table .exit)) run ≡ shownOver (now (table .entry)) from (run (orderOf order) (now (body .entry)) (rowsOf (rowsFrom (block .rows) 0 (block .count)) (take (block .count) (now (flags .entry)))) (at .0)) ⌝ }
+    ensures { λ r. ⌜ runLeaves (now (table .exit)) r ≡ shownOver (now (table .entry)) from (run (orderOf order) (now (body .entry)) (rowsOf (rowsFrom (block .rows) 0 (block .count)) (take (block .count) (now (flags .entry)))) (at .0)) ⌝ }
 {
     let rows = block.rows;
     let count = block.count;

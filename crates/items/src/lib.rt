@@ -132,7 +132,7 @@ pub fn out_of_range(kind: Item, value: u64) -> u32
 // An item: skipped bits (15), its bytes (13), its spelling (14), its range (16, 17).
 pub fn read_item(order: Order, kind: Item, body: &[u8], at: BitPlace) -> Got
     requires { ⌜ PlaceIn (now body) (at .0) ⌝ }
-    ensures { λ got. ⌜ showNum (numOf got) ≡ run (orderOf order) (now (body .entry)) (formatOf kind) (at .0) ⌝ }
+    ensures { λ r. ⌜ showNum (numOf r) ≡ run (orderOf order) (now (body .entry)) (formatOf kind) (at .0) ⌝ }
 {
     let aligned = bits::align(order, body, at);
     let Aligned::Clean(byte, bit) = aligned else {

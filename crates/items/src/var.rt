@@ -78,7 +78,7 @@ pub(crate) fn read_u64(body: &[u8], byte: BytePlace, bit: BitPlace) -> Got
 // I32: a U32 d; the magnitude is d / 2, odd d is negative, minus zero is refused.
 pub(crate) fn read_i32(body: &[u8], byte: BytePlace, bit: BitPlace) -> Got
     requires { ⌜ PlaceIn (now body) (bit .0) × (bit .0 ≡ 8 * byte .0) ⌝ }
-    ensures { λ got. ⌜ InEither (λ o. numOf got ≡ mapNum sign (notOne (readU32 o (now (body .entry)) (bit .0)))) ⌝ }
+    ensures { λ r. ⌜ InEither (λ o. numOf r ≡ mapNum sign (notOne (readU32 o (now (body .entry)) (bit .0)))) ⌝ }
 {
     let got = read_u32(body, byte, bit);
     let Got::Value(d, next) = got else {

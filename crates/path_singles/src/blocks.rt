@@ -86,7 +86,7 @@ fn rows_before(block: Block, row: usize) -> Block
 // How many numbers the attributes before a row show: the flags of the block are read, and the contents of those attributes.
 fn numbers_before(code: u32, row: usize, body: &[u8]) -> usize
     requires { ⌜ (row ≤ length (attributesOf code)) × (length (now body) < 2 ^ 60) ⌝ }
-    ensures { λ run. ⌜ run ≡ length (earlier high (now (body .entry)) (attributesOf code) row) ⌝ }
+    ensures { λ r. ⌜ r ≡ length (earlier high (now (body .entry)) (attributesOf code) row) ⌝ }
 {
     let order = Order::HighFirst;
     let block = attributes::blocks::block_of(code);

@@ -215,7 +215,7 @@ pub fn write_scaled(
     from: usize,
 ) -> Put
     requires { ⌜ Fine sink × (count < 2 ^ 32) ⌝ }
-    ensures { λ put. ⌜ seen (now (out .exit)) put ≡ ran (orderOf order) (now (values .entry)) (under (now (out .entry)) sink) from (item Item.width ▹ λ w. times count (fieldOf kind (the w))) ⌝ }
+    ensures { λ r. ⌜ seen (now (out .exit)) r ≡ ran (orderOf order) (now (values .entry)) (under (now (out .entry)) sink) from (item Item.width ▹ λ w. times count (fieldOf kind (the w))) ⌝ }
 {
     let put = write_width(order, out, sink, values, from);
     let Put::Done(next, behind) = put else {

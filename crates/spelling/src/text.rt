@@ -46,7 +46,7 @@ fn spell_text(out: &mut [u8], at: Whole, text: &[u64]) -> Spelt
 // A String: its length and then its bytes.
 pub fn write_string(order: Order, out: &mut [u8], sink: Sink, values: &[u64], from: usize) -> Put
     requires { ⌜ Fine sink ⌝ }
-    ensures { λ spelt. ⌜ seen (now (out .exit)) spelt ≡ ran (orderOf order) (now (values .entry)) (under (now (out .entry)) sink) from string ⌝ }
+    ensures { λ r. ⌜ seen (now (out .exit)) r ≡ ran (orderOf order) (now (values .entry)) (under (now (out .entry)) sink) from string ⌝ }
 {
     if values.len() <= from {
         return Put::Impossible;

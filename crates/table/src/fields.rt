@@ -231,7 +231,7 @@ pub fn read_scaled(
     from: usize,
 ) -> Run
     requires { ⌜ Fits (now body) (at .0) from × (count < 2 ^ 32) ⌝ }
-    ensures { λ got. ⌜ runLeaves (now (table .exit)) got ≡ shownOver (now (table .entry)) from (run (orderOf order) (now (body .entry)) (item ItemOf.width ▹ λ width. times count (fieldOf kind (the width))) (at .0)) ⌝ }
+    ensures { λ r. ⌜ runLeaves (now (table .exit)) r ≡ shownOver (now (table .entry)) from (run (orderOf order) (now (body .entry)) (item ItemOf.width ▹ λ width. times count (fieldOf kind (the width))) (at .0)) ⌝ }
 {
     let got = bits::fields::read_width(order, body, at);
     match got {

@@ -26,7 +26,7 @@ pub fn read_items(
     from: usize,
 ) -> Run
     requires { ⌜ Fits (now body) (at .0) from ⌝ }
-    ensures { λ run. ⌜ runLeaves (now (table .exit)) run ≡ shownOver (now (table .entry)) from (run (orderOf order) (now (body .entry)) (times count (formatOf kind)) (at .0)) ⌝ }
+    ensures { λ r. ⌜ runLeaves (now (table .exit)) r ≡ shownOver (now (table .entry)) from (run (orderOf order) (now (body .entry)) (times count (formatOf kind)) (at .0)) ⌝ }
 {
     let mut place = at;
     let mut index = from;

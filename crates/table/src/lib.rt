@@ -66,7 +66,7 @@ pub fn read_one(
     from: usize,
 ) -> Run
     requires { ⌜ Fits (now body) (at .0) from ⌝ }
-    ensures { λ got. ⌜ runLeaves (now (table .exit)) got ≡ shownOver (now (table .entry)) from (run (orderOf order) (now (body .entry)) (formatOf kind) (at .0)) ⌝ }
+    ensures { λ r. ⌜ runLeaves (now (table .exit)) r ≡ shownOver (now (table .entry)) from (run (orderOf order) (now (body .entry)) (formatOf kind) (at .0)) ⌝ }
 {
     let got = items::read_item(order, kind, body, at);
     match got {

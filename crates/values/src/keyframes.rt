@@ -149,7 +149,7 @@ fn read_eased(
     from: usize,
 ) -> Run
     requires { ⌜ Fits (now body) (at .0) from × (frames ≤ 4096) × (easing < 2 ^ 32) ⌝ }
-    ensures { λ run. ⌜ runLeaves (now (table .exit)) run ≡ shownOver (now (table .entry)) from (run (orderOf order) (now (body .entry)) ((aligned ▸ scaled easing) ▸ pick (hasSpatial flag) (spatial frames) nothing) (at .0)) ⌝ }
+    ensures { λ r. ⌜ runLeaves (now (table .exit)) r ≡ shownOver (now (table .entry)) from (run (orderOf order) (now (body .entry)) ((aligned ▸ scaled easing) ▸ pick (hasSpatial flag) (spatial frames) nothing) (at .0)) ⌝ }
 {
     let run = read_easing(order, easing, body, at, table, from);
     let Run::Done(eased, after_easing) = run else {
@@ -172,7 +172,7 @@ fn read_frames(
     from: usize,
 ) -> Run
     requires { ⌜ Fits (now body) (at .0) from × (frames ≤ 4096) × (easing < 2 ^ 32) ⌝ }
-    ensures { λ run. ⌜ runLeaves (now (table .exit)) run ≡ shownOver (now (table .entry)) from (run (orderOf order) (now (body .entry)) (framesOf (kindOf kind) (typeOf what) flag frames easing) (at .0)) ⌝ }
+    ensures { λ r. ⌜ runLeaves (now (table .exit)) r ≡ shownOver (now (table .entry)) from (run (orderOf order) (now (body .entry)) (framesOf (kindOf kind) (typeOf what) flag frames easing) (at .0)) ⌝ }
 {
     let run = read_times(order, frames + 1, body, at, table, from);
     let Run::Done(timed, after_times) = run else {
@@ -216,7 +216,7 @@ fn read_keyframes(
     from: usize,
 ) -> Run
     requires { ⌜ Fits (now body) (at .0) from × (frames ≤ 4096) ⌝ }
-    ensures { λ run. ⌜ runLeaves (now (table .exit)) run ≡ shownOver (now (table .entry)) from (run (orderOf order) (now (body .entry)) (keyframesOf (kindOf kind) (typeOf what) flag frames) (at .0)) ⌝ }
+    ensures { λ r. ⌜ runLeaves (now (table .exit)) r ≡ shownOver (now (table .entry)) from (run (orderOf order) (now (body .entry)) (keyframesOf (kindOf kind) (typeOf what) flag frames) (at .0)) ⌝ }
 {
     let kinds = read_interpolations(order, kind, frames, body, at, table, from);
     let beziers = kinds.count;

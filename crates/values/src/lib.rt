@@ -36,7 +36,7 @@ fn read_pair(
     from: usize,
 ) -> Run
     requires { ⌜ Fits (now body) (at .0) from ⌝ }
-    ensures { λ run. ⌜ runLeaves (now (table .exit)) run ≡ shownOver (now (table .entry)) from (run (orderOf order) (now (body .entry)) (formatOf first ▸ formatOf second) (at .0)) ⌝ }
+    ensures { λ r. ⌜ runLeaves (now (table .exit)) r ≡ shownOver (now (table .entry)) from (run (orderOf order) (now (body .entry)) (formatOf first ▸ formatOf second) (at .0)) ⌝ }
 {
     let run = table::read_one(order, first, body, at, table, from);
     let Run::Done(next, behind) = run else {
@@ -57,7 +57,7 @@ fn read_announcing(
     from: usize,
 ) -> Run
     requires { ⌜ Fits (now body) (at .0) from × (1 ≤ width) × (width ≤ 32) × (count ≤ 8192) ⌝ }
-    ensures { λ run. ⌜ runLeaves (now (table .exit)) run ≡ shownOver (now (table .entry)) from (run (orderOf order) (now (body .entry)) (announcing kind width count) (at .0)) ⌝ }
+    ensures { λ r. ⌜ runLeaves (now (table .exit)) r ≡ shownOver (now (table .entry)) from (run (orderOf order) (now (body .entry)) (announcing kind width count) (at .0)) ⌝ }
 {
     let fields = table::fields::read_fields(order, kind, width, count, body, at, table, from);
     let announced = fields.count;
@@ -110,7 +110,7 @@ fn read_stop(
     from: usize,
 ) -> Run
     requires { ⌜ Fits (now body) (at .0) from ⌝ }
-    ensures { λ run. ⌜ runLeaves (now (table .exit)) run ≡ shownOver (now (table .entry)) from (run (orderOf order) (now (body .entry)) (stopOf bytes) (at .0)) ⌝ }
+    ensures { λ r. ⌜ runLeaves (now (table .exit)) r ≡ shownOver (now (table .entry)) from (run (orderOf order) (now (body .entry)) (stopOf bytes) (at .0)) ⌝ }
 {
     let run = read_pair(order, Item::Uint16, Item::Uint16, body, at, table, from);
     let Run::Done(next, behind) = run else {
@@ -130,7 +130,7 @@ fn read_stops(
     from: usize,
 ) -> Run
     requires { ⌜ Fits (now body) (at .0) from ⌝ }
-    ensures { λ run. ⌜ runLeaves (now (table .exit)) run ≡ shownOver (now (table .entry)) from (run (orderOf order) (now (body .entry)) (times count (stopOf bytes)) (at .0)) ⌝ }
+    ensures { λ r. ⌜ runLeaves (now (table .exit)) r ≡ shownOver (now (table .entry)) from (run (orderOf order) (now (body .entry)) (times count (stopOf bytes)) (at .0)) ⌝ }
 {
     let mut place = at;
     let mut index = from;
@@ -158,7 +158,7 @@ fn read_both_stops(
     from: usize,
 ) -> Run
     requires { ⌜ Fits (now body) (at .0) from ⌝ }
-    ensures { λ run. ⌜ runLeaves (now (table .exit)) run ≡ shownOver (now (table .entry)) from (run (orderOf order) (now (body .entry)) (stopsOf alphas colors) (at .0)) ⌝ }
+    ensures { λ r. ⌜ runLeaves (now (table .exit)) r ≡ shownOver (now (table .entry)) from (run (orderOf order) (now (body .entry)) (stopsOf alphas colors) (at .0)) ⌝ }
 {
     let run = read_stops(order, 1, alphas, body, at, table, from);
     let Run::Done(next, behind) = run else {
@@ -207,7 +207,7 @@ fn read_gradient(order: Order, body: &[u8], at: BitPlace, table: &mut [u64], fro
 // The flag of an offset of dashes: exist, and, if it is set, animatable.
 fn read_offset_flag(order: Order, body: &[u8], at: BitPlace, table: &mut [u64], from: usize) -> Run
     requires { ⌜ Fits (now body) (at .0) from ⌝ }
-    ensures { λ got. ⌜ runLeaves (now (table .exit)) got ≡ shownOver (now (table .entry)) from (run (orderOf order) (now (body .entry)) offsetFlag (at .0)) ⌝ }
+    ensures { λ r. ⌜ runLeaves (now (table .exit)) r ≡ shownOver (now (table .entry)) from (run (orderOf order) (now (body .entry)) offsetFlag (at .0)) ⌝ }
 {
     let got = bits::fields::read_ub(order, body, at, 1);
     match got {
@@ -232,7 +232,7 @@ fn read_offset_flag(order: Order, body: &[u8], at: BitPlace, table: &mut [u64], 
 // Dashes: from a whole byte on their length, shown plus 1, and the flag of their offset.
 fn read_dashes(order: Order, body: &[u8], at: BitPlace, table: &mut [u64], from: usize) -> Run
     requires { ⌜ Fits (now body) (at .0) from ⌝ }
-    ensures { λ got. ⌜ runLeaves (now (table .exit)) got ≡ shownOver (now (table .entry)) from (run (orderOf order) (now (body .entry)) dashes (at .0)) ⌝ }
+    ensures { λ r. ⌜ runLeaves (now (table .exit)) r ≡ shownOver (now (table .entry)) from (run (orderOf order) (now (body .entry)) dashes (at .0)) ⌝ }
 {
     let aligned = bits::align(order, body, at);
     let Aligned::Clean(_, start) = aligned else {
@@ -304,7 +304,7 @@ fn read_each(
     from: usize,
 ) -> Run
     requires { ⌜ Fits (now body) (at .0) from ⌝ }
-    ensures { λ run. ⌜ runLeaves (now (table .exit)) run ≡ shownOver (now (table .entry)) from (run (orderOf order) (now (body .entry)) (times count (valueOf (typeOf what))) (at .0)) ⌝ }
+    ensures { λ r. ⌜ runLeaves (now (table .exit)) r ≡ shownOver (now (table .entry)) from (run (orderOf order) (now (body .entry)) (times count (valueOf (typeOf what))) (at .0)) ⌝ }
 {
     let mut place = at;
     let mut index = from;
@@ -351,7 +351,7 @@ fn read_times(
     from: usize,
 ) -> Run
     requires { ⌜ Fits (now body) (at .0) from ⌝ }
-    ensures { λ run. ⌜ runLeaves (now (table .exit)) run ≡ shownOver (now (table .entry)) from (run (orderOf order) (now (body .entry)) (times count time) (at .0)) ⌝ }
+    ensures { λ r. ⌜ runLeaves (now (table .exit)) r ≡ shownOver (now (table .entry)) from (run (orderOf order) (now (body .entry)) (times count time) (at .0)) ⌝ }
 {
     let mut place = at;
     let mut index = from;

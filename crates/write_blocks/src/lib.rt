@@ -154,7 +154,7 @@ fn write_content(
 // The contents of all rows; their flags are gathered on the way.
 fn write_contents(order: Order, block: Block, values: &[u64], out: &mut [u8], sink: Sink) -> Filled
     requires { ⌜ (block .count ≤ 12) × HasFlags (rowsFrom (block .rows) 0 (block .count)) × Fine sink ⌝ }
-    ensures { λ put. ⌜ (filled (orderOf order) (now (out .exit)) put ≡ fills (orderOf order) (rowsFrom (block .rows) 0 (block .count)) (now (values .entry)) (under (now (out .entry)) sink)) × Ready put ⌝ }
+    ensures { λ r. ⌜ (filled (orderOf order) (now (out .exit)) r ≡ fills (orderOf order) (rowsFrom (block .rows) 0 (block .count)) (now (values .entry)) (under (now (out .entry)) sink)) × Ready r ⌝ }
 {
     let rows = block.rows;
     let count = block.count;
@@ -226,7 +226,7 @@ pub fn write_block(
     at: BytePlace,
 ) -> Body
     requires { ⌜ (block .count ≤ 12) × HasFlags (rowsFrom (block .rows) 0 (block .count)) ⌝ }
-    ensures { λ filled. ⌜ lainAs (now (out .exit)) filled ≡ lies (now (out .entry)) (at .0) (writeBody (orderOf order) (attributesBody (rowsFrom (block .rows) 0 (block .count))) (now (values .entry))) ⌝ }
+    ensures { λ r. ⌜ lainAs (now (out .exit)) r ≡ lies (now (out .entry)) (at .0) (writeBody (orderOf order) (attributesBody (rowsFrom (block .rows) 0 (block .count))) (now (values .entry))) ⌝ }
 {
     if 16777216 <= at.0 {
         return Body::No;

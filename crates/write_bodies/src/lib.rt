@@ -14,7 +14,7 @@ use sink::Body;
 // A body that is no attribute block, from a byte place on. No file is longer than 16,777,216 bytes.
 fn write_items(order: Order, code: u32, values: &[u64], out: &mut [u8], at: BytePlace) -> Body
     requires { ⌜ at .0 ≤ 16777218 ⌝ }
-    ensures { λ items. ⌜ lainAs (now (out .exit)) items ≡ lies (now (out .entry)) (at .0) (writeBody (orderOf order) (fixed (fixedOf code)) (now (values .entry))) ⌝ }
+    ensures { λ r. ⌜ lainAs (now (out .exit)) r ≡ lies (now (out .entry)) (at .0) (writeBody (orderOf order) (fixed (fixedOf code)) (now (values .entry))) ⌝ }
 {
     if 16777216 < at.0 {
         return Body::No;
@@ -26,7 +26,7 @@ fn write_items(order: Order, code: u32, values: &[u64], out: &mut [u8], at: Byte
 // The body of a leaf tag, from a byte place on.
 pub fn write_body(order: Order, code: u32, values: &[u64], out: &mut [u8], at: BytePlace) -> Body
     requires { ⌜ at .0 ≤ 16777218 ⌝ }
-    ensures { λ written. ⌜ lainAs (now (out .exit)) written ≡ lies (now (out .entry)) (at .0) (writeBody (orderOf order) (leafBody code) (now (values .entry))) ⌝ }
+    ensures { λ r. ⌜ lainAs (now (out .exit)) r ≡ lies (now (out .entry)) (at .0) (writeBody (orderOf order) (leafBody code) (now (values .entry))) ⌝ }
 {
     if bodies::is_block(code) {
         let block = attributes::blocks::block_of(code);

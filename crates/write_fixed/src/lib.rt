@@ -54,7 +54,7 @@ fn write_strings(
     from: usize,
 ) -> Put
     requires { ⌜ Fine sink ⌝ }
-    ensures { λ put. ⌜ seen (now (out .exit)) put ≡ ran (orderOf order) (now (values .entry)) (under (now (out .entry)) sink) from (times count string) ⌝ }
+    ensures { λ r. ⌜ seen (now (out .exit)) r ≡ ran (orderOf order) (now (values .entry)) (under (now (out .entry)) sink) from (times count string) ⌝ }
 {
     let mut cur = sink;
     let mut index = from;
@@ -74,7 +74,7 @@ fn write_strings(
 // 1: a count, then two Strings each.
 fn write_fonts(order: Order, out: &mut [u8], sink: Sink, values: &[u64], from: usize) -> Put
     requires { ⌜ Fine sink ⌝ }
-    ensures { λ put. ⌜ seen (now (out .exit)) put ≡ ran (orderOf order) (now (values .entry)) (under (now (out .entry)) sink) from fontTables ⌝ }
+    ensures { λ r. ⌜ seen (now (out .exit)) r ≡ ran (orderOf order) (now (values .entry)) (under (now (out .entry)) sink) from fontTables ⌝ }
 {
     let put = spelling::write_one(order, Item::Count(0), out, sink, values, from);
     let Put::Done(next, behind) = put else {

@@ -131,7 +131,7 @@ fn write_eased(
     from: usize,
 ) -> Put
     requires { ⌜ Fine sink × (frames ≤ 4096) × (easing < 2 ^ 32) ⌝ }
-    ensures { λ put. ⌜ seen (now (out .exit)) put ≡ ran (orderOf order) (now (values .entry)) (under (now (out .entry)) sink) from ((aligned ▸ scaled easing) ▸ pick (hasSpatial flag) (spatial frames) nothing) ⌝ }
+    ensures { λ r. ⌜ seen (now (out .exit)) r ≡ ran (orderOf order) (now (values .entry)) (under (now (out .entry)) sink) from ((aligned ▸ scaled easing) ▸ pick (hasSpatial flag) (spatial frames) nothing) ⌝ }
 {
     let put = write_easing(order, easing, out, sink, values, from);
     let Put::Done(eased, after_easing) = put else {
@@ -154,7 +154,7 @@ fn write_frames(
     from: usize,
 ) -> Put
     requires { ⌜ Fine sink × (frames ≤ 4096) × (easing < 2 ^ 32) ⌝ }
-    ensures { λ put. ⌜ seen (now (out .exit)) put ≡ ran (orderOf order) (now (values .entry)) (under (now (out .entry)) sink) from (framesOf (kindOf kind) (typeOf what) flag frames easing) ⌝ }
+    ensures { λ r. ⌜ seen (now (out .exit)) r ≡ ran (orderOf order) (now (values .entry)) (under (now (out .entry)) sink) from (framesOf (kindOf kind) (typeOf what) flag frames easing) ⌝ }
 {
     let put = write_times(order, frames + 1, out, sink, values, from);
     let Put::Done(timed, after_times) = put else {
@@ -198,7 +198,7 @@ fn write_keyframes(
     from: usize,
 ) -> Put
     requires { ⌜ Fine sink × (frames ≤ 4096) ⌝ }
-    ensures { λ put. ⌜ seen (now (out .exit)) put ≡ ran (orderOf order) (now (values .entry)) (under (now (out .entry)) sink) from (keyframesOf (kindOf kind) (typeOf what) flag frames) ⌝ }
+    ensures { λ r. ⌜ seen (now (out .exit)) r ≡ ran (orderOf order) (now (values .entry)) (under (now (out .entry)) sink) from (keyframesOf (kindOf kind) (typeOf what) flag frames) ⌝ }
 {
     let kinds = write_interpolations(order, kind, frames, out, sink, values, from);
     let beziers = kinds.count;
@@ -233,7 +233,7 @@ fn write_counted(
     from: usize,
 ) -> Put
     requires { ⌜ Fine sink ⌝ }
-    ensures { λ put. ⌜ seen (now (out .exit)) put ≡ ran (orderOf order) (now (values .entry)) (under (now (out .entry)) sink) from (keyframed (kindOf kind) (typeOf what) flag) ⌝ }
+    ensures { λ r. ⌜ seen (now (out .exit)) r ≡ ran (orderOf order) (now (values .entry)) (under (now (out .entry)) sink) from (keyframed (kindOf kind) (typeOf what) flag) ⌝ }
 {
     let put = spelling::write_one(order, Item::Count(1), out, sink, values, from);
     let Put::Done(next, behind) = put else {

@@ -33,7 +33,7 @@ fn write_pair(
     from: usize,
 ) -> Put
     requires { ⌜ Fine sink ⌝ }
-    ensures { λ put. ⌜ seen (now (out .exit)) put ≡ ran (orderOf order) (now (values .entry)) (under (now (out .entry)) sink) from (formatOf first ▸ formatOf second) ⌝ }
+    ensures { λ r. ⌜ seen (now (out .exit)) r ≡ ran (orderOf order) (now (values .entry)) (under (now (out .entry)) sink) from (formatOf first ▸ formatOf second) ⌝ }
 {
     let put = spelling::write_one(order, first, out, sink, values, from);
     let Put::Done(next, behind) = put else {
@@ -54,7 +54,7 @@ fn write_announcing(
     from: usize,
 ) -> Put
     requires { ⌜ Fine sink × (1 ≤ width) × (width ≤ 32) × (count ≤ 8192) ⌝ }
-    ensures { λ put. ⌜ seen (now (out .exit)) put ≡ ran (orderOf order) (now (values .entry)) (under (now (out .entry)) sink) from (announcing kind width count) ⌝ }
+    ensures { λ r. ⌜ seen (now (out .exit)) r ≡ ran (orderOf order) (now (values .entry)) (under (now (out .entry)) sink) from (announcing kind width count) ⌝ }
 {
     let fields = spelling::fields::write_fields(order, kind, width, count, out, sink, values, from);
     let announced = fields.count;
@@ -76,7 +76,7 @@ fn write_announcing(
 // A Path: its verb count, its verbs and its coordinates.
 fn write_path(order: Order, out: &mut [u8], sink: Sink, values: &[u64], from: usize) -> Put
     requires { ⌜ Fine sink ⌝ }
-    ensures { λ put. ⌜ seen (now (out .exit)) put ≡ ran (orderOf order) (now (values .entry)) (under (now (out .entry)) sink) from path ⌝ }
+    ensures { λ r. ⌜ seen (now (out .exit)) r ≡ ran (orderOf order) (now (values .entry)) (under (now (out .entry)) sink) from path ⌝ }
 {
     let put = spelling::write_one(order, Item::Count(0), out, sink, values, from);
     let Put::Done(next, behind) = put else {
@@ -104,7 +104,7 @@ fn write_bytes(
     from: usize,
 ) -> Put
     requires { ⌜ Fine sink ⌝ }
-    ensures { λ put. ⌜ seen (now (out .exit)) put ≡ ran (orderOf order) (now (values .entry)) (under (now (out .entry)) sink) from (times count byte) ⌝ }
+    ensures { λ r. ⌜ seen (now (out .exit)) r ≡ ran (orderOf order) (now (values .entry)) (under (now (out .entry)) sink) from (times count byte) ⌝ }
 {
     let mut cur = sink;
     let mut index = from;
@@ -131,7 +131,7 @@ fn write_stop(
     from: usize,
 ) -> Put
     requires { ⌜ Fine sink ⌝ }
-    ensures { λ put. ⌜ seen (now (out .exit)) put ≡ ran (orderOf order) (now (values .entry)) (under (now (out .entry)) sink) from (stopOf bytes) ⌝ }
+    ensures { λ r. ⌜ seen (now (out .exit)) r ≡ ran (orderOf order) (now (values .entry)) (under (now (out .entry)) sink) from (stopOf bytes) ⌝ }
 {
     let put = write_pair(order, Item::Uint16, Item::Uint16, out, sink, values, from);
     let Put::Done(next, behind) = put else {
@@ -151,7 +151,7 @@ fn write_stops(
     from: usize,
 ) -> Put
     requires { ⌜ Fine sink ⌝ }
-    ensures { λ put. ⌜ seen (now (out .exit)) put ≡ ran (orderOf order) (now (values .entry)) (under (now (out .entry)) sink) from (times count (stopOf bytes)) ⌝ }
+    ensures { λ r. ⌜ seen (now (out .exit)) r ≡ ran (orderOf order) (now (values .entry)) (under (now (out .entry)) sink) from (times count (stopOf bytes)) ⌝ }
 {
     let mut cur = sink;
     let mut index = from;
@@ -179,7 +179,7 @@ fn write_both_stops(
     from: usize,
 ) -> Put
     requires { ⌜ Fine sink ⌝ }
-    ensures { λ put. ⌜ seen (now (out .exit)) put ≡ ran (orderOf order) (now (values .entry)) (under (now (out .entry)) sink) from (stopsOf alphas colors) ⌝ }
+    ensures { λ r. ⌜ seen (now (out .exit)) r ≡ ran (orderOf order) (now (values .entry)) (under (now (out .entry)) sink) from (stopsOf alphas colors) ⌝ }
 {
     let put = write_stops(order, 1, alphas, out, sink, values, from);
     let Put::Done(next, behind) = put else {
@@ -198,7 +198,7 @@ fn write_after_alphas(
     from: usize,
 ) -> Put
     requires { ⌜ Fine sink ⌝ }
-    ensures { λ put. ⌜ seen (now (out .exit)) put ≡ ran (orderOf order) (now (values .entry)) (under (now (out .entry)) sink) from (afterAlphas alphas) ⌝ }
+    ensures { λ r. ⌜ seen (now (out .exit)) r ≡ ran (orderOf order) (now (values .entry)) (under (now (out .entry)) sink) from (afterAlphas alphas) ⌝ }
 {
     let put = spelling::write_one(order, Item::Count(0), out, sink, values, from);
     let Put::Done(next, behind) = put else {
@@ -218,7 +218,7 @@ fn write_after_alphas(
 // A GradientColor: both counts, and the stops.
 fn write_gradient(order: Order, out: &mut [u8], sink: Sink, values: &[u64], from: usize) -> Put
     requires { ⌜ Fine sink ⌝ }
-    ensures { λ put. ⌜ seen (now (out .exit)) put ≡ ran (orderOf order) (now (values .entry)) (under (now (out .entry)) sink) from gradientColor ⌝ }
+    ensures { λ r. ⌜ seen (now (out .exit)) r ≡ ran (orderOf order) (now (values .entry)) (under (now (out .entry)) sink) from gradientColor ⌝ }
 {
     let put = spelling::write_one(order, Item::Count(0), out, sink, values, from);
     let Put::Done(next, behind) = put else {
@@ -230,7 +230,7 @@ fn write_gradient(order: Order, out: &mut [u8], sink: Sink, values: &[u64], from
 // The flag of an offset of dashes: exist, and, if it is set, animatable.
 fn write_offset_flag(order: Order, out: &mut [u8], sink: Sink, values: &[u64], from: usize) -> Put
     requires { ⌜ Fine sink ⌝ }
-    ensures { λ put. ⌜ seen (now (out .exit)) put ≡ ran (orderOf order) (now (values .entry)) (under (now (out .entry)) sink) from offsetFlag ⌝ }
+    ensures { λ r. ⌜ seen (now (out .exit)) r ≡ ran (orderOf order) (now (values .entry)) (under (now (out .entry)) sink) from offsetFlag ⌝ }
 {
     let exist = spelling::fields::write_fields(order, Field::Plain, 1, 1, out, sink, values, from);
     let put = exist.put;
@@ -253,7 +253,7 @@ fn write_offset_flag(order: Order, out: &mut [u8], sink: Sink, values: &[u64], f
 // Dashes: from a whole byte on their length, and the flag of their offset.
 fn write_dashes(order: Order, out: &mut [u8], sink: Sink, values: &[u64], from: usize) -> Put
     requires { ⌜ Fine sink ⌝ }
-    ensures { λ put. ⌜ seen (now (out .exit)) put ≡ ran (orderOf order) (now (values .entry)) (under (now (out .entry)) sink) from dashes ⌝ }
+    ensures { λ r. ⌜ seen (now (out .exit)) r ≡ ran (orderOf order) (now (values .entry)) (under (now (out .entry)) sink) from dashes ⌝ }
 {
     let start = spelling::skip(order, out, sink);
     let put = spelling::fields::write_dash_length(order, out, start, values, from);
@@ -319,7 +319,7 @@ fn write_each(
     from: usize,
 ) -> Put
     requires { ⌜ Fine sink ⌝ }
-    ensures { λ put. ⌜ seen (now (out .exit)) put ≡ ran (orderOf order) (now (values .entry)) (under (now (out .entry)) sink) from (times count (valueOf (typeOf what))) ⌝ }
+    ensures { λ r. ⌜ seen (now (out .exit)) r ≡ ran (orderOf order) (now (values .entry)) (under (now (out .entry)) sink) from (times count (valueOf (typeOf what))) ⌝ }
 {
     let mut cur = sink;
     let mut index = from;
@@ -373,7 +373,7 @@ fn write_times(
     from: usize,
 ) -> Put
     requires { ⌜ Fine sink ⌝ }
-    ensures { λ put. ⌜ seen (now (out .exit)) put ≡ ran (orderOf order) (now (values .entry)) (under (now (out .entry)) sink) from (times count time) ⌝ }
+    ensures { λ r. ⌜ seen (now (out .exit)) r ≡ ran (orderOf order) (now (values .entry)) (under (now (out .entry)) sink) from (times count time) ⌝ }
 {
     let mut cur = sink;
     let mut index = from;
