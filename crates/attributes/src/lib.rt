@@ -28,7 +28,7 @@ pub enum Kind {
     Custom,
 }
 
-// An Enum goes from 0 to its top.
+// EnumTo4 goes from 0 to 4, and so the others. Without a number in it a data type is one byte, and a row two: they are handed on by value.
 pub enum DataType {
     U32,
     Time,
@@ -41,7 +41,11 @@ pub enum DataType {
     Point,
     Color,
     GradientColor,
-    Enum(u8),
+    EnumTo1,
+    EnumTo2,
+    EnumTo4,
+    EnumTo6,
+    EnumTo7,
     Dashes,
     TagBlock,
 }
@@ -239,7 +243,11 @@ pub fn layout_of(kind: Kind, what: DataType) -> Layout
         DataType::Point => points_layout(kind),
         DataType::Color => Layout::InTurn,
         DataType::GradientColor => Layout::InTurn,
-        DataType::Enum(_) => Layout::InTurn,
+        DataType::EnumTo1 => Layout::InTurn,
+        DataType::EnumTo2 => Layout::InTurn,
+        DataType::EnumTo4 => Layout::InTurn,
+        DataType::EnumTo6 => Layout::InTurn,
+        DataType::EnumTo7 => Layout::InTurn,
         DataType::Dashes => Layout::InTurn,
         DataType::TagBlock => Layout::InTurn,
     }
@@ -261,7 +269,11 @@ fn dimensions(what: DataType) -> usize
         DataType::Point => 2,
         DataType::Color => 1,
         DataType::GradientColor => 1,
-        DataType::Enum(_) => 1,
+        DataType::EnumTo1 => 1,
+        DataType::EnumTo2 => 1,
+        DataType::EnumTo4 => 1,
+        DataType::EnumTo6 => 1,
+        DataType::EnumTo7 => 1,
         DataType::Dashes => 1,
         DataType::TagBlock => 1,
     }

@@ -47,7 +47,11 @@ fn is_paths(what: DataType) -> bool
         DataType::Point => false,
         DataType::Color => false,
         DataType::GradientColor => false,
-        DataType::Enum(_) => false,
+        DataType::EnumTo1 => false,
+        DataType::EnumTo2 => false,
+        DataType::EnumTo4 => false,
+        DataType::EnumTo6 => false,
+        DataType::EnumTo7 => false,
         DataType::Dashes => false,
         DataType::TagBlock => false,
     }

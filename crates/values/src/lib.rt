@@ -272,7 +272,11 @@ fn read_by_type(
         DataType::Point => read_pair(order, Item::Float, Item::Float, body, at, table, from),
         DataType::Color => table::in_turn::read_items(order, Item::Byte, 3, body, at, table, from),
         DataType::GradientColor => read_gradient(order, body, at, table, from),
-        DataType::Enum(top) => table::read_one(order, Item::Enum(top), body, at, table, from),
+        DataType::EnumTo1 => table::read_one(order, Item::Enum(1), body, at, table, from),
+        DataType::EnumTo2 => table::read_one(order, Item::Enum(2), body, at, table, from),
+        DataType::EnumTo4 => table::read_one(order, Item::Enum(4), body, at, table, from),
+        DataType::EnumTo6 => table::read_one(order, Item::Enum(6), body, at, table, from),
+        DataType::EnumTo7 => table::read_one(order, Item::Enum(7), body, at, table, from),
         DataType::Dashes => read_dashes(order, body, at, table, from),
         DataType::TagBlock => Run::Done(at, from),
     }

@@ -287,7 +287,11 @@ fn write_by_type(
         DataType::Point => write_pair(order, Item::Float, Item::Float, out, sink, values, from),
         DataType::Color => write_bytes(order, 3, out, sink, values, from),
         DataType::GradientColor => write_gradient(order, out, sink, values, from),
-        DataType::Enum(top) => spelling::write_one(order, Item::Enum(top), out, sink, values, from),
+        DataType::EnumTo1 => spelling::write_one(order, Item::Enum(1), out, sink, values, from),
+        DataType::EnumTo2 => spelling::write_one(order, Item::Enum(2), out, sink, values, from),
+        DataType::EnumTo4 => spelling::write_one(order, Item::Enum(4), out, sink, values, from),
+        DataType::EnumTo6 => spelling::write_one(order, Item::Enum(6), out, sink, values, from),
+        DataType::EnumTo7 => spelling::write_one(order, Item::Enum(7), out, sink, values, from),
         DataType::Dashes => write_dashes(order, out, sink, values, from),
         DataType::TagBlock => Put::Done(sink, from),
     }

@@ -1,9 +1,9 @@
--- `write_values::write_by_type` meets its contract.
+-- `write_values::write_by_type` meets its contract, by the data type that the `match` tells.
 use denote.Ref.{now}
 use mathlib.Core.Path.{sym}
 use Rattle.bits.specs.Places.{orderOf}
 use Rattle.sink.specs.Laying.{at}
-use Rattle.attributes.specs.declared.DataType.the-variants.{U32, Time, Float, Ratio, Bool, Byte, BlendMode, Path, Point, Color, GradientColor, Enum, Dashes, TagBlock}
+use Rattle.attributes.specs.declared.DataType.the-variants.{U32, Time, Float, Ratio, Bool, Byte, BlendMode, Path, Point, Color, GradientColor, EnumTo1, EnumTo2, EnumTo4, EnumTo6, EnumTo7, Dashes, TagBlock}
 use Rattle.spelling.proofs.RunLaws.{ran-nothing}
 use Rattle.write_values.proofs.ValueLaws.{value-of}
 use borrow.Author.Needs.{needs}
@@ -76,20 +76,44 @@ enum-told-11 c = search needs
 write-gradient-requires : tie.Need-write-gradient-requires
 write-gradient-requires c κs = search needs
 
-enum-known-what : tie.Need-enum-known-what
-enum-known-what c = search needs
+enum-told-12 : tie.Need-enum-told-12
+enum-told-12 c = search needs
 
 write-one-requires-7 : tie.Need-write-one-requires-7
 write-one-requires-7 c κs = search needs
 
-enum-told-12 : tie.Need-enum-told-12
-enum-told-12 c = search needs
+enum-told-13 : tie.Need-enum-told-13
+enum-told-13 c = search needs
+
+write-one-requires-8 : tie.Need-write-one-requires-8
+write-one-requires-8 c κs = search needs
+
+enum-told-14 : tie.Need-enum-told-14
+enum-told-14 c = search needs
+
+write-one-requires-9 : tie.Need-write-one-requires-9
+write-one-requires-9 c κs = search needs
+
+enum-told-15 : tie.Need-enum-told-15
+enum-told-15 c = search needs
+
+write-one-requires-10 : tie.Need-write-one-requires-10
+write-one-requires-10 c κs = search needs
+
+enum-told-16 : tie.Need-enum-told-16
+enum-told-16 c = search needs
+
+write-one-requires-11 : tie.Need-write-one-requires-11
+write-one-requires-11 c κs = search needs
+
+enum-told-17 : tie.Need-enum-told-17
+enum-told-17 c = search needs
 
 write-dashes-requires : tie.Need-write-dashes-requires
 write-dashes-requires c κs = search needs
 
-enum-told-13 : tie.Need-enum-told-13
-enum-told-13 c = search needs
+enum-told-18 : tie.Need-enum-told-18
+enum-told-18 c = search needs
 
 same-length : tie.Need-same-length
 same-length c = search needs
@@ -161,16 +185,40 @@ same-length-12 : tie.Need-same-length-12
 same-length-12 c = search needs
 
 returns-12 : tie.Need-returns-12
-returns-12 c = let a = c .before .before .before .before .before .before .before .before .before .args in value-of (orderOf (a .order)) (now (a .values)) (at (now (a .out)) (a .sink)) (a .from) (Enum (c .before .before .before .before .before .what .given .0 .0)) (c .before .before .before .before .before .what .given .1) (c .before .before .write-one7 .ensures)
+returns-12 c = let a = c .before .before .before .before .before .before .before .before .args in value-of (orderOf (a .order)) (now (a .values)) (at (now (a .out)) (a .sink)) (a .from) EnumTo1 (c .before .before .before .before .enum-told12 .given .1) (c .before .before .write-one7 .ensures)
 
 same-length-13 : tie.Need-same-length-13
 same-length-13 c = search needs
 
 returns-13 : tie.Need-returns-13
-returns-13 c = let a = c .before .before .before .before .before .before .before .before .args in value-of (orderOf (a .order)) (now (a .values)) (at (now (a .out)) (a .sink)) (a .from) Dashes (c .before .before .before .before .enum-told12 .given .1) (c .before .before .write-dashes .ensures)
+returns-13 c = let a = c .before .before .before .before .before .before .before .before .args in value-of (orderOf (a .order)) (now (a .values)) (at (now (a .out)) (a .sink)) (a .from) EnumTo2 (c .before .before .before .before .enum-told13 .given .1) (c .before .before .write-one8 .ensures)
+
+same-length-14 : tie.Need-same-length-14
+same-length-14 c = search needs
 
 returns-14 : tie.Need-returns-14
-returns-14 c = let a = c .before .before .before .before .args in value-of (orderOf (a .order)) (now (a .values)) (at (now (a .out)) (a .sink)) (a .from) TagBlock (c .enum-told13 .given .1) (sym (ran-nothing (orderOf (a .order)) (now (a .values)) (at (now (a .out)) (a .sink)) (a .from) (c .before .before .before .before .pre .1)))
+returns-14 c = let a = c .before .before .before .before .before .before .before .before .args in value-of (orderOf (a .order)) (now (a .values)) (at (now (a .out)) (a .sink)) (a .from) EnumTo4 (c .before .before .before .before .enum-told14 .given .1) (c .before .before .write-one9 .ensures)
+
+same-length-15 : tie.Need-same-length-15
+same-length-15 c = search needs
+
+returns-15 : tie.Need-returns-15
+returns-15 c = let a = c .before .before .before .before .before .before .before .before .args in value-of (orderOf (a .order)) (now (a .values)) (at (now (a .out)) (a .sink)) (a .from) EnumTo6 (c .before .before .before .before .enum-told15 .given .1) (c .before .before .write-one10 .ensures)
+
+same-length-16 : tie.Need-same-length-16
+same-length-16 c = search needs
+
+returns-16 : tie.Need-returns-16
+returns-16 c = let a = c .before .before .before .before .before .before .before .before .args in value-of (orderOf (a .order)) (now (a .values)) (at (now (a .out)) (a .sink)) (a .from) EnumTo7 (c .before .before .before .before .enum-told16 .given .1) (c .before .before .write-one11 .ensures)
+
+same-length-17 : tie.Need-same-length-17
+same-length-17 c = search needs
+
+returns-17 : tie.Need-returns-17
+returns-17 c = let a = c .before .before .before .before .before .before .before .before .args in value-of (orderOf (a .order)) (now (a .values)) (at (now (a .out)) (a .sink)) (a .from) Dashes (c .before .before .before .before .enum-told17 .given .1) (c .before .before .write-dashes .ensures)
+
+returns-18 : tie.Need-returns-18
+returns-18 c = let a = c .before .before .before .before .args in value-of (orderOf (a .order)) (now (a .values)) (at (now (a .out)) (a .sink)) (a .from) TagBlock (c .enum-told18 .given .1) (sym (ran-nothing (orderOf (a .order)) (now (a .values)) (at (now (a .out)) (a .sink)) (a .from) (c .before .before .before .before .pre .1)))
 
 pub write-by-type-spec : {M : Type 1} → statement M
 write-by-type-spec =
@@ -198,11 +246,19 @@ write-by-type-spec =
     write-bytes-requires
     enum-told-11
     write-gradient-requires
-    enum-known-what
-    write-one-requires-7
     enum-told-12
-    write-dashes-requires
+    write-one-requires-7
     enum-told-13
+    write-one-requires-8
+    enum-told-14
+    write-one-requires-9
+    enum-told-15
+    write-one-requires-10
+    enum-told-16
+    write-one-requires-11
+    enum-told-17
+    write-dashes-requires
+    enum-told-18
     same-length
     returns
     same-length-2
@@ -229,4 +285,12 @@ write-by-type-spec =
     returns-12
     same-length-13
     returns-13
-    returns-14)
+    same-length-14
+    returns-14
+    same-length-15
+    returns-15
+    same-length-16
+    returns-16
+    same-length-17
+    returns-17
+    returns-18)
