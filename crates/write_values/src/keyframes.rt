@@ -13,7 +13,6 @@ ghost use Rattle.spelling.specs.Writing.{seen, ran, Fine};
 ghost use Rattle.write_values.specs.Easing.{Eases};
 use crate::write_announcing;
 use crate::write_frame_values;
-use crate::write_times;
 use attributes::DataType;
 use attributes::Kind;
 use bits::Order;
@@ -156,7 +155,15 @@ fn write_frames(
     requires { ⌜ Fine sink × (frames ≤ 4096) × (easing < 2 ^ 32) ⌝ }
     ensures { λ r. ⌜ seen (now (out .exit)) r ≡ ran (orderOf order) (now (values .entry)) (under (now (out .entry)) sink) from (framesOf (kindOf kind) (typeOf what) flag frames easing) ⌝ }
 {
-    let put = write_times(order, frames + 1, out, sink, values, from);
+    let put = spelling::in_turn::write_items(
+        order,
+        Item::Time,
+        frames + 1,
+        out,
+        sink,
+        values,
+        from,
+    );
     let Put::Done(timed, after_times) = put else {
         return put;
     };

@@ -94,33 +94,6 @@ fn write_path(order: Order, out: &mut [u8], sink: Sink, values: &[u64], from: us
     )
 }
 
-// n bytes: a Color is three.
-fn write_bytes(
-    order: Order,
-    count: usize,
-    out: &mut [u8],
-    sink: Sink,
-    values: &[u64],
-    from: usize,
-) -> Put
-    requires { ⌜ Fine sink ⌝ }
-    ensures { λ r. ⌜ seen (now (out .exit)) r ≡ ran (orderOf order) (now (values .entry)) (under (now (out .entry)) sink) from (times count byte) ⌝ }
-{
-    let mut cur = sink;
-    let mut index = from;
-    let mut left = count;
-    while 0 < left {
-        let put = spelling::write_one(order, Item::Byte, out, cur, values, index);
-        let Put::Done(next, behind) = put else {
-            return put;
-        };
-        cur = next;
-        index = behind;
-        left -= 1;
-    }
-    Put::Done(cur, index)
-}
-
 // A stop of a gradient: position, midpoint, and its bytes, which are an opacity or a Color.
 fn write_stop(
     order: Order,
@@ -137,7 +110,7 @@ fn write_stop(
     let Put::Done(next, behind) = put else {
         return put;
     };
-    write_bytes(order, bytes, out, next, values, behind)
+    spelling::in_turn::write_items(order, Item::Byte, bytes, out, next, values, behind)
 }
 
 // n stops with so many bytes each.
@@ -285,7 +258,15 @@ fn write_by_type(
         DataType::BlendMode => spelling::write_one(order, Item::BlendMode, out, sink, values, from),
         DataType::Path => write_path(order, out, sink, values, from),
         DataType::Point => write_pair(order, Item::Float, Item::Float, out, sink, values, from),
-        DataType::Color => write_bytes(order, 3, out, sink, values, from),
+        DataType::Color => spelling::in_turn::write_items(
+            order,
+            Item::Byte,
+            3,
+            out,
+            sink,
+            values,
+            from,
+        ),
         DataType::GradientColor => write_gradient(order, out, sink, values, from),
         DataType::EnumTo1 => spelling::write_one(order, Item::Enum(1), out, sink, values, from),
         DataType::EnumTo2 => spelling::write_one(order, Item::Enum(2), out, sink, values, from),
@@ -354,9 +335,18 @@ fn write_in_turn(
     ensures { λ r. ⌜ seen (now (out .exit)) r ≡ ran (orderOf order) (now (values .entry)) (under (now (out .entry)) sink) from (times count (valueOf (typeOf what))) ⌝ }
 {
     match what {
-        DataType::Float => spelling::in_turn::write_floats(order, count, out, sink, values, from),
-        DataType::Point => spelling::in_turn::write_floats(
+        DataType::Float => spelling::in_turn::write_items(
             order,
+            Item::Float,
+            count,
+            out,
+            sink,
+            values,
+            from,
+        ),
+        DataType::Point => spelling::in_turn::write_items(
+            order,
+            Item::Float,
             count * 2,
             out,
             sink,
@@ -365,33 +355,6 @@ fn write_in_turn(
         ),
         _ => write_each(order, what, count, out, sink, values, from),
     }
-}
-
-// n times. Apart from other values in turn, so that what an item is is not asked for each.
-fn write_times(
-    order: Order,
-    count: usize,
-    out: &mut [u8],
-    sink: Sink,
-    values: &[u64],
-    from: usize,
-) -> Put
-    requires { ⌜ Fine sink ⌝ }
-    ensures { λ r. ⌜ seen (now (out .exit)) r ≡ ran (orderOf order) (now (values .entry)) (under (now (out .entry)) sink) from (times count time) ⌝ }
-{
-    let mut cur = sink;
-    let mut index = from;
-    let mut left = count;
-    while 0 < left {
-        let put = spelling::write_one(order, Item::Time, out, cur, values, index);
-        let Put::Done(next, behind) = put else {
-            return put;
-        };
-        cur = next;
-        index = behind;
-        left -= 1;
-    }
-    Put::Done(cur, index)
 }
 
 // n keyframed values: in turn; as one bit each; or as a width and fields of it, one for each byte and two for each Point.

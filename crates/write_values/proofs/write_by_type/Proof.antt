@@ -67,8 +67,8 @@ write-pair-requires-2 c κs = search needs
 enum-told-10 : tie.Need-enum-told-10
 enum-told-10 c = search needs
 
-write-bytes-requires : tie.Need-write-bytes-requires
-write-bytes-requires c κs = search needs
+write-items-requires : tie.Need-write-items-requires
+write-items-requires c κs = search needs
 
 enum-told-11 : tie.Need-enum-told-11
 enum-told-11 c = search needs
@@ -173,7 +173,7 @@ same-length-10 : tie.Need-same-length-10
 same-length-10 c = search needs
 
 returns-10 : tie.Need-returns-10
-returns-10 c = let a = c .before .before .before .before .before .before .before .before .args in value-of (orderOf (a .order)) (now (a .values)) (at (now (a .out)) (a .sink)) (a .from) Color (c .before .before .before .before .enum-told10 .given .1) (c .before .before .write-bytes .ensures)
+returns-10 c = let a = c .before .before .before .before .before .before .before .before .args in value-of (orderOf (a .order)) (now (a .values)) (at (now (a .out)) (a .sink)) (a .from) Color (c .before .before .before .before .enum-told10 .given .1) (c .before .before .write-items .ensures)
 
 same-length-11 : tie.Need-same-length-11
 same-length-11 c = search needs
@@ -243,7 +243,7 @@ write-by-type-spec =
     enum-told-9
     write-pair-requires-2
     enum-told-10
-    write-bytes-requires
+    write-items-requires
     enum-told-11
     write-gradient-requires
     enum-told-12
