@@ -13,7 +13,6 @@ ghost use Rattle.values.specs.Parts.{framesOf, keyframesOf};
 ghost use Rattle.bits.specs.Places.{orderOf};
 use crate::read_announcing;
 use crate::read_frame_values;
-use crate::read_times;
 use attributes::DataType;
 use attributes::Kind;
 use bits::Aligned;
@@ -174,7 +173,7 @@ fn read_frames(
     requires { ⌜ Fits (now body) (at .0) from × (frames ≤ 4096) × (easing < 2 ^ 32) ⌝ }
     ensures { λ r. ⌜ runLeaves (now (table .exit)) r ≡ shownOver (now (table .entry)) from (run (orderOf order) (now (body .entry)) (framesOf (kindOf kind) (typeOf what) flag frames easing) (at .0)) ⌝ }
 {
-    let run = read_times(order, frames + 1, body, at, table, from);
+    let run = table::in_turn::read_items(order, Item::Time, frames + 1, body, at, table, from);
     let Run::Done(timed, after_times) = run else {
         return run;
     };

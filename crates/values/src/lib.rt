@@ -345,33 +345,6 @@ fn read_in_turn(
     }
 }
 
-// n times. Apart from other values in turn, so that what an item is is not asked for each.
-fn read_times(
-    order: Order,
-    count: usize,
-    body: &[u8],
-    at: BitPlace,
-    table: &mut [u64],
-    from: usize,
-) -> Run
-    requires { ⌜ Fits (now body) (at .0) from ⌝ }
-    ensures { λ r. ⌜ runLeaves (now (table .exit)) r ≡ shownOver (now (table .entry)) from (run (orderOf order) (now (body .entry)) (times count time) (at .0)) ⌝ }
-{
-    let mut place = at;
-    let mut index = from;
-    let mut left = count;
-    while 0 < left {
-        let run = table::read_one(order, Item::Time, body, place, table, index);
-        let Run::Done(next, behind) = run else {
-            return run;
-        };
-        place = next;
-        index = behind;
-        left -= 1;
-    }
-    Run::Done(place, index)
-}
-
 // n keyframed values: in turn; as one bit each; or as a width and fields of it, one for each byte and two for each Point.
 fn read_frame_values(
     order: Order,

@@ -20,6 +20,7 @@ use bits::Order;
 use items::Item;
 use sink::Sink;
 use spelling::Put;
+use spelling::in_turn::write_items;
 use table::fields::Field;
 
 // Two items: a Ratio is an I32 and a U32, a Point two Floats.
@@ -110,7 +111,7 @@ fn write_stop(
     let Put::Done(next, behind) = put else {
         return put;
     };
-    spelling::in_turn::write_items(order, Item::Byte, bytes, out, next, values, behind)
+    write_items(order, Item::Byte, bytes, out, next, values, behind)
 }
 
 // n stops with so many bytes each.
@@ -258,15 +259,7 @@ fn write_by_type(
         DataType::BlendMode => spelling::write_one(order, Item::BlendMode, out, sink, values, from),
         DataType::Path => write_path(order, out, sink, values, from),
         DataType::Point => write_pair(order, Item::Float, Item::Float, out, sink, values, from),
-        DataType::Color => spelling::in_turn::write_items(
-            order,
-            Item::Byte,
-            3,
-            out,
-            sink,
-            values,
-            from,
-        ),
+        DataType::Color => write_items(order, Item::Byte, 3, out, sink, values, from),
         DataType::GradientColor => write_gradient(order, out, sink, values, from),
         DataType::EnumTo1 => spelling::write_one(order, Item::Enum(1), out, sink, values, from),
         DataType::EnumTo2 => spelling::write_one(order, Item::Enum(2), out, sink, values, from),
@@ -335,24 +328,8 @@ fn write_in_turn(
     ensures { λ r. ⌜ seen (now (out .exit)) r ≡ ran (orderOf order) (now (values .entry)) (under (now (out .entry)) sink) from (times count (valueOf (typeOf what))) ⌝ }
 {
     match what {
-        DataType::Float => spelling::in_turn::write_items(
-            order,
-            Item::Float,
-            count,
-            out,
-            sink,
-            values,
-            from,
-        ),
-        DataType::Point => spelling::in_turn::write_items(
-            order,
-            Item::Float,
-            count * 2,
-            out,
-            sink,
-            values,
-            from,
-        ),
+        DataType::Float => write_items(order, Item::Float, count, out, sink, values, from),
+        DataType::Point => write_items(order, Item::Float, count * 2, out, sink, values, from),
         _ => write_each(order, what, count, out, sink, values, from),
     }
 }
