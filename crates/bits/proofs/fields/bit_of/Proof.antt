@@ -1,3 +1,4 @@
+-- `bits::fields::bit_of` meets its contract: the bit is cut out of its number.
 use native.Mathlib.Omega.{arith}
 use Prim.Native.Nat.{_-_}
 use Rattle.bits.specs.Places.{orderOf}
@@ -5,24 +6,16 @@ use Rattle.bits.proofs.FieldLaws.{below-lt, bit-cut}
 use borrow.Author.Needs.{needs}
 use Rattle.bits.proofs.fields.bit_of.Statement.{statement}
 use Rattle.bits.proofs.fields.bit_of.Tie as tie
-use Rattle.bits.proofs.fields.bit_of.Reads as reads
-use Rattle.bits.proofs.fields.bit_of.Lts as lts
-use Rattle.bits.proofs.fields.bits_below.Reads as bits-below-reads
-use Rattle.bits.proofs.fields.cut.Reads as cut-reads
 
--- src/fields.rt:141:41
 sub-bits-below : tie.Need-sub-bits-below
 sub-bits-below c = search needs
 
--- src/fields.rt:141:16
 bits-below-requires : tie.Need-bits-below-requires
 bits-below-requires c κs = search needs
 
--- src/fields.rt:141:5
 cut-requires : tie.Need-cut-requires
 cut-requires c κs = let a = c .before .args in (below-lt (orderOf (a .order)) (a .place) (39 - a .place) 64 (c .bits-below .ensures) (omega (arith, c .before .pre)) (omega arith), omega arith)
 
--- src/fields.rt:137:1
 returns : tie.Need-returns
 returns c = let a = c .before .before .args in bit-cut (orderOf (a .order)) (a .first) (a .place) (c .before .bits-below .ensures) (c .cut .ensures)
 

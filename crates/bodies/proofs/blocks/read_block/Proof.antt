@@ -28,8 +28,8 @@ enum-known-r c = search needs
 read-contents-requires : tie.Need-read-contents-requires
 read-contents-requires c κs = let a = c .before .before .before .before .before .before .before .before .before .before .before .before .args in (
   c .before .before .before .before .before .before .before .before .before .before .before .before .pre .0,
-  omega (arith, c .before .before .before .before .before .before .before .before .before .before .before .before .pre .1, c .before .before .before .before .before .before .before .read-flags .kept .1 .1 .1 .1 .0),
-  flags-fit (orderOf (a .order)) (now (a .body)) (rowsFrom (a .block .rows) 0 (a .block .count)) (flags-read (orderOf (a .order)) (a .block .rows) (a .block .count) (now (a .body)) (now (a .flags)) (a .at .0) (omega (arith, c .before .before .before .before .before .before .before .before .before .before .before .before .pre .0, c .before .before .before .before .before .before .before .before .before .before .before .before .pre .1)) (ap (runLeaves _) (sym (c .before .before .before .r .given .1)) ∙ c .before .before .before .before .before .before .before .read-flags .ensures)) (c .before .before .before .before .before .before .before .before .before .before .before .before .pre .2),
+  omega (arith, c .before .before .before .before .before .before .before .before .before .before .before .before .pre .1, c .before .before .before .before .before .before .before .read-flags .kept .1 .1 .1 .0),
+  flags-fit (orderOf (a .order)) (now (a .body)) (rowsFrom (a .block .rows) 0 (a .block .count)) (flags-read (orderOf (a .order)) (a .block .rows) (a .block .count) (now (a .body)) (now (a .flags)) 0 (omega (arith, c .before .before .before .before .before .before .before .before .before .before .before .before .pre .0, c .before .before .before .before .before .before .before .before .before .before .before .before .pre .1)) (ap (runLeaves _) (sym (c .before .before .before .r .given .1)) ∙ c .before .before .before .before .before .before .before .read-flags .ensures)) (c .before .before .before .before .before .before .before .before .before .before .before .before .pre .2),
 )
 
 -- src/blocks.rt:120:19
@@ -47,9 +47,9 @@ same-length-2 c = search needs
 -- src/blocks.rt:105:1
 returns : tie.Need-returns
 returns c = let a = c .before .before .before .before .before .before .before .before .before .before .before .before .before .before .before .args in (
-  block-rows (orderOf (a .order)) (now (a .body)) (now (a .table)) (a .from) (a .at .0) (rowsFrom (a .block .rows) 0 (a .block .count))
-      (flags-read (orderOf (a .order)) (a .block .rows) (a .block .count) (now (a .body)) (now (a .flags)) (a .at .0) (omega (arith, c .before .before .before .before .before .before .before .before .before .before .before .before .before .before .before .pre .0, c .before .before .before .before .before .before .before .before .before .before .before .before .before .before .before .pre .1)) (ap (runLeaves _) (sym (c .before .before .before .before .before .before .r .given .1)) ∙ c .before .before .before .before .before .before .before .before .before .before .read-flags .ensures)) (c .before .before .read-contents .ensures),
-  flags-left (now (a .flags)) (run (orderOf (a .order)) (now (a .body)) (allFlags (rowsFrom (a .block .rows) 0 (a .block .count))) (a .at .0)) (c .before .before .before .before .before .before .before .before .before .before .read-flags .ensures),
+  block-rows (orderOf (a .order)) (now (a .body)) (now (a .table)) (a .from) 0 (rowsFrom (a .block .rows) 0 (a .block .count))
+      (flags-read (orderOf (a .order)) (a .block .rows) (a .block .count) (now (a .body)) (now (a .flags)) 0 (omega (arith, c .before .before .before .before .before .before .before .before .before .before .before .before .before .before .before .pre .0, c .before .before .before .before .before .before .before .before .before .before .before .before .before .before .before .pre .1)) (ap (runLeaves _) (sym (c .before .before .before .before .before .before .r .given .1)) ∙ c .before .before .before .before .before .before .before .before .before .before .read-flags .ensures)) (c .before .before .read-contents .ensures),
+  flags-left (now (a .flags)) (run (orderOf (a .order)) (now (a .body)) (allFlags (rowsFrom (a .block .rows) 0 (a .block .count))) 0) (c .before .before .before .before .before .before .before .before .before .before .read-flags .ensures),
 )
 
 -- src/blocks.rt:105:1
@@ -59,9 +59,9 @@ same-length-3 c = search needs
 -- src/blocks.rt:105:1
 returns-2 : tie.Need-returns-2
 returns-2 c = let a = c .before .before .before .before .before .before .before .before .before .before .args in (
-  block-stop (orderOf (a .order)) (now (a .body)) (now (a .table)) (a .from) (a .at .0) (rowsFrom (a .block .rows) 0 (a .block .count))
-      (ended-is (now (a .flags)) 0 (run (orderOf (a .order)) (now (a .body)) (allFlags (rowsFrom (a .block .rows) 0 (a .block .count))) (a .at .0)) (ap (runLeaves _) (sym (c .before .r2 .given .1)) ∙ c .before .before .before .before .before .read-flags .ensures)),
-  flags-left (now (a .flags)) (run (orderOf (a .order)) (now (a .body)) (allFlags (rowsFrom (a .block .rows) 0 (a .block .count))) (a .at .0)) (c .before .before .before .before .before .read-flags .ensures),
+  block-stop (orderOf (a .order)) (now (a .body)) (now (a .table)) (a .from) 0 (rowsFrom (a .block .rows) 0 (a .block .count))
+      (ended-is (now (a .flags)) 0 (run (orderOf (a .order)) (now (a .body)) (allFlags (rowsFrom (a .block .rows) 0 (a .block .count))) 0) (ap (runLeaves _) (sym (c .before .r2 .given .1)) ∙ c .before .before .before .before .before .read-flags .ensures)),
+  flags-left (now (a .flags)) (run (orderOf (a .order)) (now (a .body)) (allFlags (rowsFrom (a .block .rows) 0 (a .block .count))) 0) (c .before .before .before .before .before .read-flags .ensures),
 )
 
 pub read-block-spec : {M : Type 1} → statement M

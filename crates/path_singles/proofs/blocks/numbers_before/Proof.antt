@@ -65,7 +65,7 @@ slice-aggregate-read-contents-2 c = search needs
 read-contents-requires : tie.Need-read-contents-requires
 read-contents-requires c κs = (
   before-few (c .before .before .before .before .before .before .before .before .before .block-of .ensures) (now (c .before .before .before .before .before .before .before .before .before .before .before .args .body)) (c .before .before .before .before .before .before .before .before .before .before .before .pre .0) (c .before .before .rows-before .result) (c .before .before .rows-before .ensures),
-  omega (arith, c .before .before .before .before .before .before .before .read-flags .kept .1 .1 .1 .1 .0),
+  omega (arith, c .before .before .before .before .before .before .before .read-flags .kept .1 .1 .1 .0),
   flags-fit high (now (c .before .before .before .before .before .before .before .before .before .before .before .args .body)) (rowsFrom (c .before .before .before .before .before .before .before .before .before .block-of .result .rows) 0 (c .before .before .before .before .before .before .before .before .before .block-of .result .count)) (flags-read high (c .before .before .before .before .before .before .before .before .before .block-of .result .rows) (c .before .before .before .before .before .before .before .before .before .block-of .result .count) (now (c .before .before .before .before .before .before .before .before .before .before .before .args .body)) _ 0 (c .before .before .before .before .before .before .before .before .before .block-of .ensures .few) (ap (runLeaves _) (sym (c .before .before .before .before .r .given .1)) ∙ c .before .before .before .before .before .before .before .read-flags .ensures)) ((omega arith, c .before .before .before .before .before .before .before .before .before .before .before .pre .1), omega arith),
 )
 
