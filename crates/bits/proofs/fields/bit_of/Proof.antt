@@ -1,6 +1,5 @@
 -- `bits::fields::bit_of` meets its contract: the bit is cut out of its number.
 use native.Mathlib.Omega.{arith}
-use Prim.Native.Nat.{_-_}
 use Rattle.bits.specs.Places.{orderOf}
 use Rattle.bits.proofs.FieldLaws.{below-lt, bit-cut}
 use borrow.Author.Needs.{needs}
@@ -14,7 +13,7 @@ bits-below-requires : tie.Need-bits-below-requires
 bits-below-requires c κs = search needs
 
 cut-requires : tie.Need-cut-requires
-cut-requires c κs = let a = c .before .args in (below-lt (orderOf (a .order)) (a .place) (39 - a .place) 64 (c .bits-below .ensures) (omega (arith, c .before .pre)) (omega arith), omega arith)
+cut-requires c κs = let a = c .before .args in (below-lt (orderOf (a .order)) _ _ 64 (c .bits-below .ensures) (omega (arith, c .before .pre)) (omega (arith, c .before .pre)), omega arith)
 
 returns : tie.Need-returns
 returns c = let a = c .before .before .args in bit-cut (orderOf (a .order)) (a .first) (a .place) (c .before .bits-below .ensures) (c .cut .ensures)
