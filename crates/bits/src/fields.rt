@@ -6,7 +6,7 @@ ghost use Rattle.format.specs.Bits.{low, ub as fieldAt};
 ghost use Rattle.format.specs.Items.{readUB, readSB, readWidth, signExtend};
 ghost use Rattle.format.specs.FileAndTags.{le64};
 ghost use Rattle.format.specs.WritingItems.{below as belowOf};
-ghost use Rattle.bits.specs.Places.{PlaceIn, numOf, orderOf, turnedOf, orderedBy, withSign};
+ghost use Rattle.bits.specs.Places.{PlaceIn, numOf, orderOf, turnedOf, orderedBy, bitOf, withSign};
 use crate::BitPlace;
 use crate::Got;
 use crate::Order;
@@ -116,6 +116,29 @@ fn field_in_byte(order: Order, bytes: &[u8], at: BitPlace, width: u64) -> u64
     let used = (place % 8) as u64;
     let below = bits_below(order, used, 8 - used - width);
     cut(crate::byte_at(bytes, place / 8), below, width)
+}
+
+// The first five bytes as one number in the order of reading; zeros stand past the end.
+pub fn first_bits(order: Order, bytes: &[u8]) -> u64
+    ensures { λ r. ⌜ r ≡ fieldAt (orderOf order) (now (bytes .entry)) 0 40 ⌝ }
+{
+    let b0 = crate::byte_at(bytes, 0);
+    let b1 = crate::byte_at(bytes, 1);
+    let b2 = crate::byte_at(bytes, 2);
+    let b3 = crate::byte_at(bytes, 3);
+    let b4 = crate::byte_at(bytes, 4);
+    match order {
+        Order::HighFirst => (((b0 * 256 + b1) * 256 + b2) * 256 + b3) * 256 + b4,
+        Order::LowFirst => (((b4 * 256 + b3) * 256 + b2) * 256 + b1) * 256 + b0,
+    }
+}
+
+// One of these 40 bits.
+pub fn bit_of(order: Order, first: u64, place: u64) -> u64
+    requires { ⌜ place < 40 ⌝ }
+    ensures { λ r. ⌜ (r ≡ bitOf (orderOf order) first place) × (r < 2) ⌝ }
+{
+    cut(first, bits_below(order, place, 39 - place), 1)
 }
 
 // UB[n]. A bit is always in one byte, so of a flag the bytes around it are not touched.

@@ -59,7 +59,6 @@ fn read_part(
             order,
             attributes::blocks::block_of(code),
             body,
-            BitPlace(0),
             &mut flags,
             table,
             from,
@@ -112,7 +111,7 @@ fn read_group(order: Order, body: &[u8], table: &mut [u64], from: usize) -> Show
 {
     let mut flags = [0u64; 12];
     let block = attributes::blocks::block_of(15);
-    let items = blocks::read_block(order, block, body, BitPlace(0), &mut flags, table, from);
+    let items = blocks::read_block(order, block, body, &mut flags, table, from);
     finish(order, body, items, flags[8] == 1)
 }
 
