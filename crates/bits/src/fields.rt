@@ -146,12 +146,12 @@ pub fn read_ub(order: Order, bytes: &[u8], at: BitPlace, width: u64) -> Got
     requires { ⌜ PlaceIn (now bytes) (at .0) × (1 ≤ width) × (width ≤ 32) ⌝ }
     ensures { λ r. ⌜ numOf r ≡ readUB (orderOf order) (now (bytes .entry)) (at .0) width ⌝ }
 {
-    let p = at.0;
-    let next = p + width as usize;
+    let place = at.0;
+    let next = place + width as usize;
     if bytes.len() * 8 < next {
         return Got::Fault(13);
     }
-    if (p % 8) as u64 + width <= 8 {
+    if (place % 8) as u64 + width <= 8 {
         return Got::Value(field_in_byte(order, bytes, at, width), BitPlace(next));
     }
     Got::Value(field(order, bytes, at, width), BitPlace(next))
@@ -180,8 +180,8 @@ pub fn read_sb(order: Order, bytes: &[u8], at: BitPlace, width: u64) -> Got
     requires { ⌜ PlaceIn (now bytes) (at .0) × (1 ≤ width) × (width ≤ 32) ⌝ }
     ensures { λ r. ⌜ numOf r ≡ readSB (orderOf order) (now (bytes .entry)) (at .0) width ⌝ }
 {
-    let r = read_ub(order, bytes, at, width);
-    match r {
+    let got = read_ub(order, bytes, at, width);
+    match got {
         Got::Value(value, next) => Got::Value(extend(value, width), next),
         Got::Fault(why) => Got::Fault(why),
     }
@@ -192,8 +192,8 @@ pub fn read_width(order: Order, bytes: &[u8], at: BitPlace) -> Got
     requires { ⌜ PlaceIn (now bytes) (at .0) ⌝ }
     ensures { λ r. ⌜ numOf r ≡ readWidth (orderOf order) (now (bytes .entry)) (at .0) ⌝ }
 {
-    let r = read_ub(order, bytes, at, 5);
-    match r {
+    let got = read_ub(order, bytes, at, 5);
+    match got {
         Got::Value(value, next) => Got::Value(value + 1, next),
         Got::Fault(why) => Got::Fault(why),
     }

@@ -94,8 +94,8 @@ fn numbers_before(code: u32, row: usize, body: &[u8]) -> usize
     let order = Order::HighFirst;
     let block = attributes::blocks::block_of(code);
     let mut flags = [0u64; 12];
-    let r = attributes::read_flags(order, block, body, &mut flags);
-    let Run::Done(next, _) = r else {
+    let run = attributes::read_flags(order, block, body, &mut flags);
+    let Run::Done(next, _) = run else {
         return 0;
     };
     let before = rows_before(block, row);
