@@ -272,7 +272,7 @@ fn read_counted(
     }
 }
 
-// The same, for its callers.
+// The same for callers: its answer is made again (see `table::again`).
 pub fn read_keyframed(
     order: Order,
     kind: Kind,

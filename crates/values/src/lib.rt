@@ -282,7 +282,7 @@ fn read_by_type(
     }
 }
 
-// The same, for its callers.
+// The same for callers: the answer of whichever arm it was is made again, once (see `table::again`).
 pub fn read_value(
     order: Order,
     what: DataType,

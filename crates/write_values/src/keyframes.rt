@@ -252,7 +252,7 @@ fn write_counted(
     )
 }
 
-// The same, for its callers.
+// The same for callers: its answer is made again (see `spelling::again`).
 pub fn write_keyframed(
     order: Order,
     kind: Kind,

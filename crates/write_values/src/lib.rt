@@ -271,7 +271,7 @@ fn write_by_type(
     }
 }
 
-// The same, for its callers.
+// The same for callers: the answer of whichever arm it was is made again, once (see `spelling::again`).
 pub fn write_value(
     order: Order,
     what: DataType,
