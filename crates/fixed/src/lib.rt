@@ -17,7 +17,7 @@ use bits::Order;
 use items::Item;
 use table::Run;
 
-// The items of the bodies in one row after the other. By a `match`, which is a table in the machine code; an array would be built for each body.
+// The item in a row: the items of all these bodies stand one after the other. By a `match`, which is a table in the machine code; an array would be built for each body.
 pub fn item_at(row: usize) -> Item
     ensures { λ r. ⌜ r ≡ getD allItems row U32 ⌝ }
 {
