@@ -60,7 +60,7 @@ fn write_strings(
     let mut index = from;
     let mut left = count;
     while 0 < left {
-        let put = spelling::text::write_string(order, out, cur, values, index);
+        let put = spelling::again(spelling::text::write_string(order, out, cur, values, index));
         let Put::Done(next, behind) = put else {
             return put;
         };
