@@ -1,5 +1,5 @@
 -- The rows of a block, one by one; flag bits; and the flags of all rows, step by step. Assumes nothing.
-use Prim.Native.Nat.{ℕ, zero, suc, _+_, _-_, _*_, _^_, _≤_, _<_}
+use Prim.Native.Nat.{ℕ, zero, suc, _+_, _-_, _*_, _≤_, _<_}
 use mathlib.Core.List.{List, [], _∷_}
 use mathlib.Core.Path.{_≡_, refl, ap, sym, _∙_}
 use mathlib.Core.Bool as truth
@@ -7,11 +7,11 @@ use mathlib.Core.Bool.{true, false}
 use native.Mathlib.Numerals.{add-one}
 use native.Mathlib.Omega.{arith}
 use native.Mathlib.Nat.{pow-suc}
-use lib.Pow.{pow-pos}
+use lib.Pow.{pow-pos, pow-mono}
 use lib.ListN.{length, getD, set, take, length-set}
 use lib.Seq.{sets-eq, take-at}
-use lib.Dec.{eqb}
-use borrow.Author.Tests.{ne-eqb}
+use lib.Dec.{leb, eqb}
+use borrow.Author.Tests.{le-leb, lt-leb, ne-eqb}
 use Rattle.format.specs.Tests.{pick}
 use Rattle.format.specs.Bits.{Order, ub}
 use Rattle.format.specs.Reading.{Ending, Reading, At, Fault, shows}
@@ -21,14 +21,11 @@ use Rattle.format.specs.Bodies as bodies
 use Rattle.format.specs.Bodies.{flagsOf, allFlags}
 use Rattle.format.proofs.BitLaws.{ub-lt}
 use Rattle.format.proofs.BlockLaws.{as-many}
-use Rattle.format.proofs.Absurd.{clash}
-use Rattle.format.proofs.WalkLaws.{run-le}
-use Rattle.bits.specs.Places.{PlaceIn, numOf}
-use Rattle.bits.specs.declared.BitPlace.{BitPlace}
-use Rattle.bits.specs.declared.Got.{Got}
-use Rattle.bits.specs.declared.Got.the-variants.{Value as GotValue, Fault as GotFault}
+use Rattle.bits.specs.Places.{bitOf}
+use Rattle.bits.proofs.FieldLaws.{bit-in, set-inside}
 use Rattle.table.specs.State.{State, shownOver}
 use Rattle.table.proofs.EngineLaws.{state, after-none, then-one, then-never}
+use Rattle.attributes.specs.Flags.{numIn, FlagRead}
 use Rattle.attributes.specs.Rows.{kindOf, attributeOf, noRow, rowsFrom}
 use Rattle.attributes.specs.declared.Attribute.{Attribute}
 use Rattle.attributes.specs.declared.Kind.{Kind}
@@ -77,14 +74,6 @@ flag-one o b p = flag-bit o b p 0 ∙ go (room b p 1) (ub o b p 1) (ub-lt o b p 
     go true (suc (suc v)) h = absurd (omega arith)
     go false v h = refl
 
-pub one-bit : (o : Order) (b : List ℕ) (p : ℕ) {n : Num} → n ≡ readUB o b p 1 → showNum n ≡ run o b (item (Item.flag 1)) p
-unfolding run readItem
-one-bit o b p e = ap showNum (e ∙ sym (flag-one o b p))
-
--- a bit is a flag, and flags from p on are what reading them gives
-abbrev Flags : Order → List ℕ → ℕ → ℕ → Num → Type 0
-Flags o b p n x = showNum x ≡ run o b (item (Item.flag n)) p
-
 -- the number that a reading shows
 abbrev numFrom : Ending → ℕ → Num
 numFrom (At p) v = num v p
@@ -97,80 +86,88 @@ num-from (bad e) = refl
 same-num : (x y : Num) → showNum x ≡ showNum y → x ≡ y
 same-num x y e = sym (num-from x) ∙ ap (λ (r : Reading). numFrom (r .ended) (the (r .shown))) e ∙ num-from y
 
-flags-num : (o : Order) (b : List ℕ) (p n : ℕ) (x : Num) → Flags o b p n x → x ≡ readFlag o b p n
+-- a reading of flags, as `FlagRead` has it
+abbrev Means : Order → ℕ → ℕ → ℕ → ℕ → ℕ → Type 0
+Means o x n p v q = (b : List ℕ) → x ≡ ub o b 0 40 → p ≤ 8 * length b → numIn b v q ≡ readFlag o b p n
+
+means-shown : (o : Order) (x n p v q : ℕ) → Means o x n p v q → (b : List ℕ) → x ≡ ub o b 0 40 → p ≤ 8 * length b → showNum (numIn b v q) ≡ run o b (item (Item.flag n)) p
 unfolding run readItem
-flags-num o b p n x e = same-num x (readFlag o b p n) e
+means-shown o x n p v q h b e l = ap showNum (h b e l)
 
--- n flags are less than 2 ^ n
-flag-lt : (o : Order) (b : List ℕ) (p n v q : ℕ) → num v q ≡ readFlag o b p n → v < 2 ^ n
-unfolding readFlag
-flag-lt o b p zero v q e = let z : v ≡ 0 = cc in rw z (omega arith)
-flag-lt o b p (suc n) v q e = go (room b p 1) (eqb (ub o b p 1) 0) (readFlag o b (p + 1) n) (λ w r. flag-lt o b (p + 1) n w r) e
+shown-means : (o : Order) (x n p m v q : ℕ) → FlagRead o x (Item.flag n) p m v q → Means o x n p v q
+unfolding run readItem
+shown-means o x n p m v q h b e l = same-num (numIn b v q) (readFlag o b p n) (h .means b e l)
+
+exist-in : (b : List ℕ) (v q : ℕ) → exist (numIn b v q) ≡ numIn b (1 + 2 * v) q
+exist-in b v q = go (leb q (8 * length b))
   where
-    go : (t c : truth.Bool) (x : Num) → ((w r : ℕ) → num w r ≡ x → w < 2 ^ n) → num v q ≡ pick t (pick c (num 0 (p + 1)) (exist x)) (bad 13) → v < 2 ^ suc n
-    go false c x h e = clash cc
-    go true true x h e = let z : v ≡ 0 = cc in rw z (pow-pos (suc n))
-    go true false (bad z) h e = clash cc
-    go true false (num w r) h e = let z : v ≡ 1 + 2 * w = cc in omega (arith, h w r refl, pow-suc 2 n)
+    go : (t : truth.Bool) → exist (pick t (num v q) (bad 13)) ≡ pick t (num (1 + 2 * v) q) (bad 13)
+    go true = refl
+    go false = refl
 
--- flags up to n + 1, by what the first gave
-module _ (o : Order) (b : List ℕ) (p n : ℕ) (r : Got) (first : numOf r ≡ readUB o b p 1) where
-  more-bits : run o b (item (Item.flag (suc n))) p ≡ showNum (onward o b n (numOf r))
-  unfolding run readItem
-  more-bits = rw (first, flag-bit o b p n)
+-- flags up to n + 1, by their first bit v
+module _ (o : Order) (x p : ℕ) {v : ℕ} (few : p < 40) (first : (v ≡ bitOf o x p) × (v < 2)) where
+  first-is : (b : List ℕ) → x ≡ ub o b 0 40 → v ≡ ub o b p 1
+  first-is b e = first .0 ∙ bit-in o b p e few
 
-  -- it is not there
-  pub flag-past : {e : ℕ} → r ≡ GotFault e → showNum (numOf r) ≡ run o b (item (Item.flag (suc n))) p
-  flag-past e = rw (more-bits, e)
+  -- it is the only one
+  means-only : {q : ℕ} → p + 1 ≡ q → Means o x 1 p v q
+  means-only s b e l = rw (← s) (sym (flag-one o b p ∙ rw (← first-is b e)))
+
+  pub flag-only : {q : ℕ} → p + 1 ≡ q → FlagRead o x (Item.flag 1) p 1 v q
+  flag-only {q} s = record { means = means-shown o x 1 p v q (means-only s); small = first .1; near = omega arith }
 
   -- it is 0
-  pub flag-none : {v : ℕ} {q : BitPlace} → r ≡ GotValue v q → v ≡ 0 → showNum (num 0 (q .0)) ≡ run o b (item (Item.flag (suc n))) p
-  flag-none e z = rw (more-bits, e, z)
+  means-none : (n : ℕ) {q : ℕ} → v ≡ 0 → p + 1 ≡ q → Means o x (suc n) p 0 q
+  unfolding readFlag
+  means-none n z s b e l = let y : ub o b p 1 ≡ 0 = sym (first-is b e) ∙ z in rw (← s, y)
 
-  -- it is 1, and a is what those after it gave
-  module _ {v : ℕ} {q : BitPlace} (a : Got) (e : r ≡ GotValue v q) (one : v ≡ 0 → ⊥) (second : Flags o b (q .0) n (numOf a)) where
-    flags-more : run o b (item (Item.flag (suc n))) p ≡ showNum (exist (numOf a))
-    flags-more = rw (more-bits, e, ne-eqb v 0 one, flags-num o b (q .0) n (numOf a) second)
+  pub flag-none : (n : ℕ) {q : ℕ} → v ≡ 0 → p + 1 ≡ q → FlagRead o x (Item.flag (suc n)) p (suc n) 0 q
+  flag-none n {q} z s = record { means = means-shown o x (suc n) p 0 q (means-none n z s); small = pow-pos (suc n); near = omega arith }
 
-    pub flag-cut : {z : ℕ} → a ≡ GotFault z → showNum (numOf a) ≡ run o b (item (Item.flag (suc n))) p
-    flag-cut f = rw (flags-more, f)
+  -- it is 1, so it is there, and w is what those after it gave
+  module _ (n : ℕ) {w q r y : ℕ} (one : v ≡ 0 → ⊥) (rest : FlagRead o x (Item.flag n) r n w q) (next : p + 1 ≡ r) (sum : y ≡ 1 + 2 * w) where
+    means-more : Means o x (suc n) p y q
+    unfolding readFlag
+    means-more b e l =
+        let on : ub o b p 1 ≡ 0 → ⊥ = λ z. one (first-is b e ∙ z) in
+        let here : p < 8 * length b = set-inside o b p 1 on in
+        let after : numIn b w q ≡ readFlag o b r n = shown-means o x n r n w q rest b e (omega arith) in
+        rw (sum, le-leb (p + 1) (8 * length b) (omega arith), ne-eqb (ub o b p 1) 0 on, next, ← after) (sym (exist-in b w q))
 
-    pub flag-both : {w : ℕ} {z : BitPlace} → a ≡ GotValue w z → showNum (num (1 + 2 * w) (z .0)) ≡ run o b (item (Item.flag (suc n))) p
-    flag-both f = rw (flags-more, f)
-
-    pub flag-small : {w : ℕ} {z : BitPlace} → a ≡ GotValue w z → w < 2 ^ n
-    flag-small {w} {z} f = flag-lt o b (q .0) n w (z .0) (ap numOf (sym f) ∙ flags-num o b (q .0) n (numOf a) second)
-
--- the kind that a `match` tells
-pub flag-of : (o : Order) (b : List ℕ) (p : ℕ) {kind : Kind} {r : Reading} (told : Kind) → kind ≡ told → r ≡ run o b (item (flagsOf (kindOf told))) p
-    → r ≡ run o b (item (flagsOf (kindOf kind))) p
-flag-of o b p told e f = f ∙ ap (λ (k : Kind). run o b (item (flagsOf (kindOf k))) p) (sym e)
+    pub flag-more : FlagRead o x (Item.flag (suc n)) p (suc n) y q
+    flag-more = record { means = means-shown o x (suc n) p y q means-more; small = omega (arith, rest .small, pow-suc 2 n); near = omega (arith, rest .near) }
 
 -- no bit, and the number 1
-pub fixed-is : (o : Order) (b : List ℕ) (p : ℕ) → showNum (num 1 p) ≡ run o b (item (Item.echo 1)) p
+pub flag-fixed : (o : Order) (x p : ℕ) {v q : ℕ} → v ≡ 1 → q ≡ p → FlagRead o x (Item.echo 1) p 1 v q
 unfolding run readItem
-fixed-is o b p = refl
+flag-fixed o x p one s = record { means = λ b e l. rw (one, s, le-leb p (8 * length b) l); small = omega arith; near = omega arith }
+
+-- the kind that a `match` tells
+pub flag-of : (o : Order) (x p m : ℕ) {kind : Kind} {v q : ℕ} (told : Kind) → kind ≡ told → m ≤ 3 → FlagRead o x (flagsOf (kindOf told)) p m v q → FlagRead o x (flagsOf (kindOf kind)) p 3 v q
+flag-of o x p m told e l f = rw e (record { means = f .means; small = omega (arith, f .small, pow-mono l); near = omega (arith, f .near) })
 
 -- ---- the flags of all rows, one after the other
-module _ (o : Order) (s t₀ : List ℕ) (rows : List Attribute) (count p₀ : ℕ) where
+module _ (o : Order) (s t₀ : List ℕ) (rows : List Attribute) (count : ℕ) where
   abbrev flagsFrom : ℕ → ℕ → Reading
   flagsFrom i p = run o s (allFlags (rowsFrom rows i (count - i))) p
 
   abbrev whole : State
-  whole = shownOver t₀ 0 (run o s (allFlags (rowsFrom rows 0 count)) p₀)
+  whole = shownOver t₀ 0 (run o s (allFlags (rowsFrom rows 0 count)) 0)
 
   -- the whole from the start is what is left from here
   pub record Going (t : List ℕ) (p i : ℕ) : Type 0 where
     pub size : length t ≡ length t₀
     pub rest : whole ≡ shownOver t i (flagsFrom i p)
-    pub place : PlaceIn s p
+    pub place : p ≤ 8 * length s
+    pub near : p ≤ 3 * i
     pub below : i ≤ count
 
-  pub flags-start : PlaceIn s p₀ → Going t₀ p₀ 0
-  flags-start h = let n : count - 0 ≡ count = omega arith in record { size = refl; rest = rw n; place = h; below = omega arith }
+  pub flags-start : Going t₀ 0 0
+  flags-start = let n : count - 0 ≡ count = omega arith in record { size = refl; rest = rw n; place = omega arith; near = omega arith; below = omega arith }
 
-  -- the kind of the row here tells its flag
-  module _ {t : List ℕ} {p i : ℕ} (some : i < count) (g : Going t p i) where
+  -- the kind of the row here tells its flag, which was read out of the first 40 bits x
+  module _ {t : List ℕ} {x p i v q : ℕ} (some : i < count) (g : Going t p i) (first : x ≡ ub o s 0 40) (f : FlagRead o x (flagsOf (kindOf (rowAt rows i .kind))) p 3 v q) where
     abbrev flagHere : Item
     flagHere = flagsOf (kindOf (rowAt rows i .kind))
 
@@ -181,18 +178,23 @@ module _ (o : Order) (s t₀ : List ℕ) (rows : List Attribute) (count p₀ : �
     unfolding allFlags
     flags-here = ap (λ (l : List bodies.Attribute). run o s (allFlags l) p) (rows-next rows some)
 
-    pub flags-next : {v q : ℕ} {u : List ℕ} → showNum (num v q) ≡ run o s (item flagHere) p → u ≡ set t i v → Going u q (i + 1)
-    flags-next {v} {q} {u} e d =
-        let l : (p ≤ q) × (q ≤ 8 * length s) = run-le o s (item flagHere) p q (g .place .0) (ap (λ (r : Reading). r .ended) (sym e)) in
+    -- its bits are in the body
+    pub flags-next : {u : List ℕ} → q ≤ 8 * length s → u ≡ set t i v → Going u q (i + 1)
+    flags-next {u} l d =
+        let e : showNum (num v q) ≡ run o s (item flagHere) p = rw (le-leb q (8 * length s) l) at (f .means s first (g .place)) in
         record {
           size = ap length d ∙ length-set t i v ∙ g .size;
           rest = g .rest ∙ ap (shownOver t i) flags-here ∙ sym (then-one o s t i (item flagHere) (λ xs. allFlags restHere) p (sym e) d refl);
-          place = (l .1, g .place .1);
+          place = l;
+          near = omega (arith, f .near, g .near);
           below = omega arith;
         }
 
-    pub flags-stop : {e : ℕ} → showNum (bad e) ≡ run o s (item flagHere) p → state t i (Fault e) ≡ whole
-    flags-stop e = then-never o s t i (item flagHere) (λ xs. allFlags restHere) p (sym e) ∙ sym (g .rest ∙ ap (shownOver t i) flags-here)
+    -- or one of them is past it
+    pub flags-stop : 8 * length s < q → state t i (Fault 13) ≡ whole
+    flags-stop l =
+        let e : showNum (bad 13) ≡ run o s (item flagHere) p = rw (lt-leb q (8 * length s) l) at (f .means s first (g .place)) in
+        then-never o s t i (item flagHere) (λ xs. allFlags restHere) p (sym e) ∙ sym (g .rest ∙ ap (shownOver t i) flags-here)
 
   pub flags-done : {t : List ℕ} {p i : ℕ} → count ≤ i → Going t p i → state t i (At p) ≡ whole
   unfolding run allFlags

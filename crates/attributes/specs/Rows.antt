@@ -9,7 +9,7 @@ use Rattle.format.specs.Bodies as bodies
 use Rattle.format.specs.Bodies.{layerAttributes, textPathOption, textMoreOption, transform2D, maskBlock, shapeGroup, rectangle, ellipse, polyStar, shapePath, fillBlock, stroke, gradientFill, gradientStroke, mergePaths, trimPaths, repeater, roundCorners}
 use Rattle.attributes.specs.declared.Attribute.{Attribute}
 use Rattle.attributes.specs.declared.DataType.{DataType}
-use Rattle.attributes.specs.declared.DataType.the-variants.{U32, Time, Float, Ratio, Bool, Byte, BlendMode, Path, Point, Color, GradientColor, Enum, Dashes, TagBlock}
+use Rattle.attributes.specs.declared.DataType.the-variants.{U32, Time, Float, Ratio, Bool, Byte, BlendMode, Path, Point, Color, GradientColor, EnumTo1, EnumTo2, EnumTo4, EnumTo6, EnumTo7, Dashes, TagBlock}
 use Rattle.attributes.specs.declared.Kind.{Kind}
 use Rattle.attributes.specs.declared.Kind.the-variants.{Value, Fixed, BitFlag, Simple, Discrete, MultiDimension, Spatial, Custom}
 
@@ -35,7 +35,11 @@ typeOf Path = bodies.Paths
 typeOf Point = bodies.Points
 typeOf Color = bodies.Colors
 typeOf GradientColor = bodies.GradientColors
-typeOf (Enum top) = bodies.Enums top
+typeOf EnumTo1 = bodies.Enums 1
+typeOf EnumTo2 = bodies.Enums 2
+typeOf EnumTo4 = bodies.Enums 4
+typeOf EnumTo6 = bodies.Enums 6
+typeOf EnumTo7 = bodies.Enums 7
 typeOf Dashes = bodies.Dashes
 typeOf TagBlock = bodies.TagBlocks
 

@@ -55,57 +55,57 @@ const BLEND_MODE: Attribute = Attribute {
 
 const TRACK_MATTE_TYPE: Attribute = Attribute {
     kind: Kind::Value,
-    data_type: DataType::Enum(4),
+    data_type: DataType::EnumTo4,
 };
 
 const MASK_MODE: Attribute = Attribute {
     kind: Kind::Value,
-    data_type: DataType::Enum(7),
+    data_type: DataType::EnumTo7,
 };
 
 const ANCHOR_POINT_GROUPING: Attribute = Attribute {
     kind: Kind::Value,
-    data_type: DataType::Enum(6),
+    data_type: DataType::EnumTo6,
 };
 
 const POLY_STAR_TYPE: Attribute = Attribute {
     kind: Kind::Value,
-    data_type: DataType::Enum(1),
+    data_type: DataType::EnumTo1,
 };
 
 const COMPOSITE_ORDER: Attribute = Attribute {
     kind: Kind::Value,
-    data_type: DataType::Enum(1),
+    data_type: DataType::EnumTo1,
 };
 
 const FILL_RULE: Attribute = Attribute {
     kind: Kind::Value,
-    data_type: DataType::Enum(1),
+    data_type: DataType::EnumTo1,
 };
 
 const LINE_CAP: Attribute = Attribute {
     kind: Kind::Value,
-    data_type: DataType::Enum(2),
+    data_type: DataType::EnumTo2,
 };
 
 const LINE_JOIN: Attribute = Attribute {
     kind: Kind::Value,
-    data_type: DataType::Enum(2),
+    data_type: DataType::EnumTo2,
 };
 
 const GRADIENT_FILL_TYPE: Attribute = Attribute {
     kind: Kind::Value,
-    data_type: DataType::Enum(1),
+    data_type: DataType::EnumTo1,
 };
 
 const MERGE_PATHS_MODE: Attribute = Attribute {
     kind: Kind::Value,
-    data_type: DataType::Enum(4),
+    data_type: DataType::EnumTo4,
 };
 
 const TRIM_PATHS_TYPE: Attribute = Attribute {
     kind: Kind::Value,
-    data_type: DataType::Enum(1),
+    data_type: DataType::EnumTo1,
 };
 
 const FIXED_ID: Attribute = Attribute {

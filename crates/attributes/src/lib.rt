@@ -1,19 +1,18 @@
 // The attributes of a block, their flags, and what their kinds and data types tell.
 ghost use mathlib.Core.Path.{_≡_};
-ghost use Prim.Native.Nat.{_≤_};
-ghost use Rattle.format.specs.Formats.{item};
-ghost use Rattle.format.specs.Items.{run, showNum};
+ghost use Prim.Native.Nat.{_+_, _≤_, _<_};
+ghost use Rattle.format.specs.Items.{run};
 ghost use Rattle.format.specs.Bodies.{flagsOf, allFlags, dimensions as dimensionsOf, curves as curvesOf};
-ghost use Rattle.bits.specs.Places.{PlaceIn, numOf, orderOf};
+ghost use Rattle.bits.specs.Places.{PlaceIn, orderOf};
 ghost use Rattle.table.specs.State.{shownOver};
 ghost use Rattle.table.specs.Run.{runLeaves};
 ghost use Rattle.attributes.specs.Rows.{kindOf, typeOf, rowsFrom};
+ghost use Rattle.attributes.specs.Flags.{FlagRead};
 ghost use Rattle.attributes.specs.Contents.{animatableBy, contentBy, interpolated, pointsBy, layoutBy};
 
 pub mod blocks;
 
 use bits::BitPlace;
-use bits::Got;
 use bits::Order;
 use table::Run;
 
@@ -28,7 +27,7 @@ pub enum Kind {
     Custom,
 }
 
-// An Enum goes from 0 to its top.
+// EnumTo4 goes from 0 to 4, and so the others. Without a number in it a data type is one byte, and a row two: they are handed on by value.
 pub enum DataType {
     U32,
     Time,
@@ -41,7 +40,11 @@ pub enum DataType {
     Point,
     Color,
     GradientColor,
-    Enum(u8),
+    EnumTo1,
+    EnumTo2,
+    EnumTo4,
+    EnumTo6,
+    EnumTo7,
     Dashes,
     TagBlock,
 }
@@ -57,86 +60,106 @@ pub struct Block {
     pub count: usize,
 }
 
-// An exist bit; if set, an animatable bit.
-fn read_two_flags(order: Order, body: &[u8], at: BitPlace) -> Got
-    requires { ⌜ PlaceIn (now body) (at .0) ⌝ }
-    ensures { λ r. ⌜ showNum (numOf r) ≡ run (orderOf order) (now (body .entry)) (item (flagsOf (kindOf Kind.Simple))) (at .0) ⌝ }
+// The flag number of an attribute, and the place behind its bits. They are taken out of the first 40 bits of a body: a block has at most twelve attributes, with at
+// most three bits each. A bit past the body is 0 there, so it is not taken for a set one, and the place behind tells that it is past the body.
+struct Flag {
+    number: u64,
+    behind: u64,
+}
+
+// One bit.
+fn read_one_flag(order: Order, first: u64, at: u64) -> Flag
+    requires { ⌜ at < 40 ⌝ }
+    ensures { λ r. ⌜ FlagRead (orderOf order) first (flagsOf (kindOf Kind.Value)) at 1 (r .number) (r .behind) ⌝ }
 {
-    let e = bits::fields::read_ub(order, body, at, 1);
-    let Got::Value(exist, next) = e else {
-        return e;
-    };
-    if exist == 0 {
-        return Got::Value(0, next);
+    Flag {
+        number: bits::fields::bit_of(order, first, at),
+        behind: at + 1,
     }
-    let a = bits::fields::read_ub(order, body, next, 1);
-    let Got::Value(animatable, end) = a else {
-        return a;
-    };
-    Got::Value(1 + 2 * animatable, end)
+}
+
+// An exist bit; if set, an animatable bit.
+fn read_two_flags(order: Order, first: u64, at: u64) -> Flag
+    requires { ⌜ at + 1 < 40 ⌝ }
+    ensures { λ r. ⌜ FlagRead (orderOf order) first (flagsOf (kindOf Kind.Simple)) at 2 (r .number) (r .behind) ⌝ }
+{
+    let exist = bits::fields::bit_of(order, first, at);
+    if exist == 0 {
+        return Flag {
+            number: 0,
+            behind: at + 1,
+        };
+    }
+    let animatable = bits::fields::bit_of(order, first, at + 1);
+    Flag {
+        number: 1 + 2 * animatable,
+        behind: at + 2,
+    }
 }
 
 // An exist bit; if set, an animatable bit; if that is set too, a hasSpatial bit.
-fn read_three_flags(order: Order, body: &[u8], at: BitPlace) -> Got
-    requires { ⌜ PlaceIn (now body) (at .0) ⌝ }
-    ensures { λ r. ⌜ showNum (numOf r) ≡ run (orderOf order) (now (body .entry)) (item (flagsOf (kindOf Kind.Spatial))) (at .0) ⌝ }
+fn read_three_flags(order: Order, first: u64, at: u64) -> Flag
+    requires { ⌜ at + 2 < 40 ⌝ }
+    ensures { λ r. ⌜ FlagRead (orderOf order) first (flagsOf (kindOf Kind.Spatial)) at 3 (r .number) (r .behind) ⌝ }
 {
-    let e = bits::fields::read_ub(order, body, at, 1);
-    let Got::Value(exist, next) = e else {
-        return e;
-    };
+    let exist = bits::fields::bit_of(order, first, at);
     if exist == 0 {
-        return Got::Value(0, next);
+        return Flag {
+            number: 0,
+            behind: at + 1,
+        };
     }
-    let a = read_two_flags(order, body, next);
-    let Got::Value(more, end) = a else {
-        return a;
-    };
-    Got::Value(1 + 2 * more, end)
+    let more = read_two_flags(order, first, at + 1);
+    Flag {
+        number: 1 + 2 * more.number,
+        behind: more.behind,
+    }
 }
 
 // The flags of one attribute as a number: exist + 2 × animatable + 4 × hasSpatial; a Fixed one has no bit, and gives 1.
-fn read_flag(order: Order, kind: Kind, body: &[u8], at: BitPlace) -> Got
-    requires { ⌜ PlaceIn (now body) (at .0) ⌝ }
-    ensures { λ r. ⌜ showNum (numOf r) ≡ run (orderOf order) (now (body .entry)) (item (flagsOf (kindOf kind))) (at .0) ⌝ }
+fn read_flag(order: Order, kind: Kind, first: u64, at: u64) -> Flag
+    requires { ⌜ at + 2 < 40 ⌝ }
+    ensures { λ r. ⌜ FlagRead (orderOf order) first (flagsOf (kindOf kind)) at 3 (r .number) (r .behind) ⌝ }
 {
     match kind {
-        Kind::Value => bits::fields::read_ub(order, body, at, 1),
-        Kind::Fixed => Got::Value(1, at),
-        Kind::BitFlag => bits::fields::read_ub(order, body, at, 1),
-        Kind::Simple => read_two_flags(order, body, at),
-        Kind::Discrete => read_two_flags(order, body, at),
-        Kind::MultiDimension => read_two_flags(order, body, at),
-        Kind::Spatial => read_three_flags(order, body, at),
-        Kind::Custom => bits::fields::read_ub(order, body, at, 1),
+        Kind::Value => read_one_flag(order, first, at),
+        Kind::Fixed => Flag {
+            number: 1,
+            behind: at,
+        },
+        Kind::BitFlag => read_one_flag(order, first, at),
+        Kind::Simple => read_two_flags(order, first, at),
+        Kind::Discrete => read_two_flags(order, first, at),
+        Kind::MultiDimension => read_two_flags(order, first, at),
+        Kind::Spatial => read_three_flags(order, first, at),
+        Kind::Custom => read_one_flag(order, first, at),
     }
 }
 
-// The flags of all attributes of a block, in order.
-pub fn read_flags(order: Order, block: Block, body: &[u8], at: BitPlace, flags: &mut [u64]) -> Run
-    requires { ⌜ (block .count ≤ 12) × PlaceIn (now body) (at .0) ⌝ }
-    ensures { λ r. ⌜ runLeaves (now (flags .exit)) r ≡ shownOver (now (flags .entry)) 0 (run (orderOf order) (now (body .entry)) (allFlags (rowsFrom (block .rows) 0 (block .count))) (at .0)) ⌝ }
+// The flags of all attributes of a block, in order. They stand at the start of its body.
+pub fn read_flags(order: Order, block: Block, body: &[u8], flags: &mut [u64]) -> Run
+    requires { ⌜ (block .count ≤ 12) × PlaceIn (now body) 0 ⌝ }
+    ensures { λ r. ⌜ runLeaves (now (flags .exit)) r ≡ shownOver (now (flags .entry)) 0 (run (orderOf order) (now (body .entry)) (allFlags (rowsFrom (block .rows) 0 (block .count))) 0) ⌝ }
 {
     let rows = block.rows;
     let count = block.count;
-    let mut place = at;
+    let first = bits::fields::first_bits(order, body);
+    let end = (body.len() * 8) as u64;
+    let mut place = 0;
     let mut index = 0;
     while index < count {
         let attribute = rows[index];
         let kind = attribute.kind;
-        let r = read_flag(order, kind, body, place);
-        match r {
-            Got::Value(number, next) => {
-                table::put(flags, index, number);
-                place = next;
-            }
-            Got::Fault(why) => {
-                return Run::Stop(why, index);
-            }
+        let flag = read_flag(order, kind, first, place);
+        let behind = flag.behind;
+        if end < behind {
+            return Run::Stop(13, index);
         }
+        table::put(flags, index, flag.number);
+        place = behind;
         index += 1;
     }
-    Run::Done(place, index)
+    Run::Done(BitPlace(place as usize), index)
 }
 
 // What a block has of an attribute besides its flags: nothing, one value, or keyframes.
@@ -239,7 +262,11 @@ pub fn layout_of(kind: Kind, what: DataType) -> Layout
         DataType::Point => points_layout(kind),
         DataType::Color => Layout::InTurn,
         DataType::GradientColor => Layout::InTurn,
-        DataType::Enum(_) => Layout::InTurn,
+        DataType::EnumTo1 => Layout::InTurn,
+        DataType::EnumTo2 => Layout::InTurn,
+        DataType::EnumTo4 => Layout::InTurn,
+        DataType::EnumTo6 => Layout::InTurn,
+        DataType::EnumTo7 => Layout::InTurn,
         DataType::Dashes => Layout::InTurn,
         DataType::TagBlock => Layout::InTurn,
     }
@@ -261,7 +288,11 @@ fn dimensions(what: DataType) -> usize
         DataType::Point => 2,
         DataType::Color => 1,
         DataType::GradientColor => 1,
-        DataType::Enum(_) => 1,
+        DataType::EnumTo1 => 1,
+        DataType::EnumTo2 => 1,
+        DataType::EnumTo4 => 1,
+        DataType::EnumTo6 => 1,
+        DataType::EnumTo7 => 1,
         DataType::Dashes => 1,
         DataType::TagBlock => 1,
     }

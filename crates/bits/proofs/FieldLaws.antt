@@ -11,7 +11,7 @@ use lib.Seq.{getD-drop, drop-cons, drop-length}
 use lib.Arith.{digits-div, digits-mod}
 use lib.Pow.{pow-lt, pow-mono}
 use lib.Dec.{leb, ltb, eqb}
-use borrow.Author.Tests.{le-leb, lt-leb, leb-true, ltb-true, ltb-false, ne-eqb}
+use borrow.Author.Tests.{le-leb, lt-leb, leb-true, ltb-true, ltb-false, lt-ltb, le-ltb, ne-eqb}
 use Rattle.format.specs.Bits.{Order, high, low, bitAt, ub}
 use Rattle.format.specs.FileAndTags.{le64}
 use Rattle.format.specs.WritingItems.{below}
@@ -20,7 +20,7 @@ use Rattle.format.specs.Reading.{shows, stop}
 use Rattle.format.proofs.BitLaws.{ub-lt, ub-split, ub-within}
 use Rattle.format.proofs.ByteLaws.{ub-byte}
 use Rattle.format.proofs.Absurd.{clash}
-use Rattle.bits.specs.Places.{alignedAt, numOf, turnedOf, orderedBy}
+use Rattle.bits.specs.Places.{alignedAt, numOf, turnedOf, orderedBy, bitOf, withSign}
 use Rattle.bits.specs.declared.BitPlace.{BitPlace}
 use Rattle.bits.specs.declared.BytePlace.{BytePlace}
 use Rattle.bits.specs.declared.Aligned.{Aligned}
@@ -172,6 +172,39 @@ ordered-is low b i e = e
 pub field-cut : (o : Order) (b : List ℕ) (i k n : ℕ) {p x r : ℕ} → x ≡ ub low b (8 * i) 64 → 8 * i + k ≡ p → k + n ≤ 64 → r ≡ orderedBy o x / 2 ^ below o k (64 - k - n) % 2 ^ n → r ≡ ub o b p n
 field-cut o b i k n e f g h = sym (ub-cut o b (8 * i) 64 k n (64 - k - n) (ordered-is o b i e) f (omega arith) h)
 
+-- ---- the first five bytes, in their order, and a bit of them
+pub first-high : (b : List ℕ) {b0 b1 b2 b3 b4 : ℕ} → IsByte b 0 b0 → IsByte b 1 b1 → IsByte b 2 b2 → IsByte b 3 b3 → IsByte b 4 b4
+    → (((b0 * 256 + b1) * 256 + b2) * 256 + b3) * 256 + b4 ≡ ub high b 0 40
+first-high b h0 h1 h2 h3 h4 =
+    let e0 = ub-first high b 0 h0 in
+    let e1 = byte-more b 0 8 1 e0 (omega arith) (ub-first high b 1 h1) in
+    let e2 = byte-more b 0 16 2 e1 (omega arith) (ub-first high b 2 h2) in
+    let e3 = byte-more b 0 24 3 e2 (omega arith) (ub-first high b 3 h3) in
+    byte-more b 0 32 4 e3 (omega arith) (ub-first high b 4 h4)
+
+pub first-low : (b : List ℕ) {b0 b1 b2 b3 b4 : ℕ} → IsByte b 0 b0 → IsByte b 1 b1 → IsByte b 2 b2 → IsByte b 3 b3 → IsByte b 4 b4
+    → (((b4 * 256 + b3) * 256 + b2) * 256 + b1) * 256 + b0 ≡ ub low b 0 40
+first-low b h0 h1 h2 h3 h4 =
+    let e0 = ub-first low b 4 h4 in
+    let e1 = ub-less b 32 8 3 e0 (omega arith) h3 in
+    let e2 = ub-less b 24 16 2 e1 (omega arith) h2 in
+    let e3 = ub-less b 16 24 1 e2 (omega arith) h1 in
+    ub-less b 8 32 0 e3 (omega arith) h0
+
+pub bit-cut : (o : Order) (x p : ℕ) {s r : ℕ} → s ≡ below o p (39 - p) → (r ≡ x / 2 ^ s % 2 ^ 1) × (r < 2 ^ 1) → (r ≡ bitOf o x p) × (r < 2)
+bit-cut o x p e h = (h .0 ∙ ap (λ (s : ℕ). x / 2 ^ s % 2) e, h .1)
+
+pub bit-in : (o : Order) (b : List ℕ) (p : ℕ) {x : ℕ} → x ≡ ub o b 0 40 → p < 40 → bitOf o x p ≡ ub o b p 1
+bit-in o b p e h = sym (ub-cut o b 0 40 p 1 (39 - p) e (omega arith) (omega arith) refl)
+
+-- a field that is not 0 starts in the bytes
+pub set-inside : (o : Order) (b : List ℕ) (p n : ℕ) → (ub o b p n ≡ 0 → ⊥) → p < 8 * length b
+set-inside o b p n h = go (ltb p (8 * length b)) refl
+  where
+    go : (t : Bool) → ltb p (8 * length b) ≡ t → p < 8 * length b
+    go true t = ltb-true _ _ t
+    go false t = absurd (h (ub-zero o b p n (ltb-false _ _ t)))
+
 -- n bits that stand in one byte x, with l bits of it behind them
 pub ub-in-byte : (o : Order) (b : List ℕ) (p n l : ℕ) {x s r : ℕ} → (x ≡ getD b (p / 8) 0) × (x < 256) → p % 8 + n + l ≡ 8 → s ≡ below o (p % 8) l → r ≡ x / 2 ^ s % 2 ^ n → ub o b p n ≡ r
 ub-in-byte o b p n l {x} h e s f = ub-cut o b (8 * (p / 8)) 8 (p % 8) n l (ub-first o b (p / 8) h) (omega arith) e (f ∙ ap (λ (m : ℕ). x / 2 ^ m % 2 ^ n) s)
@@ -216,31 +249,45 @@ map-got o f b p n {v} {q} e = go (leb (p + n) (8 * length b)) refl
 pub ub-got : (o : Order) (b : List ℕ) (p n : ℕ) {v q : ℕ} → num v q ≡ readUB o b p n → IsField o (λ x. x) b p n v q
 ub-got o b p n e = map-got o (λ x. x) b p n (ap (mapNum (λ x. x)) e)
 
--- ---- signs: the code's size z is 2 ^ n, and its difference wraps
+-- ---- signs: of the numbers below z the last h are negative ones
+
+-- as many, added before and taken away after by a difference that wraps, make them so
+pub signed-by : (v z h : ℕ) {r : ℕ} → v < z → h ≤ z → z ≤ 2 ^ 32 → r < 2 ^ 64 → (r + h) % 2 ^ 64 ≡ (v + h) % z → r ≡ withSign z h v
+signed-by v z h {r} l m top n w = go (ltb (v + h) z) refl
+  where
+    go : (t : Bool) → ltb (v + h) z ≡ t → r ≡ withSign z h v
+    go true t =
+        let k : v + h < z = ltb-true _ _ t in
+        let y : (v + h) % z ≡ v + h = mod-eq-of-lt k in
+        rw t (omega (arith, y))
+    go false t =
+        let k : z ≤ v + h = ltb-false _ _ t in
+        let y : (v + h) % z ≡ v + h - z = mod-eq-sub-mod k ∙ mod-eq-of-lt (omega arith) in
+        rw t (omega (arith, y))
 
 even-pow : (n : ℕ) → 1 ≤ n → 2 * (2 ^ n / 2) ≡ 2 ^ n
 even-pow zero h = absurd (omega arith)
 even-pow (suc n) h = let e : 2 ^ suc n ≡ 2 ^ n * 2 = pow-suc 2 n in omega (arith, e)
 
--- half of it, added before and taken away after, makes the upper half negative
-pub extended : (n v : ℕ) {z r : ℕ} → z ≡ 2 ^ n → 1 ≤ n → n ≤ 32 → v < 2 ^ n → r < 2 ^ 64 → (r + z / 2) % 2 ^ 64 ≡ (v + z / 2) % z → r ≡ signExtend n v
-extended n v {z} {r} e o h l m w = go (ltb (v * 2) (2 ^ n)) refl
+-- the code's size z is 2 ^ n: of a signed field's numbers half are negative, and of an unsigned one's none
+pub extended : (n v : ℕ) {z r : ℕ} → z ≡ 2 ^ n → 1 ≤ n → v < 2 ^ n → r ≡ withSign z (z / 2) v → r ≡ signExtend n v
+extended n v {z} {r} e o l w = go (ltb (v * 2) (2 ^ n)) refl
   where
     even : 2 * (z / 2) ≡ z
     even = rw e (even-pow n o)
 
-    top : z ≤ 2 ^ 32
-    top = rw e (pow-mono h)
-
     go : (t : Bool) → ltb (v * 2) (2 ^ n) ≡ t → r ≡ signExtend n v
     go true t =
         let k : v * 2 < 2 ^ n = ltb-true _ _ t in
-        let y : (v + z / 2) % z ≡ v + z / 2 = mod-eq-of-lt (omega (arith, e, even)) in
-        rw t (omega (arith, even, top, y))
+        let y : ltb (v + z / 2) z ≡ true = lt-ltb (v + z / 2) z (omega (arith, e, even)) in
+        w ∙ rw (y, t)
     go false t =
         let k : 2 ^ n ≤ v * 2 = ltb-false _ _ t in
-        let y : (v + z / 2) % z ≡ v + z / 2 - z = mod-eq-sub-mod (omega (arith, e, even)) ∙ mod-eq-of-lt (omega (arith, e, even)) in
-        rw t (omega (arith, even, top, e, y))
+        let y : ltb (v + z / 2) z ≡ false = le-ltb (v + z / 2) z (omega (arith, e, even)) in
+        w ∙ rw (y, t, e)
+
+pub unsigned : (v z : ℕ) {r : ℕ} → v < z → r ≡ withSign z 0 v → r ≡ v
+unsigned v z l w = let y : ltb (v + 0) z ≡ true = lt-ltb (v + 0) z (omega arith) in w ∙ rw y
 
 -- ---- the next whole byte, where n bits are skipped
 

@@ -1,11 +1,12 @@
 -- What the functions of this crate answer, in the words of the definitions.
-use Prim.Native.Nat.{ℕ, _+_, _*_, _/_, _%_, _^_, _≤_, _<_}
+use Prim.Native.Nat.{ℕ, _+_, _-_, _*_, _/_, _%_, _^_, _≤_, _<_}
 use mathlib.Core.List.{List}
-use lib.Dec.{eqb}
+use lib.Dec.{eqb, ltb}
 use lib.ListN.{length}
 use Rattle.format.specs.Tests.{pick}
 use Rattle.format.specs.Bits as paper
 use Rattle.format.specs.Bits.{ub}
+use Rattle.format.specs.WritingItems.{below}
 use Rattle.format.specs.Items.{Num, num, bad, skipped, toByte}
 use Rattle.bits.specs.declared.Order.{Order}
 use Rattle.bits.specs.declared.Order.the-variants.{HighFirst, LowFirst}
@@ -32,6 +33,14 @@ turnedOf x =
 abbrev pub orderedBy : paper.Order → ℕ → ℕ
 orderedBy paper.high x = turnedOf x
 orderedBy paper.low x = x
+
+-- of 40 bits that are one number x as an order has them, the one at place p
+abbrev pub bitOf : paper.Order → ℕ → ℕ → ℕ
+bitOf o x p = x / 2 ^ below o p (39 - p) % 2
+
+-- a number v below z, the last h of which are negative ones: those are kept modulo 2 ^ 64
+abbrev pub withSign : ℕ → ℕ → ℕ → ℕ
+withSign z h v = pick (ltb (v + h) z) v (v + (2 ^ 64 - z))
 
 -- the bit place p is in the bytes b or at their end, and sums of places fit
 abbrev pub PlaceIn : List ℕ → ℕ → Type 0

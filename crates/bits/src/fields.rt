@@ -6,7 +6,7 @@ ghost use Rattle.format.specs.Bits.{low, ub as fieldAt};
 ghost use Rattle.format.specs.Items.{readUB, readSB, readWidth, signExtend};
 ghost use Rattle.format.specs.FileAndTags.{le64};
 ghost use Rattle.format.specs.WritingItems.{below as belowOf};
-ghost use Rattle.bits.specs.Places.{PlaceIn, numOf, orderOf, turnedOf, orderedBy};
+ghost use Rattle.bits.specs.Places.{PlaceIn, numOf, orderOf, turnedOf, orderedBy, bitOf, withSign};
 use crate::BitPlace;
 use crate::Got;
 use crate::Order;
@@ -118,30 +118,61 @@ fn field_in_byte(order: Order, bytes: &[u8], at: BitPlace, width: u64) -> u64
     cut(crate::byte_at(bytes, place / 8), below, width)
 }
 
+// The first five bytes as one number in the order of reading; zeros stand past the end.
+pub fn first_bits(order: Order, bytes: &[u8]) -> u64
+    ensures { λ r. ⌜ r ≡ fieldAt (orderOf order) (now (bytes .entry)) 0 40 ⌝ }
+{
+    let b0 = crate::byte_at(bytes, 0);
+    let b1 = crate::byte_at(bytes, 1);
+    let b2 = crate::byte_at(bytes, 2);
+    let b3 = crate::byte_at(bytes, 3);
+    let b4 = crate::byte_at(bytes, 4);
+    match order {
+        Order::HighFirst => (((b0 * 256 + b1) * 256 + b2) * 256 + b3) * 256 + b4,
+        Order::LowFirst => (((b4 * 256 + b3) * 256 + b2) * 256 + b1) * 256 + b0,
+    }
+}
+
+// One of these 40 bits.
+pub fn bit_of(order: Order, first: u64, place: u64) -> u64
+    requires { ⌜ place < 40 ⌝ }
+    ensures { λ r. ⌜ (r ≡ bitOf (orderOf order) first place) × (r < 2) ⌝ }
+{
+    cut(first, bits_below(order, place, 39 - place), 1)
+}
+
 // UB[n]. A bit is always in one byte, so of a flag the bytes around it are not touched.
 pub fn read_ub(order: Order, bytes: &[u8], at: BitPlace, width: u64) -> Got
     requires { ⌜ PlaceIn (now bytes) (at .0) × (1 ≤ width) × (width ≤ 32) ⌝ }
     ensures { λ r. ⌜ numOf r ≡ readUB (orderOf order) (now (bytes .entry)) (at .0) width ⌝ }
 {
-    let p = at.0;
-    let next = p + width as usize;
+    let place = at.0;
+    let next = place + width as usize;
     if bytes.len() * 8 < next {
         return Got::Fault(13);
     }
-    if (p % 8) as u64 + width <= 8 {
+    if (place % 8) as u64 + width <= 8 {
         return Got::Value(field_in_byte(order, bytes, at, width), BitPlace(next));
     }
     Got::Value(field(order, bytes, at, width), BitPlace(next))
 }
 
-// A field of n bits as a signed number: a negative one is kept modulo 2^64, by a difference that wraps. No branch, since signs are hard to foretell.
+// A number below `size`, the last so many of which are negative ones: those are kept modulo 2^64, by a difference that wraps. No branch, since signs are hard to foretell.
+pub fn with_sign(value: u64, size: u64, negatives: u64) -> u64
+    requires { ⌜ (value < size) × (negatives ≤ size) × (size ≤ 2 ^ 32) ⌝ }
+    ensures { λ r. ⌜ r ≡ withSign size negatives value ⌝ }
+{
+    std::num::wrapping_sub_u64((value + negatives) % size, negatives)
+}
+
+// A field of n bits as a signed number: of the numbers that n bits have, the upper half are negative ones.
 pub fn extend(value: u64, width: u64) -> u64
     requires { ⌜ (1 ≤ width) × (width ≤ 32) × (value < 2 ^ width) ⌝ }
     ensures { λ r. ⌜ r ≡ signExtend width value ⌝ }
 {
     let size = 1u64 << width;
     let half = size / 2;
-    std::num::wrapping_sub_u64((value + half) % size, half)
+    with_sign(value, size, half)
 }
 
 // SB[n].
@@ -149,8 +180,8 @@ pub fn read_sb(order: Order, bytes: &[u8], at: BitPlace, width: u64) -> Got
     requires { ⌜ PlaceIn (now bytes) (at .0) × (1 ≤ width) × (width ≤ 32) ⌝ }
     ensures { λ r. ⌜ numOf r ≡ readSB (orderOf order) (now (bytes .entry)) (at .0) width ⌝ }
 {
-    let r = read_ub(order, bytes, at, width);
-    match r {
+    let got = read_ub(order, bytes, at, width);
+    match got {
         Got::Value(value, next) => Got::Value(extend(value, width), next),
         Got::Fault(why) => Got::Fault(why),
     }
@@ -161,8 +192,8 @@ pub fn read_width(order: Order, bytes: &[u8], at: BitPlace) -> Got
     requires { ⌜ PlaceIn (now bytes) (at .0) ⌝ }
     ensures { λ r. ⌜ numOf r ≡ readWidth (orderOf order) (now (bytes .entry)) (at .0) ⌝ }
 {
-    let r = read_ub(order, bytes, at, 5);
-    match r {
+    let got = read_ub(order, bytes, at, 5);
+    match got {
         Got::Value(value, next) => Got::Value(value + 1, next),
         Got::Fault(why) => Got::Fault(why),
     }

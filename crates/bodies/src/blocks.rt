@@ -90,9 +90,9 @@ pub fn read_contents(
     while row < count {
         let flag = flags[row];
         let attribute = rows[row];
-        let r = read_attribute(order, attribute, flag, body, place, table, index);
-        let Run::Done(next, behind) = r else {
-            return r;
+        let run = table::again(read_attribute(order, attribute, flag, body, place, table, index));
+        let Run::Done(next, behind) = run else {
+            return run;
         };
         place = next;
         index = behind;
@@ -106,16 +106,15 @@ pub(crate) fn read_block(
     order: Order,
     block: Block,
     body: &[u8],
-    at: BitPlace,
     flags: &mut [u64],
     table: &mut [u64],
     from: usize,
 ) -> Run
-    requires { ⌜ (block .count ≤ 12) × (12 ≤ length (now flags)) × Fits (now body) (at .0) (from + 12) ⌝ }
-    ensures { λ r. ⌜ (runLeaves (now (table .exit)) r ≡ shownOver (now (table .entry)) from (readBlock (orderOf order) (now (body .entry)) (rowsFrom (block .rows) 0 (block .count)) (at .0))) × (now (flags .exit) ≡ sets (now (flags .entry)) 0 (run (orderOf order) (now (body .entry)) (allFlags (rowsFrom (block .rows) 0 (block .count))) (at .0) .shown)) ⌝ }
+    requires { ⌜ (block .count ≤ 12) × (12 ≤ length (now flags)) × Fits (now body) 0 (from + 12) ⌝ }
+    ensures { λ r. ⌜ (runLeaves (now (table .exit)) r ≡ shownOver (now (table .entry)) from (readBlock (orderOf order) (now (body .entry)) (rowsFrom (block .rows) 0 (block .count)) 0)) × (now (flags .exit) ≡ sets (now (flags .entry)) 0 (run (orderOf order) (now (body .entry)) (allFlags (rowsFrom (block .rows) 0 (block .count))) 0 .shown)) ⌝ }
 {
-    let r = attributes::read_flags(order, block, body, at, flags);
-    match r {
+    let run = attributes::read_flags(order, block, body, flags);
+    match run {
         Run::Done(next, _) => read_contents(order, block, flags, body, next, table, from),
         Run::Stop(why, _) => Run::Stop(why, from),
     }

@@ -55,17 +55,16 @@ fn read_part(
 {
     if block {
         let mut flags = [0u64; 12];
-        return blocks::read_block(
+        return table::again(blocks::read_block(
             order,
             attributes::blocks::block_of(code),
             body,
-            BitPlace(0),
             &mut flags,
             table,
             from,
-        );
+        ));
     }
-    fixed::read_fixed(order, code, body, BitPlace(0), table, from)
+    table::again(fixed::read_fixed(order, code, body, BitPlace(0), table, from))
 }
 
 // At a whole byte of a body of this size: its list follows; or nothing more may follow (18).
@@ -112,7 +111,7 @@ fn read_group(order: Order, body: &[u8], table: &mut [u64], from: usize) -> Show
 {
     let mut flags = [0u64; 12];
     let block = attributes::blocks::block_of(15);
-    let items = blocks::read_block(order, block, body, BitPlace(0), &mut flags, table, from);
+    let items = blocks::read_block(order, block, body, &mut flags, table, from);
     finish(order, body, items, flags[8] == 1)
 }
 

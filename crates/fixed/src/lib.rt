@@ -10,38 +10,45 @@ ghost use Rattle.table.specs.Run.{runLeaves};
 ghost use Rattle.table.specs.Fields.{Fits};
 ghost use Rattle.fixed.specs.Fixed.{inOrder, allItems, itemsFrom, fixedOf, RowsOf};
 ghost use Rattle.bits.specs.Places.{orderOf};
+ghost use Rattle.items.specs.declared.Item.the-variants.{U32};
 use bits::BitPlace;
 use bits::Got;
 use bits::Order;
 use items::Item;
 use table::Run;
 
-pub const ITEMS: [Item; 18] = [
-    // 2: id
-    Item::U32,
-    // 3: width, height, Time, Float, Color
-    Item::I32,
-    Item::I32,
-    Item::Time,
-    Item::Float,
-    Item::Byte,
-    Item::Byte,
-    Item::Byte,
-    // 5: type, id
-    Item::Byte,
-    Item::U32,
-    // 7: Color, width, height
-    Item::Byte,
-    Item::Byte,
-    Item::Byte,
-    Item::I32,
-    Item::I32,
-    // 11: id
-    Item::U32,
-    // 12: id, Time
-    Item::U32,
-    Item::Time,
-];
+// The item in a row: the items of all these bodies stand one after the other. By a `match`, which is a table in the machine code; an array would be built for each body.
+pub fn item_at(row: usize) -> Item
+    ensures { λ r. ⌜ r ≡ getD allItems row U32 ⌝ }
+{
+    match row {
+        // 2: id
+        0 => Item::U32,
+        // 3: width, height, Time, Float, Color
+        1 => Item::I32,
+        2 => Item::I32,
+        3 => Item::Time,
+        4 => Item::Float,
+        5 => Item::Byte,
+        6 => Item::Byte,
+        7 => Item::Byte,
+        // 5: type, id
+        8 => Item::Byte,
+        9 => Item::U32,
+        // 7: Color, width, height
+        10 => Item::Byte,
+        11 => Item::Byte,
+        12 => Item::Byte,
+        13 => Item::I32,
+        14 => Item::I32,
+        // 11: id
+        15 => Item::U32,
+        // 12: id, Time
+        16 => Item::U32,
+        17 => Item::Time,
+        _ => Item::U32,
+    }
+}
 
 // Items of the table: from row start on, up to row end.
 pub struct Rows {
@@ -62,15 +69,14 @@ fn read_items(
     requires { ⌜ (start ≤ end) × (end ≤ 18) × Fits (now body) (at .0) from ⌝ }
     ensures { λ r. ⌜ runLeaves (now (table .exit)) r ≡ shownOver (now (table .entry)) from (run (orderOf order) (now (body .entry)) (inOrder (itemsFrom start end)) (at .0)) ⌝ }
 {
-    let rows = ITEMS;
     let mut place = at;
     let mut index = from;
     let mut row = start;
     while row < end {
-        let kind = rows[row];
-        let r = table::read_one(order, kind, body, place, table, index);
-        let Run::Done(next, behind) = r else {
-            return r;
+        let kind = item_at(row);
+        let run = table::read_one(order, kind, body, place, table, index);
+        let Run::Done(next, behind) = run else {
+            return run;
         };
         place = next;
         index = behind;
@@ -95,9 +101,9 @@ fn read_strings(
     let mut index = from;
     let mut left = count;
     while 0 < left {
-        let r = table::text::read_string(order, body, place, table, index);
-        let Run::Done(next, behind) = r else {
-            return r;
+        let run = table::text::read_string(order, body, place, table, index);
+        let Run::Done(next, behind) = run else {
+            return run;
         };
         place = next;
         index = behind;

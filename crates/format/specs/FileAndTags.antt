@@ -132,17 +132,17 @@ stateOf class size len = isRead class + pick (longOnShort size len) 2 0
 
 -- ---- A container at depth 8 is refused (12). Before that: the body is longer than the list's rest (9); End has a body (10).
 
--- left: how many depths may still lie below this list
+-- depths: how many may still lie below this list
 abbrev pub passes : (ℕ → Class) → ℕ → List ℕ → Head → Head
-passes class left r (noHead e) = noHead e
-passes class left r (head code len size) =
+passes class depths r (noHead e) = noHead e
+passes class depths r (head code len size) =
     pick (ltb (length (drop size r)) len) (noHead 9)
     (pick (isEnd (class code) and ltb 0 len) (noHead 10)
-    (pick (isContainer (class code) and eqb left 0) (noHead 12)
+    (pick (isContainer (class code) and eqb depths 0) (noHead 12)
     (head code len size)))
 
 abbrev pub readHead : (ℕ → Class) → ℕ → List ℕ → Head
-readHead class left r = passes class left r (rawHead r)
+readHead class depths r = passes class depths r (rawHead r)
 
 -- ---- What a walk gives.
 
@@ -250,18 +250,18 @@ tagThen d code a size len s i w =
 
 -- one tag, by its header, and the rest of its list; lists are read by R
 abbrev pub oneTag : Order → (ℕ → Class) → (ℕ → Owner → ℕ → List ℕ → Walk) → ℕ → Owner → ℕ → List ℕ → Head → Walk
-oneTag o class R left c a r (noHead e) = broken e a
-oneTag o class R left c a r (head code len size) =
-    tagThen (8 - left) code a size len (stateOf (class code) size len) (within o (R (pred left)) (class code) a (a + size) (take len (drop size r)))
-    (afterTag (isEnd (class code)) c (a + size + len) (drop (size + len) r) (R left c))
+oneTag o class R depths c a r (noHead e) = broken e a
+oneTag o class R depths c a r (head code len size) =
+    tagThen (8 - depths) code a size len (stateOf (class code) size len) (within o (R (pred depths)) (class code) a (a + size) (take len (drop size r)))
+    (afterTag (isEnd (class code)) c (a + size + len) (drop (size + len) r) (R depths c))
 
 -- the list at place a, whose room is r. Room that is used up without End is 7.
 -- k bounds the number of tags; it does not matter if it is at least the room's length: `list-nil` and `list-one` of proofs/ListLaws are this rule without it.
 unfoldable pub walk : Order → (ℕ → Class) → ℕ → ℕ → Owner → ℕ → List ℕ → Walk
-walk o class zero left c a r = broken 7 (blame c a)
-walk o class (suc k) left c a [] = broken 7 (blame c a)
-walk o class (suc k) left c a (x ∷ r) = oneTag o class (walk o class k) left c a (x ∷ r) (readHead class left (x ∷ r))
+walk o class zero depths c a r = broken 7 (blame c a)
+walk o class (suc k) depths c a [] = broken 7 (blame c a)
+walk o class (suc k) depths c a (x ∷ r) = oneTag o class (walk o class k) depths c a (x ∷ r) (readHead class depths (x ∷ r))
 
 -- a room of n bytes has fewer than n tags
 abbrev pub walkList : Order → (ℕ → Class) → ℕ → Owner → ℕ → List ℕ → Walk
-walkList o class left c a r = walk o class (length r) left c a r
+walkList o class depths c a r = walk o class (length r) depths c a r

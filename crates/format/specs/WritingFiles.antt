@@ -64,19 +64,19 @@ abbrev pub fronted : List ℕ → Possible (List ℕ) → Possible Made → Poss
 fronted xs (this b) m = joined xs b m
 fronted xs cannot m = cannot
 
--- a tag with the state s, which fits, and the n values vs, before the numbers ys; a list is written by W; left: the depths below
+-- a tag with the state s, which fits, and the n values vs, before the numbers ys; a list is written by W; depths: how many may lie below
 abbrev pub fill : Order → (List ℕ → Possible Made) → ℕ → Class → ℕ → ℕ → List ℕ → List ℕ → Possible Made
-fill o W left opaque s n vs ys = bodyOf (s ∷ n ∷ vs) (unpackedAs vs) ys
-fill o W left end s n vs ys = pick (eqb n 0) (this (made (s ∷ n ∷ vs) [] ys)) cannot
-fill o W left (known y) s n vs ys = bodyOf (s ∷ n ∷ vs) (writeBody o y vs) ys
-fill o W left (container y) s n vs ys =
-    pick (eqb left 0) cannot (pick (hasList y vs) (fronted (s ∷ n ∷ vs) (writeBody o y vs) (W ys)) (bodyOf (s ∷ n ∷ vs) (writeBody o y vs) ys))
+fill o W depths opaque s n vs ys = bodyOf (s ∷ n ∷ vs) (unpackedAs vs) ys
+fill o W depths end s n vs ys = pick (eqb n 0) (this (made (s ∷ n ∷ vs) [] ys)) cannot
+fill o W depths (known y) s n vs ys = bodyOf (s ∷ n ∷ vs) (writeBody o y vs) ys
+fill o W depths (container y) s n vs ys =
+    pick (eqb depths 0) cannot (pick (hasList y vs) (fronted (s ∷ n ∷ vs) (writeBody o y vs) (W ys)) (bodyOf (s ∷ n ∷ vs) (writeBody o y vs) ys))
 
 -- state, count and values of a tag
 abbrev pub outTag : Order → (List ℕ → Possible Made) → ℕ → Class → List ℕ → Possible Made
-outTag o W left class [] = cannot
-outTag o W left class (s ∷ []) = cannot
-outTag o W left class (s ∷ n ∷ ns) = pick (leb n (length ns)) (pick (fitsState class s) (fill o W left class s n (take n ns) (drop n ns)) cannot) cannot
+outTag o W depths class [] = cannot
+outTag o W depths class (s ∷ []) = cannot
+outTag o W depths class (s ∷ n ∷ ns) = pick (leb n (length ns)) (pick (fitsState class s) (fill o W depths class s n (take n ns) (drop n ns)) cannot) cannot
 
 -- the code and the header before a body; then, unless it is End, the rest of the list
 abbrev pub headed : Bool → ℕ → Bool → Possible Made → (List ℕ → Possible Made) → Possible Made
@@ -86,16 +86,16 @@ headed claim code false (this (made xs body ys)) k = pick (fitsHead claim code (
 
 -- one tag, whose state is the number after its code, and what follows it; lists are written by U
 abbrev pub outOne : Order → (ℕ → Class) → (ℕ → List ℕ → Possible Made) → ℕ → List ℕ → Possible Made
-outOne o class U left [] = cannot
-outOne o class U left (code ∷ ns) = headed (claims (the ns)) code (isEnd (class code)) (outTag o (U (pred left)) left (class code) ns) (U left)
+outOne o class U depths [] = cannot
+outOne o class U depths (code ∷ ns) = headed (claims (the ns)) code (isEnd (class code)) (outTag o (U (pred depths)) depths (class code) ns) (U depths)
 
 -- k bounds the number of tags
 unfoldable pub unwalk : Order → (ℕ → Class) → ℕ → ℕ → List ℕ → Possible Made
-unwalk o class zero left ns = cannot
-unwalk o class (suc k) left ns = outOne o class (unwalk o class k) left ns
+unwalk o class zero depths ns = cannot
+unwalk o class (suc k) depths ns = outOne o class (unwalk o class k) depths ns
 
 abbrev pub unwalkList : Order → (ℕ → Class) → ℕ → List ℕ → Possible Made
-unwalkList o class left ns = unwalk o class (length ns) left ns
+unwalkList o class depths ns = unwalk o class (length ns) depths ns
 
 -- the whole table is used up, and the file is not too long
 abbrev pub wholeFile : ℕ → Possible Made → Possible (List ℕ)

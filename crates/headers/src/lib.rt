@@ -31,8 +31,8 @@ fn le16_at(bytes: &[u8], i: usize) -> u32
     requires { ⌜ i + 2 ≤ length (now bytes) ⌝ }
     ensures { λ r. ⌜ (r ≡ le16 (drop i (now (bytes .entry)))) × (r < 2 ^ 16) ⌝ }
 {
-    let j = i + 1;
-    wide(bytes[i]) + 256 * wide(bytes[j])
+    let second = i + 1;
+    wide(bytes[i]) + 256 * wide(bytes[second])
 }
 
 // The little-endian 32-bit number at an index.
@@ -40,8 +40,8 @@ pub fn le32_at(bytes: &[u8], i: usize) -> u32
     requires { ⌜ i + 4 ≤ length (now bytes) ⌝ }
     ensures { λ r. ⌜ r ≡ le32 (drop i (now (bytes .entry))) ⌝ }
 {
-    let j = i + 2;
-    le16_at(bytes, i) + 65536 * le16_at(bytes, j)
+    let upper = i + 2;
+    le16_at(bytes, i) + 65536 * le16_at(bytes, upper)
 }
 
 // The header as it stands in a list's room, unless the room's end cuts it (6). The long one takes any length.

@@ -14,7 +14,7 @@ use bits::BytePlace;
 use bits::Got;
 use bits::Order;
 
-// An Enum goes from 0 to its top, a Count from its least to 4,096.
+// An Enum goes from 0 to its top, a Count from its least to 4,096. Each is one byte, so that a kind is two: counted, it is handed on in a register so.
 pub enum Item {
     U32,
     I32,
@@ -22,9 +22,9 @@ pub enum Item {
     Float,
     Uint16,
     Byte,
-    Enum(u64),
+    Enum(u8),
     BlendMode,
-    Count(u64),
+    Count(u8),
 }
 
 // One byte. Whole bytes are the same in either order.
@@ -107,7 +107,7 @@ pub fn out_of_range(kind: Item, value: u64) -> u32
     ensures { λ r. ⌜ r ≡ rangeFault kind value ⌝ }
 {
     match kind {
-        Item::Enum(top) => if value <= top { 0 } else { 16 },
+        Item::Enum(top) => if value <= top as u64 { 0 } else { 16 },
         Item::BlendMode => if value <= 16 {
             0
         } else if between(21, value, 26) {
@@ -115,7 +115,11 @@ pub fn out_of_range(kind: Item, value: u64) -> u32
         } else {
             16
         },
-        Item::Count(least) => if between(least, value, 4096) { 0 } else { 17 },
+        Item::Count(least) => if between(least as u64, value, 4096) {
+            0
+        } else {
+            17
+        },
         Item::U32 => 0,
         Item::I32 => 0,
         Item::Time => 0,
@@ -134,9 +138,9 @@ pub fn read_item(order: Order, kind: Item, body: &[u8], at: BitPlace) -> Got
     let Aligned::Clean(byte, bit) = aligned else {
         return Got::Fault(15);
     };
-    let r = read_spelling(kind, body, byte, bit);
-    let Got::Value(value, next) = r else {
-        return r;
+    let got = read_spelling(kind, body, byte, bit);
+    let Got::Value(value, next) = got else {
+        return got;
     };
     let why = out_of_range(kind, value);
     if why == 0 {

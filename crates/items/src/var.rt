@@ -28,33 +28,33 @@ fn read_var(body: &[u8], byte: BytePlace, bit: BitPlace, most: u64, top: u64) ->
     if body.len() <= i {
         return Got::Fault(13);
     }
-    let b = bits::byte_at(body, i);
+    let value = bits::byte_at(body, i);
     i += 1;
     next += 8;
-    if b < 128 {
-        return Got::Value(b, BitPlace(next));
+    if value < 128 {
+        return Got::Value(value, BitPlace(next));
     }
-    let mut sum = b - 128;
+    let mut sum = value - 128;
     let mut weight = 128u64;
     let mut left = most;
     loop {
         if body.len() <= i {
             return Got::Fault(13);
         }
-        let b = bits::byte_at(body, i);
+        let value = bits::byte_at(body, i);
         i += 1;
         next += 8;
         left -= 1;
-        if b < 128 {
-            if ends(b, left, top) {
-                return Got::Value(sum + b * weight, BitPlace(next));
+        if value < 128 {
+            if ends(value, left, top) {
+                return Got::Value(sum + value * weight, BitPlace(next));
             }
             return Got::Fault(14);
         }
         if left == 0 {
             return Got::Fault(14);
         }
-        sum += (b - 128) * weight;
+        sum += (value - 128) * weight;
         weight *= 128;
     }
 }
@@ -80,9 +80,9 @@ pub(crate) fn read_i32(body: &[u8], byte: BytePlace, bit: BitPlace) -> Got
     requires { ⌜ PlaceIn (now body) (bit .0) × (bit .0 ≡ 8 * byte .0) ⌝ }
     ensures { λ r. ⌜ InEither (λ o. numOf r ≡ mapNum sign (notOne (readU32 o (now (body .entry)) (bit .0)))) ⌝ }
 {
-    let r = read_u32(body, byte, bit);
-    let Got::Value(d, next) = r else {
-        return r;
+    let got = read_u32(body, byte, bit);
+    let Got::Value(d, next) = got else {
+        return got;
     };
     if d == 1 {
         return Got::Fault(14);

@@ -215,7 +215,7 @@ pub fn read_list(
                 let home = BytePlace(start);
                 let part = &room[first..stop];
                 let next = opened.behind;
-                let x = read_list(
+                let walked = read_list(
                     classes,
                     order,
                     less,
@@ -227,8 +227,8 @@ pub fn read_list(
                     rows,
                     line,
                 );
-                let Walked::Next(behind, after) = x else {
-                    return x;
+                let Walked::Next(behind, after) = walked else {
+                    return walked;
                 };
                 place = opened.stop;
                 index = behind;

@@ -60,7 +60,7 @@ pub(crate) fn find(order: Order, body: &[u8]) -> Found
 {
     let block = attributes::blocks::block_of(14);
     let mut flags = [0u64; 12];
-    let behind = place_of(attributes::read_flags(order, block, body, BitPlace(0), &mut flags));
+    let behind = place_of(attributes::read_flags(order, block, body, &mut flags));
     let rows = block.rows;
     let before = Block {
         rows: rows,

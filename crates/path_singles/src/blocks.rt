@@ -13,7 +13,6 @@ use attributes::Attribute;
 use attributes::Block;
 use attributes::DataType;
 use attributes::Kind;
-use bits::BitPlace;
 use bits::Order;
 use table::Run;
 
@@ -47,7 +46,11 @@ fn is_paths(what: DataType) -> bool
         DataType::Point => false,
         DataType::Color => false,
         DataType::GradientColor => false,
-        DataType::Enum(_) => false,
+        DataType::EnumTo1 => false,
+        DataType::EnumTo2 => false,
+        DataType::EnumTo4 => false,
+        DataType::EnumTo6 => false,
+        DataType::EnumTo7 => false,
         DataType::Dashes => false,
         DataType::TagBlock => false,
     }
@@ -91,8 +94,8 @@ fn numbers_before(code: u32, row: usize, body: &[u8]) -> usize
     let order = Order::HighFirst;
     let block = attributes::blocks::block_of(code);
     let mut flags = [0u64; 12];
-    let r = attributes::read_flags(order, block, body, BitPlace(0), &mut flags);
-    let Run::Done(next, _) = r else {
+    let run = attributes::read_flags(order, block, body, &mut flags);
+    let Run::Done(next, _) = run else {
         return 0;
     };
     let before = rows_before(block, row);

@@ -1,16 +1,16 @@
 -- Fields, widths and runs of fields, written.
 use Prim.Native.Nat.{ℕ, zero, suc, pred, _+_, _-_, _*_, _/_, _%_, _^_, _≤_, _<_, min}
-use mathlib.Core.List.{List, [], _∷_}
+use mathlib.Core.List.{List, [], _∷_, _++_}
 use mathlib.Core.Path.{_≡_, refl, sym, ap, ap₂, _∙_, subst}
 use mathlib.Core.Bool.{Bool, true, false, not}
-use native.Mathlib.Nat.{add-zero, pow-suc, mod-eq-of-lt, mod-lt}
+use native.Mathlib.Nat.{add-zero, pow-suc, mod-eq-of-lt, mod-lt, suc-mul, mul-pos}
 use native.Mathlib.Numerals.{add-one}
 use native.Mathlib.Omega.{arith}
-use lib.ListN.{length, getD, take, drop, length-drop}
-use lib.Seq.{getD-drop}
+use lib.ListN.{length, getD, take, drop, length-append, length-take, length-drop}
+use lib.Seq.{getD-drop, drop-cons, length-take-le}
 use lib.Pow.{pow-pos, pow-lt, high-ones, low as lo}
-use lib.Dec.{leb, ltb}
-use borrow.Author.Tests.{lt-ltb, le-ltb, eq-eqb, ne-eqb, ltb-true, ltb-false, leb-true, leb-false}
+use lib.Dec.{eqb, leb, ltb}
+use borrow.Author.Tests.{lt-ltb, le-ltb, eq-eqb, ne-eqb, ltb-true, ltb-false, leb-true, leb-false, eqb-true, not-true, not-false}
 use Rattle.format.specs.Tests.{pick}
 use Rattle.format.specs.Bits.{Order}
 use Rattle.format.specs.Formats.{item, Item, _▹_, times, the}
@@ -21,15 +21,17 @@ use Rattle.format.specs.WritingFormats.{unrun}
 use Rattle.table.specs.Fields.{allows, fieldOf, signed, announces, announced}
 use Rattle.table.specs.declared.fields.Field.{Field}
 use Rattle.table.specs.declared.fields.Field.the-variants.{Verb, Interpolation, SpatialFlag, Plain, ByteValue, Coordinate}
+use Rattle.table.proofs.FieldLaws.{weight-is}
 use Rattle.format.proofs.BitLaws.{length-dig}
 use Rattle.format.proofs.Absurd.{clash}
-use Rattle.sink.specs.Laying.{State, at, lay, Holds}
+use Rattle.sink.specs.Laying.{State, mk, at, lay, Holds}
 use Rattle.sink.specs.declared.Sink.{Sink}
-use Rattle.sink.proofs.LayingLaws.{lay-ok, lay-place}
+use Rattle.sink.proofs.LayingLaws.{mk-eq, lay-append, lay-none, lay-some-past, lay-ok, lay-place}
 use Rattle.spelling.specs.declared.Put.{Put}
 use Rattle.spelling.specs.declared.Put.the-variants.{Done, Impossible}
 use Rattle.spelling.specs.Writing.{seen, ends, ran, limit, Fine, finish}
 use Rattle.spelling.specs.Spellings.{Announces}
+use Rattle.spelling.specs.Fields.{unsignedIn, signedIn, isField, allFields, Judges, digAll}
 use Rattle.spelling.proofs.RunLaws.{then-done, then-stop, finish-ends, times-end, times-one, times-bad, times-few, one-done, OneDone, the-one}
 use Rattle.spelling.proofs.NumberLaws.{passing-single}
 
@@ -37,14 +39,43 @@ pub rest-small : (k x m : ℕ) → m ≡ 2 ^ k → x % m < 2 ^ k
 rest-small k x m e = rw e (mod-lt x (pow-pos k))
 
 -- ---- UB[w]
-ub-in : (o : Order) (w v : ℕ) → v < 2 ^ w → spellUB o w v ≡ this (dig o w v)
-ub-in o w v h = rw (lt-ltb _ _ h)
+ub-is : (o : Order) (w v : ℕ) → spellUB o w v ≡ pick (unsignedIn w v) (this (dig o w (v % 2 ^ w))) cannot
+ub-is o w v = go (ltb v (2 ^ w)) refl
+  where
+    go : (c : Bool) → ltb v (2 ^ w) ≡ c → pick c (this (dig o w v)) cannot ≡ pick c (this (dig o w (v % 2 ^ w))) cannot
+    go true e = ap (λ (d : ℕ). this (dig o w d)) (sym (mod-eq-of-lt (ltb-true v (2 ^ w) e)))
+    go false e = refl
 
-ub-out : (o : Order) (w v : ℕ) → 2 ^ w ≤ v → spellUB o w v ≡ cannot
-ub-out o w v h = rw (le-ltb _ _ h)
+-- ---- SB[w]
 
--- ---- SB[w]: m is 2 ^ w and h half of it; u is v + h, wrapped
-module _ (o : Order) (w v m h u : ℕ) (low : 1 ≤ w) (few : w ≤ 32) (is : m ≡ 2 ^ w) (half : h ≡ m / 2) (small : v < 2 ^ 64) (sum : u ≡ (v + h) % 2 ^ 64) where
+-- 2 ^ 64 is a multiple of 2 ^ w, so a negative number leaves its field
+wraps : (w d v : ℕ) → w ≤ 32 → d + (2 ^ 64 - 2 ^ w) ≡ v → d < 2 ^ w → v % 2 ^ w ≡ d
+wraps w d v few e l =
+    let c : 64 - w + w ≡ 64 = omega arith in
+    let ones : 2 ^ 64 - 2 ^ w ≡ (2 ^ (64 - w) - 1) * 2 ^ w = subst (λ (n : ℕ). 2 ^ n - 2 ^ w ≡ (2 ^ (64 - w) - 1) * 2 ^ w) c (high-ones (64 - w) w) in
+    let q : v ≡ (2 ^ (64 - w) - 1) * 2 ^ w + d = omega arith in
+    rw q (lo (2 ^ (64 - w) - 1) w l)
+
+extend-rest : (w d : ℕ) → w ≤ 32 → d < 2 ^ w → signExtend w d % 2 ^ w ≡ d
+extend-rest w d few l = go (ltb (d * 2) (2 ^ w))
+  where
+    go : (c : Bool) → pick c d (d + (2 ^ 64 - 2 ^ w)) % 2 ^ w ≡ d
+    go true = mod-eq-of-lt l
+    go false = wraps w d (d + (2 ^ 64 - 2 ^ w)) few refl l
+
+sb-is : (o : Order) (w v : ℕ) → w ≤ 32 → undo (signExtend w) (unextend w) (spellUB o w) v ≡ pick (signedIn w v) (this (dig o w (v % 2 ^ w))) cannot
+sb-is o w v few = go (unextend w v) (eqb (signExtend w (unextend w v)) v) refl (ltb (unextend w v) (2 ^ w)) refl
+  where
+    go : (d : ℕ) (a : Bool) → eqb (signExtend w d) v ≡ a → (b : Bool) → ltb d (2 ^ w) ≡ b
+        → pick a (pick b (this (dig o w d)) cannot) cannot ≡ pick (pick a b false) (this (dig o w (v % 2 ^ w))) cannot
+    go d true e true f =
+        let z : d ≡ v % 2 ^ w = sym (extend-rest w d few (ltb-true d (2 ^ w) f)) ∙ ap (λ (x : ℕ). x % 2 ^ w) (eqb-true (signExtend w d) v e) in
+        ap (λ (x : ℕ). this (dig o w x)) z
+    go d true e false f = refl
+    go d false e b f = refl
+
+-- m is 2 ^ w and h half of it; u is v + h, wrapped
+module _ (w v m h u : ℕ) (low : 1 ≤ w) (few : w ≤ 32) (is : m ≡ 2 ^ w) (half : h ≡ m / 2) (small : v < 2 ^ 64) (sum : u ≡ (v + h) % 2 ^ 64) where
   m-small : m < 2 ^ 33
   m-small = let k : w < 33 = omega arith in rw is (pow-lt k)
 
@@ -54,41 +85,33 @@ module _ (o : Order) (w v m h u : ℕ) (low : 1 ≤ w) (few : w ≤ 32) (is : m 
       let p : 2 ^ w ≡ 2 ^ (w - 1) * 2 = ap (λ (n : ℕ). 2 ^ n) e ∙ pow-suc 2 (w - 1) in
       omega arith
 
-  -- 2 ^ 64 is a multiple of m, so a negative number leaves its field
-  wraps : (d : ℕ) → d + (2 ^ 64 - 2 ^ w) ≡ v → d < m → v % m ≡ d
-  wraps d e l =
-      let c : 64 - w + w ≡ 64 = omega arith in
-      let ones : 2 ^ 64 - 2 ^ w ≡ (2 ^ (64 - w) - 1) * 2 ^ w = subst (λ (n : ℕ). 2 ^ n - 2 ^ w ≡ (2 ^ (64 - w) - 1) * 2 ^ w) c (high-ones (64 - w) w) in
-      let q : v ≡ (2 ^ (64 - w) - 1) * 2 ^ w + d = omega arith in
-      rw (is, q) (lo (2 ^ (64 - w) - 1) w (omega arith))
-
-  pub sb-in : u < m → undo (signExtend w) (unextend w) (spellUB o w) v ≡ this (dig o w (v % m))
-  sb-in l = go (ltb v h) refl
+  pub signed-in : u < m → isField Coordinate w v ≡ true
+  unfolding isField
+  signed-in l = go (ltb v h) refl
     where
-      go : (c : Bool) → ltb v h ≡ c → undo (signExtend w) (unextend w) (spellUB o w) v ≡ this (dig o w (v % m))
+      go : (c : Bool) → ltb v h ≡ c → signedIn w v ≡ true
       go true q =
           let k : v < h = ltb-true v h q in
           let a : ltb (v * 2) (2 ^ w) ≡ true = lt-ltb (v * 2) (2 ^ w) (omega (arith, even)) in
           let b : ltb v (2 ^ w) ≡ true = lt-ltb v (2 ^ w) (omega (arith, even)) in
-          let r : v % m ≡ v = mod-eq-of-lt (omega (arith, even)) in
-          rw (a, a, eq-eqb v v refl, b, r)
+          rw (a, a, eq-eqb v v refl, b)
       go false q =
           let k : h ≤ v = ltb-false v h q in
           let d : ℕ = v - (2 ^ 64 - 2 ^ w) in
           let e : d + (2 ^ 64 - 2 ^ w) ≡ v = omega (arith, m-small, even) in
-          let r : v % m ≡ d = wraps d e (omega (arith, m-small, even)) in
           let a : ltb (v * 2) (2 ^ w) ≡ false = le-ltb (v * 2) (2 ^ w) (omega (arith, even)) in
           let b : ltb (d * 2) (2 ^ w) ≡ false = le-ltb (d * 2) (2 ^ w) (omega (arith, m-small, even)) in
           let f : ltb d (2 ^ w) ≡ true = lt-ltb d (2 ^ w) (omega (arith, m-small, even)) in
-          rw (a, b, eq-eqb _ _ e, f, r)
+          rw (a, b, eq-eqb _ _ e, f)
 
-  pub sb-out : m ≤ u → undo (signExtend w) (unextend w) (spellUB o w) v ≡ cannot
-  sb-out l = go (ltb ((v - (2 ^ 64 - 2 ^ w)) * 2) (2 ^ w)) refl
+  pub signed-out : m ≤ u → isField Coordinate w v ≡ false
+  unfolding isField
+  signed-out l = go (ltb ((v - (2 ^ 64 - 2 ^ w)) * 2) (2 ^ w)) refl
     where
       a : ltb (v * 2) (2 ^ w) ≡ false
       a = le-ltb (v * 2) (2 ^ w) (omega (arith, m-small, even))
 
-      go : (c : Bool) → ltb ((v - (2 ^ 64 - 2 ^ w)) * 2) (2 ^ w) ≡ c → undo (signExtend w) (unextend w) (spellUB o w) v ≡ cannot
+      go : (c : Bool) → ltb ((v - (2 ^ 64 - 2 ^ w)) * 2) (2 ^ w) ≡ c → signedIn w v ≡ false
       go true q = rw (a, q, ne-eqb (v - (2 ^ 64 - 2 ^ w)) v (λ z. omega (arith, m-small, even, pow-pos w)))
       go false q =
           rw (
@@ -118,96 +141,90 @@ field-is o Plain w ns p = refl
 field-is o ByteValue w ns p = passing-single (λ ns. leb (the ns) 255) (spellUB o w) ns
 field-is o Coordinate w ns p = refl
 
-pub field-sb : (o : Order) (w p v : ℕ) {b : Possible (List Bool)} → undo (signExtend w) (unextend w) (spellUB o w) v ≡ b → fieldBits o Coordinate w p v ≡ b
-unfolding fieldBits
-field-sb o w p v e = e
+spelling-is : (o : Order) (f : Field) (w v : ℕ) → (signed f ≡ true → w ≤ 32) → fieldSpelling o f w v ≡ pick (pick (signed f) (signedIn w v) (unsignedIn w v)) (this (dig o w (v % 2 ^ w))) cannot
+spelling-is o Verb w v few = ub-is o w v
+spelling-is o Interpolation w v few = ub-is o w v
+spelling-is o SpatialFlag w v few = ub-is o w v
+spelling-is o Plain w v few = ub-is o w v
+spelling-is o ByteValue w v few = ub-is o w v
+spelling-is o Coordinate w v few = sb-is o w v (few refl)
 
-unsigned-is : (o : Order) (f : Field) (w v : ℕ) → signed f ≡ false → fieldSpelling o f w v ≡ spellUB o w v
-unsigned-is o Verb w v h = refl
-unsigned-is o Interpolation w v h = refl
-unsigned-is o SpatialFlag w v h = refl
-unsigned-is o Plain w v h = refl
-unsigned-is o ByteValue w v h = refl
-unsigned-is o Coordinate w v h = clash cc
+field-bits : (o : Order) (f : Field) (w p v : ℕ) {c : Bool} → (signed f ≡ true → w ≤ 32) → isField f w v ≡ c → fieldBits o f w p v ≡ pick c (this (dig o w (v % 2 ^ w))) cannot
+unfolding fieldBits isField
+field-bits o f w p v {c} few e = go (allows f v) (fieldSpelling o f w v) (pick (signed f) (signedIn w v) (unsignedIn w v)) (spelling-is o f w v few) ∙ ap (λ (x : Bool). pick x (this (dig o w (v % 2 ^ w))) cannot) e
+  where
+    go : (a : Bool) (x : Possible (List Bool)) (b : Bool) → x ≡ pick b (this (dig o w (v % 2 ^ w))) cannot → pick a x cannot ≡ pick (pick a b false) (this (dig o w (v % 2 ^ w))) cannot
+    go true x b e = e
+    go false x b e = refl
 
 -- m is 2 ^ w, and c whether the number is allowed
-module _ (o : Order) (f : Field) (w p v m : ℕ) (un : signed f ≡ false) (is : m ≡ 2 ^ w) where
-  pub field-large : m ≤ v → fieldBits o f w p v ≡ cannot
-  unfolding fieldBits
-  field-large h = go (allows f v)
+module _ (f : Field) (w v m : ℕ) (un : signed f ≡ false) (is : m ≡ 2 ^ w) where
+  pub unsigned-large : m ≤ v → isField f w v ≡ false
+  unfolding isField
+  unsigned-large h = rw (un, le-ltb v (2 ^ w) (omega arith)) (go (allows f v))
     where
-      go : (c : Bool) → pick c (fieldSpelling o f w v) cannot ≡ cannot
-      go true = unsigned-is o f w v un ∙ ub-out o w v (omega arith)
+      go : (c : Bool) → pick c false false ≡ false
+      go true = refl
       go false = refl
 
-  pub field-out : {c : Bool} → c ≡ allows f v → not c ≡ true → fieldBits o f w p v ≡ cannot
-  unfolding fieldBits
-  field-out {c} e h = go c e h
-    where
-      go : (c : Bool) → c ≡ allows f v → not c ≡ true → pick (allows f v) (fieldSpelling o f w v) cannot ≡ cannot
-      go true e h = clash cc
-      go false e h = rw (sym e)
+  pub unsigned-out : {c : Bool} → c ≡ allows f v → not c ≡ true → isField f w v ≡ false
+  unfolding isField
+  unsigned-out {c} e h = rw (sym e ∙ not-true c h)
 
-  pub field-in : {c : Bool} → c ≡ allows f v → not c ≡ false → v < m → fieldBits o f w p v ≡ this (dig o w v)
-  unfolding fieldBits
-  field-in {c} e h l = go c e h
-    where
-      go : (c : Bool) → c ≡ allows f v → not c ≡ false → pick (allows f v) (fieldSpelling o f w v) cannot ≡ this (dig o w v)
-      go true e h = rw (sym e) (unsigned-is o f w v un ∙ ub-in o w v (omega arith))
-      go false e h = clash cc
+  pub unsigned-in : {c : Bool} → c ≡ allows f v → not c ≡ false → v < m → isField f w v ≡ true
+  unfolding isField
+  unsigned-in {c} e h l = rw (un, sym e ∙ not-false c h, lt-ltb v (2 ^ w) (omega arith))
 
--- ---- a run of fields: i of n were put, and no place was judged
-pub record Going (o : Order) (f : Field) (w : ℕ) (t out : List ℕ) (s : Sink) (k n : ℕ) (u : List ℕ) (cur : Sink) (i : ℕ) : Type 0 where
-  pub size : length u ≡ length out
+pub field-large : (o : Order) (f : Field) (w p v m : ℕ) → signed f ≡ false → m ≡ 2 ^ w → m ≤ v → fieldBits o f w p v ≡ cannot
+field-large o f w p v m un is h = field-bits o f w p v (λ z. clash cc) (unsigned-large f w v m un is h)
+
+-- ---- of n numbers from index k on, those behind the first i
+abbrev pub behind : List ℕ → ℕ → ℕ → ℕ → List ℕ
+behind t k n i = take (n - i) (drop (k + i) t)
+
+behind-none : (t : List ℕ) (k n : ℕ) → take n (drop k t) ≡ behind t k n 0
+behind-none t k n = ap₂ (λ (m j : ℕ). take m (drop j t)) (let z : n ≡ n - 0 = omega arith in z) (sym (add-zero k))
+
+behind-more : (t : List ℕ) (k n i : ℕ) → i < n → n ≤ length t - k → behind t k n i ≡ getD t (k + i) 0 ∷ behind t k n (i + 1)
+behind-more t k n i h l =
+    let a : n - i ≡ suc (n - (i + 1)) = omega arith in
+    let b : suc (k + i) ≡ k + (i + 1) = omega arith in
+    rw (drop-cons t (k + i) 0 (omega arith), a, b)
+
+behind-all : (t : List ℕ) (k n i : ℕ) → n ≤ i → behind t k n i ≡ []
+behind-all t k n i h = let a : n - i ≡ 0 = omega arith in rw a
+
+-- ---- n numbers are judged: of the first i each is a field
+pub record Judging (f : Field) (w : ℕ) (t : List ℕ) (k n i : ℕ) : Type 0 where
   pub within : i ≤ n
-  pub holds : Holds (cur .place .0) (cur .part)
-  pub low : cur .place .0 ≤ limit + 32 * i
-  pub rest : ran o t (at out s) k (times n (fieldOf f w)) ≡ ran o t (at u cur) (k + i) (times (n - i) (fieldOf f w))
+  pub rest : allFields f w (take n (drop k t)) ≡ allFields f w (behind t k n i)
 
-pub fields-few : (o : Order) (f : Field) (w : ℕ) (t out : List ℕ) (s : Sink) (k n : ℕ) {m : ℕ} → m ≡ min n (length t - k) → m < n → cannot ≡ ran o t (at out s) k (times n (fieldOf f w))
-fields-few o f w t out s k n e h = sym (times-few o (fieldOf f w) (fieldBits o f w) (field-is o f w) t (at out s) k n (omega arith))
+pub judging-start : (f : Field) (w : ℕ) (t : List ℕ) (k n : ℕ) → Judging f w t k n 0
+judging-start f w t k n = record { within = omega arith; rest = ap (allFields f w) (behind-none t k n) }
 
-pub fields-start : (o : Order) (f : Field) (w : ℕ) (t out : List ℕ) (s : Sink) (k n : ℕ) → Fine s → Going o f w t out s k n out s 0
-fields-start o f w t out s k n fine = record {
-  size = refl;
-  within = omega arith;
-  holds = fine .0;
-  low = omega (arith, fine .1);
-  rest = ap₂ (λ (j m : ℕ). ran o t (at out s) j (times m (fieldOf f w))) (sym (add-zero k)) (let z : n ≡ n - 0 = omega arith in z);
-}
+module _ {f : Field} {w : ℕ} {t : List ℕ} {k n i : ℕ} (g : Judging f w t k n i) where
+  module _ (more : i < n) (inside : n ≤ length t - k) where
+    judging-one : {c : Bool} → isField f w (getD t (k + i) 0) ≡ c → allFields f w (take n (drop k t)) ≡ pick c (allFields f w (behind t k n (i + 1))) false
+    unfolding allFields
+    judging-one e = g .rest ∙ ap (allFields f w) (behind-more t k n i more inside) ∙ rw e
 
-module _ {o : Order} {f : Field} {w : ℕ} {t out : List ℕ} {s : Sink} {k n : ℕ} {u : List ℕ} {cur : Sink} {i : ℕ} (g : Going o f w t out s k n u cur i) (more : i < n) {m : ℕ} (is : m ≡ min n (length t - k)) (few : n ≤ m) where
-  pub fields-bad : fieldBits o f w (cur .place .0) (getD t (k + i) 0) ≡ cannot → cannot ≡ ran o t (at out s) k (times n (fieldOf f w))
-  fields-bad e = sym (g .rest ∙ times-bad o (fieldOf f w) (fieldBits o f w) (field-is o f w) t (at u cur) (k + i) (n - i) (omega arith) (omega arith) e)
+    pub judging-no : isField f w (getD t (k + i) 0) ≡ false → false ≡ allFields f w (take n (drop k t))
+    judging-no e = sym (judging-one e)
 
-  pub fields-next : (x : ℕ) {u′ : List ℕ} {s′ : Sink} → w ≤ 32 → fieldBits o f w (cur .place .0) (getD t (k + i) 0) ≡ this (dig o w x) → length u′ ≡ length u
-      → at u′ s′ ≡ lay o (at u cur) (dig o w x) → Going o f w t out s k n u′ s′ (i + 1)
-  fields-next x {u′} {s′} h e size d = record {
-    size = size ∙ g .size;
-    within = omega arith;
-    holds = subst (λ (z : State). Holds (z .place) (z .part)) (sym d) (lay-ok o (at u cur) (dig o w x) (g .holds));
-    low =
-        let p : s′ .place .0 ≡ cur .place .0 + length (dig o w x) = ap (λ (z : State). z .place) d ∙ lay-place o (at u cur) (dig o w x) in
-        omega (arith, g .low, length-dig o w x);
-    rest =
-        let a : k + i + 1 ≡ k + (i + 1) = omega arith in
-        let b : n - i - 1 ≡ n - (i + 1) = omega arith in
-        g .rest
-        ∙ times-one o (fieldOf f w) (fieldBits o f w) (field-is o f w) t (at u cur) (k + i) (n - i) (dig o w x) (omega arith) (omega arith) e
-        ∙ ap (λ (z : State). ran o t z (k + i + 1) (times (n - i - 1) (fieldOf f w))) (sym d)
-        ∙ ap₂ (λ (j l : ℕ). ran o t (at u′ s′) j (times l (fieldOf f w))) a b;
-  }
+    pub judging-next : isField f w (getD t (k + i) 0) ≡ true → Judging f w t k n (i + 1)
+    judging-next e = record { within = omega arith; rest = judging-one e }
 
-pub fields-over : {o : Order} {f : Field} {w : ℕ} {t out : List ℕ} {s : Sink} {k n : ℕ} {u : List ℕ} {cur : Sink} {i : ℕ} → Going o f w t out s k n u cur i → n ≤ i
-    → {R : Put} → R ≡ finish cur (k + n) → seen u R ≡ ran o t (at out s) k (times n (fieldOf f w))
-fields-over {o} {f} {w} {t} {out} {s} {k} {n} {u} {cur} {i} g h e =
-    let a : n - i ≡ 0 = omega arith in
-    let b : k + i ≡ k + n = omega (arith, g .within) in
-    ap (seen u) e ∙ finish-ends u cur (k + n) ∙ sym (g .rest ∙ times-end o t (at u cur) (k + i) (fieldOf f w) (n - i) a ∙ ap (ends (at u cur)) b)
+  pub judging-over : n ≤ i → true ≡ allFields f w (take n (drop k t))
+  unfolding allFields
+  judging-over h = sym (g .rest ∙ ap (allFields f w) (behind-all t k n i h))
 
--- ---- and those that were put announce c
-abbrev pub Counted : Field → List ℕ → ℕ → ℕ → ℕ → Type 0
-Counted f t k i c = (c ≡ announced f (take i (drop k t))) × (c ≤ 6 * i)
+-- ---- what numbers announce
+announced-few : (f : Field) (vs : List ℕ) → announced f vs ≤ 6 * length vs
+announced-few f [] = omega arith
+announced-few f (v ∷ vs) = omega (arith, weight-is f v refl refl, announced-few f vs)
+
+pub counted-few : (f : Field) (t : List ℕ) (k i c : ℕ) → c ≡ announced f (take i (drop k t)) → c ≤ 6 * i
+counted-few f t k i c e = omega (arith, announced-few f (take i (drop k t)), length-take i (drop k t))
 
 announced-one : (f : Field) (xs : List ℕ) (i v : ℕ) → i < length xs → v ≡ getD xs i 0 → announced f (take (suc i) xs) ≡ announced f (take i xs) + announces f v
 announced-one f [] i v h e = absurd (omega arith)
@@ -216,35 +233,136 @@ announced-one f (x ∷ xs) (suc i) v h e =
     let q : announced f (take (suc i) xs) ≡ announced f (take i xs) + announces f v = announced-one f xs i v (omega arith) e in
     rw q (omega arith)
 
-pub counted-next : (f : Field) (t : List ℕ) (k i : ℕ) {c m : ℕ} → Counted f t k i c → k + i < length t → m ≡ announces f (getD t (k + i) 0) → m ≤ 6 → Counted f t k (i + 1) (c + m)
-counted-next f t k i a l e h =
+pub counted-next : (f : Field) (t : List ℕ) (k i : ℕ) {c m : ℕ} → c ≡ announced f (take i (drop k t)) → k + i < length t → m ≡ announces f (getD t (k + i) 0) → c + m ≡ announced f (take (i + 1) (drop k t))
+counted-next f t k i a l e =
     let b : i < length (drop k t) = rw length-drop (omega arith) in
-    (rw (add-one i, announced-one f (drop k t) i (getD t (k + i) 0) b (sym (getD-drop k t i 0)), e, a .0), omega (arith, a .1))
-
-pub counted-over : (f : Field) (t : List ℕ) (k n i : ℕ) {c : ℕ} (s : Sink) {R : Put} → Counted f t k i c → i ≡ n → R ≡ finish s (k + n) → Announces f t k n R c
-counted-over f t k n i {c} s a z e = subst (λ (x : Put). Announces f t k n x c) (sym e) (go (leb (s .place .0) limit))
-  where
-    go : (b : Bool) → Announces f t k n (pick b (Done s (k + n)) Impossible) c
-    go true = let q : k + n - k ≡ i = omega arith in (rw q (a .0), omega (arith, a .1))
-    go false = tt
+    rw (add-one i, announced-one f (drop k t) i (getD t (k + i) 0) b (sym (getD-drop k t i 0)), e, a)
 
 -- SB fields announce none
 none-announced : (vs : List ℕ) → 0 ≡ announced Coordinate vs
 none-announced [] = refl
 none-announced (v ∷ vs) = let e : 0 ≡ announced Coordinate vs = none-announced vs in rw (← e) refl
 
-signed-announces : (t : List ℕ) (k n : ℕ) (R : Put) → Announces Coordinate t k n R 0
-signed-announces t k n (Done s j) = (none-announced (take (j - k) (drop k t)), omega arith)
-signed-announces t k n Impossible = tt
+pub signed-judges : (f : Field) (w : ℕ) (vs : List ℕ) (good : Bool) → signed f ≡ true → good ≡ allFields Coordinate w vs → Judges f w vs good 0
+signed-judges Verb w vs good h e = clash cc
+signed-judges Interpolation w vs good h e = clash cc
+signed-judges SpatialFlag w vs good h e = clash cc
+signed-judges Plain w vs good h e = clash cc
+signed-judges ByteValue w vs good h e = clash cc
+signed-judges Coordinate w vs good h e = record { judged = e; counted = go good }
+  where
+    go : (c : Bool) → 0 ≡ pick c (announced Coordinate vs) 0
+    go true = none-announced vs
+    go false = refl
 
-pub signed-run : (o : Order) (f : Field) (w : ℕ) (t : List ℕ) (st : State) (k n : ℕ) (u : List ℕ) (R : Put) → signed f ≡ true → seen u R ≡ ran o t st k (times n (fieldOf Coordinate w))
-    → (seen u R ≡ ran o t st k (times n (fieldOf f w))) × Announces f t k n R 0
-signed-run o Verb w t st k n u R h e = clash cc
-signed-run o Interpolation w t st k n u R h e = clash cc
-signed-run o SpatialFlag w t st k n u R h e = clash cc
-signed-run o Plain w t st k n u R h e = clash cc
-signed-run o ByteValue w t st k n u R h e = clash cc
-signed-run o Coordinate w t st k n u R h e = (e, signed-announces t k n R)
+-- ---- n fields are put: of the first i the bits are laid, and no place was judged
+pub record Putting (o : Order) (w : ℕ) (t out : List ℕ) (s : Sink) (k n : ℕ) (u : List ℕ) (cur : Sink) (i : ℕ) : Type 0 where
+  pub size : length u ≡ length out
+  pub within : i ≤ n
+  pub holds : Holds (cur .place .0) (cur .part)
+  pub low : cur .place .0 ≤ limit + 32 * i
+  pub rest : lay o (at out s) (digAll o w (take n (drop k t))) ≡ lay o (at u cur) (digAll o w (behind t k n i))
+
+pub putting-start : (o : Order) (w : ℕ) (t out : List ℕ) (s : Sink) (k n : ℕ) → Fine s → Putting o w t out s k n out s 0
+putting-start o w t out s k n fine = record {
+  size = refl;
+  within = omega arith;
+  holds = fine .0;
+  low = omega (arith, fine .1);
+  rest = ap (λ (vs : List ℕ). lay o (at out s) (digAll o w vs)) (behind-none t k n);
+}
+
+module _ {o : Order} {w : ℕ} {t out : List ℕ} {s : Sink} {k n : ℕ} {u : List ℕ} {cur : Sink} {i : ℕ} (g : Putting o w t out s k n u cur i) where
+  -- m is 2 ^ w
+  pub putting-next : {m : ℕ} {u′ : List ℕ} {s′ : Sink} → i < n → n ≤ length t - k → w ≤ 32 → m ≡ 2 ^ w → length u′ ≡ length u → at u′ s′ ≡ lay o (at u cur) (dig o w (getD t (k + i) 0 % m))
+      → Putting o w t out s k n u′ s′ (i + 1)
+  unfolding digAll
+  putting-next {m} {u′} {s′} more inside few is size d = record {
+    size = size ∙ g .size;
+    within = omega arith;
+    holds = subst (λ (z : State). Holds (z .place) (z .part)) (sym d) (lay-ok o (at u cur) bits (g .holds));
+    low =
+        let p : s′ .place .0 ≡ cur .place .0 + length bits = ap (λ (z : State). z .place) d ∙ lay-place o (at u cur) bits in
+        omega (arith, g .low, length-dig o w (getD t (k + i) 0 % m));
+    rest =
+        g .rest
+        ∙ ap (λ (vs : List ℕ). lay o (at u cur) (digAll o w vs)) (behind-more t k n i more inside)
+        ∙ ap (λ (x : ℕ). lay o (at u cur) (dig o w (getD t (k + i) 0 % x) ++ digAll o w (behind t k n (i + 1)))) (sym is)
+        ∙ lay-append o (at u cur) bits (digAll o w (behind t k n (i + 1)))
+        ∙ ap (λ (z : State). lay o z (digAll o w (behind t k n (i + 1)))) (sym d);
+  }
+    where
+      bits : List Bool
+      bits = dig o w (getD t (k + i) 0 % m)
+
+  pub putting-over : n ≤ i → at u cur ≡ lay o (at out s) (digAll o w (take n (drop k t)))
+  unfolding digAll
+  putting-over h = sym (g .rest ∙ ap (λ (vs : List ℕ). lay o (at u cur) (digAll o w vs)) (behind-all t k n i h) ∙ lay-none o (at u cur))
+
+pub put-none : (o : Order) (w : ℕ) (t out : List ℕ) (s : Sink) (k n : ℕ) → n ≡ 0 → at out s ≡ lay o (at out s) (digAll o w (take n (drop k t)))
+unfolding digAll
+put-none o w t out s k n e = rw (e, lay-none o)
+
+length-digAll : (o : Order) (w : ℕ) (vs : List ℕ) → length (digAll o w vs) ≡ length vs * w
+unfolding digAll
+length-digAll o w [] = omega arith
+length-digAll o w (v ∷ vs) = rw (length-append, length-dig o, length-digAll o w vs) (omega (arith, suc-mul (length vs) w))
+
+-- past the end of the output
+pub put-past : (o : Order) (w : ℕ) (t out : List ℕ) (s : Sink) (k n : ℕ) {q : ℕ} → length out ≤ s .place .0 / 8 → (n ≡ 0 → ⊥) → 1 ≤ w → n ≤ length t - k → q ≡ s .place .0 + n * w
+    → mk out q 0 ≡ lay o (at out s) (digAll o w (take n (drop k t)))
+put-past o w t out s k n r some low inside e =
+    let a : length (take n (drop k t)) ≡ n = length-take-le n (drop k t) (rw length-drop (omega arith)) in
+    let b : length (digAll o w (take n (drop k t))) ≡ n * w = length-digAll o w (take n (drop k t)) ∙ ap (λ (m : ℕ). m * w) a in
+    let z : 0 < n * w = mul-pos (omega (arith, some)) (omega arith) in
+    sym (lay-some-past o out (s .place .0) (s .part) (digAll o w (take n (drop k t))) r (omega arith) ∙ mk-eq refl (ap (λ (m : ℕ). s .place .0 + m) b ∙ sym e) refl)
+
+-- ---- a run of fields: it is written where all of its numbers are fields
+pub fields-few : (o : Order) (f : Field) (w : ℕ) (t : List ℕ) (st : State) (k n : ℕ) {m : ℕ} → m ≡ min n (length t - k) → m < n → cannot ≡ ran o t st k (times n (fieldOf f w))
+fields-few o f w t st k n e h = sym (times-few o (fieldOf f w) (fieldBits o f w) (field-is o f w) t st k n (omega arith))
+
+fields-run : (o : Order) (f : Field) (w : ℕ) (t : List ℕ) → w ≤ 32 → (n k : ℕ) (st : State) → n ≤ length t - k
+    → ran o t st k (times n (fieldOf f w)) ≡ pick (allFields f w (take n (drop k t))) (ends (lay o st (digAll o w (take n (drop k t)))) (k + n)) cannot
+unfolding allFields digAll
+fields-run o f w t few zero k st l = times-end o t st k (fieldOf f w) 0 refl ∙ rw (lay-none o, add-zero)
+fields-run o f w t few (suc n) k st l = go (isField f w (getD t k 0)) refl (fields-run o f w t few n (k + 1) (lay o st (dig o w (getD t k 0 % 2 ^ w))) (omega arith))
+  where
+    one : take (suc n) (drop k t) ≡ getD t k 0 ∷ take n (drop (k + 1) t)
+    one = rw (drop-cons t k 0 (omega arith), add-one k)
+
+    go : (c : Bool) → isField f w (getD t k 0) ≡ c
+        → ran o t (lay o st (dig o w (getD t k 0 % 2 ^ w))) (k + 1) (times n (fieldOf f w))
+        ≡ pick (allFields f w (take n (drop (k + 1) t))) (ends (lay o (lay o st (dig o w (getD t k 0 % 2 ^ w))) (digAll o w (take n (drop (k + 1) t)))) (k + 1 + n)) cannot
+        → ran o t st k (times (suc n) (fieldOf f w)) ≡ pick (allFields f w (take (suc n) (drop k t))) (ends (lay o st (digAll o w (take (suc n) (drop k t)))) (k + suc n)) cannot
+    go true e more =
+        let a : k + 1 + n ≡ k + suc n = omega arith in
+        let b : suc n - 1 ≡ n = omega arith in
+        times-one o (fieldOf f w) (fieldBits o f w) (field-is o f w) t st k (suc n) (dig o w (getD t k 0 % 2 ^ w)) (omega arith) (omega arith) (field-bits o f w (st .place) (getD t k 0) (λ z. few) e)
+        ∙ ap (λ (m : ℕ). ran o t (lay o st (dig o w (getD t k 0 % 2 ^ w))) (k + 1) (times m (fieldOf f w))) b
+        ∙ more
+        ∙ rw (one, e, a, lay-append o)
+    go false e more =
+        times-bad o (fieldOf f w) (fieldBits o f w) (field-is o f w) t st k (suc n) (omega arith) (omega arith) (field-bits o f w (st .place) (getD t k 0) (λ z. few) e) ∙ rw (one, e)
+
+module _ (o : Order) (f : Field) (w : ℕ) (t : List ℕ) (st : State) (k n : ℕ) {good : Bool} {c : ℕ} (few : w ≤ 32) (inside : n ≤ length t - k) (j : Judges f w (take n (drop k t)) good c) where
+  pub fields-no : not good ≡ true → cannot ≡ ran o t st k (times n (fieldOf f w))
+  fields-no h = sym (fields-run o f w t few n k st inside ∙ rw (sym (j .judged) ∙ not-true good h))
+
+  -- all were put, and s is where the last one ends
+  module _ (u : List ℕ) (s : Sink) {R : Put} (h : not good ≡ false) (done : R ≡ finish s (k + n)) where
+    pub fields-done : at u s ≡ lay o st (digAll o w (take n (drop k t))) → seen u R ≡ ran o t st k (times n (fieldOf f w))
+    fields-done d =
+        ap (seen u) done ∙ finish-ends u s (k + n) ∙ ap (λ (z : State). ends z (k + n)) d ∙ sym (fields-run o f w t few n k st inside ∙ rw (sym (j .judged) ∙ not-false good h))
+
+    pub fields-announce : Announces f t k n R c
+    fields-announce = subst (λ (x : Put). Announces f t k n x c) (sym done) (go (leb (s .place .0) limit))
+      where
+        told : c ≡ announced f (take n (drop k t))
+        told = j .counted ∙ rw (not-false good h)
+
+        go : (b : Bool) → Announces f t k n (pick b (Done s (k + n)) Impossible) c
+        go true = let q : k + n - k ≡ n = omega arith in (rw q told, counted-few f t k n c told)
+        go false = tt
 
 -- what a run that was written announces
 pub announces-done : (f : Field) (t : List ℕ) (k n m : ℕ) {R : Put} {s : Sink} {j : ℕ} → Announces f t k n R m → R ≡ Done s j → (m ≡ announced f (take (j - k) (drop k t))) × (m ≤ 6 * n)

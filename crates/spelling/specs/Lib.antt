@@ -1,3 +1,4 @@
 pub mod Writing
 pub mod Spellings
 pub mod Ends
+pub mod Fields

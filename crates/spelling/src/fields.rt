@@ -2,15 +2,18 @@
 ghost use mathlib.Core.Path.{_≡_};
 ghost use mathlib.Core.Bool.{false};
 ghost use Prim.Native.Nat.{_-_, _≤_, _<_, _^_};
+ghost use lib.ListN.{length, take, drop};
 ghost use Rattle.format.specs.Formats.{item, Item, times, the, _▹_};
 ghost use Rattle.bits.specs.Places.{orderOf};
 ghost use Rattle.table.specs.Fields.{fieldOf, signed};
 ghost use Rattle.table.specs.declared.fields.Field.the-variants.{Coordinate};
-ghost use Rattle.sink.specs.Laying.{at as under};
+ghost use Rattle.sink.specs.Laying.{at as under, lay};
 ghost use Rattle.spelling.specs.Writing.{seen, ran, Fine};
 ghost use Rattle.spelling.specs.Spellings.{Announces, WritesLessOne};
+ghost use Rattle.spelling.specs.Fields.{allFields, Judges, digAll};
 use crate::Put;
 use crate::ended;
+use bits::BitPlace;
 use bits::Order;
 use sink::Sink;
 use table::fields::Field;
@@ -21,61 +24,42 @@ pub struct Announced {
     pub count: usize,
 }
 
-// n SB fields of w bits. The sum wraps a negative number back: v is one from -half up to half. Places only grow, so the last one alone is judged.
-fn write_signed(
-    order: Order,
-    width: usize,
+// Whether numbers are fields, and how many signed fields they announce: none where one of them is no field.
+struct Judged {
+    good: bool,
     count: usize,
-    out: &mut [u8],
-    sink: Sink,
-    values: &[u64],
-    from: usize,
-) -> Put
-    requires { ⌜ Fine sink × (1 ≤ width) × (width ≤ 32) × (count < 2 ^ 32) ⌝ }
-    ensures { λ r. ⌜ seen (now (out .exit)) r ≡ ran (orderOf order) (now (values .entry)) (under (now (out .entry)) sink) from (times count (fieldOf Coordinate width)) ⌝ }
+}
+
+// Are n numbers SB fields of w bits? The sum wraps a negative number back: v is one from -half up to half.
+fn all_signed(width: usize, count: usize, values: &[u64], from: usize) -> bool
+    requires { ⌜ (1 ≤ width) × (width ≤ 32) × (count ≤ length (now values) - from) ⌝ }
+    ensures { λ r. ⌜ r ≡ allFields Coordinate width (take count (drop from (now (values .entry)))) ⌝ }
 {
-    if table::room_for(values.len(), from, count) < count {
-        return Put::Impossible;
-    }
     let size = sink::power(width);
     let half = size / 2;
-    let mut cur = sink;
     let mut i = 0;
     while i < count {
         let value = values[from + i];
         if size <= std::num::wrapping_add_u64(value, half) {
-            return Put::Impossible;
+            return false;
         }
-        cur = sink::put_bits(order, out, cur, value % size, width);
         i += 1;
     }
-    ended(cur, from + count)
+    true
 }
 
-// n UB fields of w bits, and how many signed fields they announce.
-fn write_unsigned(
-    order: Order,
-    kind: Field,
-    width: usize,
-    count: usize,
-    out: &mut [u8],
-    sink: Sink,
-    values: &[u64],
-    from: usize,
-) -> Announced
-    requires { ⌜ Fine sink × (1 ≤ width) × (width ≤ 32) × (count < 2 ^ 32) × (signed kind ≡ false) ⌝ }
-    ensures states { λ r. ⌜ seen (now (out .exit)) (r .put) ≡ ran (orderOf order) (now (values .entry)) (under (now (out .entry)) sink) from (times count (fieldOf kind width)) ⌝ }
-    ensures counts { λ r. ⌜ Announces kind (now (values .entry)) from count (r .put) (r .count) ⌝ }
+// Are n numbers UB fields of w bits and a kind, and how many signed fields do they announce?
+fn judge_unsigned(kind: Field, width: usize, count: usize, values: &[u64], from: usize) -> Judged
+    requires { ⌜ (width ≤ 32) × (count < 2 ^ 32) × (count ≤ length (now values) - from) × (signed kind ≡ false) ⌝ }
+    ensures { λ r. ⌜ Judges kind width (take count (drop from (now (values .entry)))) (r .good) (r .count) ⌝ }
 {
-    let put = Put::Impossible;
     let mut sum = 0;
-    let none = Announced { put, count: sum };
-    if table::room_for(values.len(), from, count) < count {
-        return none;
-    }
+    let none = Judged {
+        good: false,
+        count: sum,
+    };
     let size = sink::power(width);
     let weights = table::fields::weights_of(kind);
-    let mut cur = sink;
     let mut i = 0;
     while i < count {
         let value = values[from + i];
@@ -85,15 +69,61 @@ fn write_unsigned(
         if !table::fields::allowed(kind, value) {
             return none;
         }
-        cur = sink::put_bits(order, out, cur, value, width);
         sum += table::fields::weight(&weights, value);
         i += 1;
     }
-    let put = ended(cur, from + count);
-    Announced { put, count: sum }
+    Judged {
+        good: true,
+        count: sum,
+    }
 }
 
-// n fields of w bits.
+// The same of fields of any kind: SB fields announce none.
+fn judge(kind: Field, width: usize, count: usize, values: &[u64], from: usize) -> Judged
+    requires { ⌜ (1 ≤ width) × (width ≤ 32) × (count < 2 ^ 32) × (count ≤ length (now values) - from) ⌝ }
+    ensures { λ r. ⌜ Judges kind width (take count (drop from (now (values .entry)))) (r .good) (r .count) ⌝ }
+{
+    if table::fields::is_signed(kind) {
+        let good = all_signed(width, count, values, from);
+        return Judged { good, count: 0 };
+    }
+    judge_unsigned(kind, width, count, values, from)
+}
+
+// The lowest w bits of n numbers. Places only grow, so the last one alone is judged, by the caller.
+fn put_fields(
+    order: Order,
+    width: usize,
+    count: usize,
+    out: &mut [u8],
+    sink: Sink,
+    values: &[u64],
+    from: usize,
+) -> Sink
+    requires { ⌜ Fine sink × (1 ≤ width) × (width ≤ 32) × (count < 2 ^ 32) × (count ≤ length (now values) - from) ⌝ }
+    ensures { λ r. ⌜ under (now (out .exit)) r ≡ lay (orderOf order) (under (now (out .entry)) sink) (digAll (orderOf order) width (take count (drop from (now (values .entry))))) ⌝ }
+{
+    // Without a field what waits goes on waiting, past the end too.
+    if count == 0 {
+        return sink;
+    }
+    let at = sink.place.0;
+    // Behind a field that is past the end nothing waits: so the run that measures puts nothing together.
+    if out.len() <= at / 8 {
+        let place = BitPlace(at + count * width);
+        return Sink { place, part: 0 };
+    }
+    let size = sink::power(width);
+    let mut cur = sink;
+    let mut i = 0;
+    while i < count {
+        cur = sink::put_bits(order, out, cur, values[from + i] % size, width);
+        i += 1;
+    }
+    cur
+}
+
+// n fields of w bits: all are judged, and then put.
 pub fn write_fields(
     order: Order,
     kind: Field,
@@ -108,11 +138,21 @@ pub fn write_fields(
     ensures states { λ r. ⌜ seen (now (out .exit)) (r .put) ≡ ran (orderOf order) (now (values .entry)) (under (now (out .entry)) sink) from (times count (fieldOf kind width)) ⌝ }
     ensures counts { λ r. ⌜ Announces kind (now (values .entry)) from count (r .put) (r .count) ⌝ }
 {
-    if table::fields::is_signed(kind) {
-        let put = write_signed(order, width, count, out, sink, values, from);
-        return Announced { put, count: 0 };
+    let put = Put::Impossible;
+    let none = Announced { put, count: 0 };
+    if table::room_for(values.len(), from, count) < count {
+        return none;
     }
-    write_unsigned(order, kind, width, count, out, sink, values, from)
+    let judged = judge(kind, width, count, values, from);
+    if !judged.good {
+        return none;
+    }
+    let last = put_fields(order, width, count, out, sink, values, from);
+    let put = ended(last, from + count);
+    Announced {
+        put,
+        count: judged.count,
+    }
 }
 
 // A number from 1 to 2^n: one less than it, in n bits.
@@ -177,9 +217,9 @@ pub fn write_scaled(
     requires { ⌜ Fine sink × (count < 2 ^ 32) ⌝ }
     ensures { λ r. ⌜ seen (now (out .exit)) r ≡ ran (orderOf order) (now (values .entry)) (under (now (out .entry)) sink) from (item Item.width ▹ λ w. times count (fieldOf kind (the w))) ⌝ }
 {
-    let r = write_width(order, out, sink, values, from);
-    let Put::Done(next, behind) = r else {
-        return r;
+    let put = write_width(order, out, sink, values, from);
+    let Put::Done(next, behind) = put else {
+        return Put::Impossible;
     };
     let fields = write_fields(
         order,

@@ -1,7 +1,7 @@
-// Floats in turn.
+// Items of one kind in turn.
 ghost use mathlib.Core.Path.{_≡_};
 ghost use Rattle.format.specs.Formats.{times};
-ghost use Rattle.format.specs.Items.{float};
+ghost use Rattle.items.specs.Kinds.{formatOf};
 ghost use Rattle.bits.specs.Places.{orderOf};
 ghost use Rattle.sink.specs.Laying.{at as under};
 ghost use Rattle.spelling.specs.Writing.{seen, ran, Fine};
@@ -12,9 +12,10 @@ use bits::Order;
 use items::Item;
 use sink::Sink;
 
-// n Floats: once on a whole byte, they stay on whole bytes.
-pub fn write_floats(
+// n items: once on a whole byte, they stay on whole bytes.
+pub fn write_items(
     order: Order,
+    kind: Item,
     count: usize,
     out: &mut [u8],
     sink: Sink,
@@ -22,7 +23,7 @@ pub fn write_floats(
     from: usize,
 ) -> Put
     requires { ⌜ Fine sink ⌝ }
-    ensures { λ r. ⌜ seen (now (out .exit)) r ≡ ran (orderOf order) (now (values .entry)) (under (now (out .entry)) sink) from (times count float) ⌝ }
+    ensures { λ r. ⌜ seen (now (out .exit)) r ≡ ran (orderOf order) (now (values .entry)) (under (now (out .entry)) sink) from (times count (formatOf kind)) ⌝ }
 {
     if count == 0 {
         return Put::Done(sink, from);
@@ -32,7 +33,7 @@ pub fn write_floats(
     let mut index = from;
     let mut left = count;
     while 0 < left {
-        let next = spell_next(Item::Float, out, byte, values, index);
+        let next = spell_next(kind, out, byte, values, index);
         if next == 0 {
             return Put::Impossible;
         }

@@ -16,6 +16,7 @@ pub mod in_turn;
 mod numbers;
 pub mod text;
 
+use bits::BitPlace;
 use bits::BytePlace;
 use bits::Order;
 use items::Item;
@@ -32,6 +33,22 @@ pub enum Spelt {
 pub enum Put {
     Done(Sink, usize),
     Impossible,
+}
+
+// The same answer, taken apart and made again: see `table::again`.
+pub fn again(put: Put) -> Put
+    ensures { λ r. ⌜ r ≡ put ⌝ }
+{
+    match put {
+        Put::Done(next, behind) => Put::Done(
+            Sink {
+                place: BitPlace(next.place.0),
+                part: next.part,
+            },
+            behind,
+        ),
+        Put::Impossible => Put::Impossible,
+    }
 }
 
 // No file is longer than 2^27 bits.

@@ -62,8 +62,8 @@ pub fn write_string(order: Order, out: &mut [u8], sink: Sink, values: &[u64], fr
     }
     let behind = first + count;
     let start = sink::align(order, out, sink);
-    let r = spell_text(out, start, &values[first..behind]);
-    match r {
+    let spelt = spell_text(out, start, &values[first..behind]);
+    match spelt {
         Spelt::In(next) => ended(next, behind),
         Spelt::No => Put::Impossible,
     }

@@ -1,5 +1,5 @@
 -- Bit fields of each kind: what one reads as, and what a run of them leaves and announces.
-use Prim.Native.Nat.{ℕ, zero, suc, _+_, _-_, _*_, _^_, _≤_, _<_, min}
+use Prim.Native.Nat.{ℕ, zero, suc, _+_, _-_, _*_, _/_, _^_, _≤_, _<_, min}
 use mathlib.Core.List.{List, [], _∷_}
 use mathlib.Core.Path.{_≡_, refl, ap, sym, subst, _∙_}
 use mathlib.Core.Bool.{Bool, true, false}
@@ -7,23 +7,26 @@ use lib.ListN.{length, length-set, set, getD}
 use lib.Seq.{sets}
 use native.Mathlib.Nat.{add-zero, add-mul, one-mul, suc-mul, mul-le-mul, mul-le-mul-right}
 use lib.Dec.{eqb}
-use borrow.Author.Tests.{ne-eqb}
+use borrow.Author.Tests.{ne-eqb, le-leb, leb-true}
 use native.Mathlib.Omega.{arith}
+use lib.Pow.{pow-mono}
 use Rattle.format.specs.Tests.{pick}
 use Rattle.format.specs.Bits.{Order, ub}
 use Rattle.format.specs.Reading.{At, Fault, Reading, shows, stop}
 use Rattle.format.specs.Formats.{Item, item, only, times, the}
 use Rattle.format.specs.Items.{Num, num, bad, mapNum, showNum, readUB, readWidth, readItem, signExtend, judge, run, coordinatesOf, coordinates}
 use Rattle.format.specs.Bodies.{howMany}
+use Rattle.format.proofs.Absurd.{clash}
+use Rattle.format.proofs.BitLaws.{ub-lt}
 use Rattle.format.proofs.SizeLaws.{Fair, FairReading, fair-item, fair-only}
 use Rattle.format.proofs.WalkLaws.{run-le}
-use Rattle.bits.proofs.FieldLaws.{IsField, map-got, ub-in, ub-past}
-use Rattle.bits.specs.Places.{numOf}
+use Rattle.bits.proofs.FieldLaws.{IsField, map-got, ub-in, ub-past, extended, unsigned}
+use Rattle.bits.specs.Places.{numOf, withSign}
 use Rattle.bits.specs.declared.BitPlace.{BitPlace}
 use Rattle.bits.specs.declared.Got.{Got}
 use Rattle.bits.specs.declared.Got.the-variants.{Value, Fault as GotFault}
 use Rattle.table.specs.State.{State, shownOver}
-use Rattle.table.specs.Fields.{Fits, allows, judgeNum, fieldOf, signed, announces, announced, weights}
+use Rattle.table.specs.Fields.{Fits, allows, judgeNum, fieldOf, signed, showsAll, announces, announced, weights}
 use Rattle.table.specs.declared.fields.Field.{Field}
 use Rattle.table.specs.declared.fields.Field.the-variants.{Verb, Interpolation, SpatialFlag, Plain, ByteValue, Coordinate}
 use Rattle.table.proofs.StoringLaws.{Storing, storing-start, storing-next, storing-done}
@@ -241,12 +244,39 @@ module _ (o : Order) (kind : Field) (w : ℕ) (s t₀ : List ℕ) (k n p₀ : �
     (sym (g .counts ∙ rw e (add-zero count)), omega (arith, g .few)),
   )
 
--- ---- a run of signed fields that all stand in the bytes
+-- ---- a run of fields that all stand in the bytes, and show whatever their bits are
 
--- the numbers of n fields from p on
-abbrev steps : Order → ℕ → List ℕ → ℕ → ℕ → List ℕ
-steps o w s zero p = []
-steps o w s (suc n) p = signExtend w (ub o s p w) ∷ steps o w s n (p + w)
+-- what the bits of a field show
+abbrev shownBy : Field → ℕ → ℕ → ℕ
+shownBy kind w x = pick (signed kind) (signExtend w x) x
+
+-- the code's size z is 2 ^ w, and it has h for how many of the numbers below it are negative
+pub shown-by : (kind : Field) (w : ℕ) {z h : ℕ} → z ≡ 2 ^ w → 1 ≤ w → h ≡ pick (signed kind) (z / 2) 0 → (x : ℕ) → x < 2 ^ w → withSign z h x ≡ shownBy kind w x
+shown-by kind w {z} {h} e o n x l = go (signed kind) refl
+  where
+    go : (t : Bool) → signed kind ≡ t → withSign z h x ≡ shownBy kind w x
+    go true t = let f : h ≡ z / 2 = rw t at n in rw t (extended w x e o l (ap (λ (y : ℕ). withSign z y x) f))
+    go false t = let f : h ≡ 0 = rw t at n in rw t (unsigned x z (omega (arith, e)) (ap (λ (y : ℕ). withSign z y x) f))
+
+pub negatives-le : (kind : Field) {z h : ℕ} → h ≡ pick (signed kind) (z / 2) 0 → h ≤ z
+negatives-le kind {z} {h} e = go (signed kind) refl
+  where
+    go : (t : Bool) → signed kind ≡ t → h ≤ z
+    go true t = let f : h ≡ z / 2 = rw t at e in omega arith
+    go false t = let f : h ≡ 0 = rw t at e in omega arith
+
+-- what f makes of n fields from p on
+abbrev steps : Order → (ℕ → ℕ) → ℕ → List ℕ → ℕ → ℕ → List ℕ
+steps o f w s zero p = []
+steps o f w s (suc n) p = f (ub o s p w) ∷ steps o f w s n (p + w)
+
+all-allowed : (kind : Field) (w x : ℕ) → showsAll kind w ≡ true → x < 2 ^ w → allows kind (shownBy kind w x) ≡ true
+all-allowed Verb w x h l = refl
+all-allowed Interpolation w x h l = clash cc
+all-allowed SpatialFlag w x h l = refl
+all-allowed Plain w x h l = refl
+all-allowed ByteValue w x h l = le-leb x 255 (omega (arith, l, pow-mono (leb-true w 8 h)))
+all-allowed Coordinate w x h l = refl
 
 -- n fields of w bits are few bits
 pub run-small : (n w : ℕ) → n < 2 ^ 32 → w ≤ 32 → n * w ≤ 2 ^ 37
@@ -256,61 +286,56 @@ run-small n w h l = let m : n * w ≤ 2 ^ 32 * 32 = mul-le-mul {n₂ = 2 ^ 32} (
 step-in : (i n w : ℕ) → i < n → i * w + w ≤ n * w
 step-in i n w h = subst (λ (m : ℕ). m ≤ n * w) (suc-mul i w) (mul-le-mul-right w h)
 
-steps-run : (o : Order) (w : ℕ) (s : List ℕ) (n p : ℕ) → p + n * w ≤ 8 * length s → run o s (times n (fieldOf Coordinate w)) p ≡ shows (steps o w s n p) (p + n * w)
+steps-run : (o : Order) (kind : Field) (f : ℕ → ℕ) (w : ℕ) (s : List ℕ) (n p : ℕ) → showsAll kind w ≡ true → ((x : ℕ) → x < 2 ^ w → f x ≡ shownBy kind w x) → p + n * w ≤ 8 * length s
+    → run o s (times n (fieldOf kind w)) p ≡ shows (steps o f w s n p) (p + n * w)
 unfolding run times
-steps-run o w s zero p h = let e : p + 0 * w ≡ p = omega arith in rw e
-steps-run o w s (suc n) p h =
+steps-run o kind f w s zero p a b h = let e : p + 0 * w ≡ p = omega arith in rw e
+steps-run o kind f w s (suc n) p a b h =
     let m : suc n * w ≡ n * w + w = suc-mul n w in
     let e : p + w + n * w ≡ p + suc n * w = omega (arith, m) in
-    let one : shows (signExtend w (ub o s p w) ∷ []) (p + w) ≡ run o s (fieldOf Coordinate w) p = field-in o Coordinate s p w (omega (arith, h, m)) refl refl refl in
-    rw (← one, steps-run o w s n (p + w) (omega (arith, h, m)), e)
+    let x : ℕ = ub o s p w in
+    let l : x < 2 ^ w = ub-lt o s p w in
+    let one : shows (f x ∷ []) (p + w) ≡ run o s (fieldOf kind w) p = field-in o kind s p w (omega (arith, h, m)) refl (b x l) (rw (b x l) (all-allowed kind w x a l)) in
+    rw (← one, steps-run o kind f w s n (p + w) a b (omega (arith, h, m)), e)
 
-steps-length : (o : Order) (w : ℕ) (s : List ℕ) (n p : ℕ) → length (steps o w s n p) ≡ n
-steps-length o w s zero p = refl
-steps-length o w s (suc n) p = ap suc (steps-length o w s n (p + w))
+steps-length : (o : Order) (f : ℕ → ℕ) (w : ℕ) (s : List ℕ) (n p : ℕ) → length (steps o f w s n p) ≡ n
+steps-length o f w s zero p = refl
+steps-length o f w s (suc n) p = ap suc (steps-length o f w s n (p + w))
 
-step-at : (o : Order) (w : ℕ) (s : List ℕ) (n p i : ℕ) → i < n → getD (steps o w s n p) i 0 ≡ signExtend w (ub o s (p + i * w) w)
-step-at o w s zero p i h = absurd (omega arith)
-step-at o w s (suc n) p zero h = let e : p + 0 * w ≡ p = omega arith in rw e
-step-at o w s (suc n) p (suc i) h = let e : p + suc i * w ≡ p + w + i * w = omega (arith, suc-mul i w) in rw e (step-at o w s n (p + w) i (omega arith))
+step-at : (o : Order) (f : ℕ → ℕ) (w : ℕ) (s : List ℕ) (n p i : ℕ) → i < n → getD (steps o f w s n p) i 0 ≡ f (ub o s (p + i * w) w)
+step-at o f w s zero p i h = absurd (omega arith)
+step-at o f w s (suc n) p zero h = let e : p + 0 * w ≡ p = omega arith in rw e
+step-at o f w s (suc n) p (suc i) h = let e : p + suc i * w ≡ p + w + i * w = omega (arith, suc-mul i w) in rw e (step-at o f w s n (p + w) i (omega arith))
 
-module _ (o : Order) (w : ℕ) (s t₀ : List ℕ) (k n p₀ : ℕ) where
+module _ (o : Order) (f : ℕ → ℕ) (w : ℕ) (s t₀ : List ℕ) (k n p₀ : ℕ) where
   -- the first i numbers are stored, and the next field is at q
   pub record Laying (t : List ℕ) (q i : ℕ) : Type 0 where
-    pub stored : Storing t₀ (steps o w s n p₀) k t i
+    pub stored : Storing t₀ (steps o f w s n p₀) k t i
     pub place : q ≡ p₀ + i * w
 
   pub laying-start : Laying t₀ p₀ 0
-  laying-start = record { stored = storing-start t₀ (steps o w s n p₀) k; place = omega arith }
+  laying-start = record { stored = storing-start t₀ (steps o f w s n p₀) k; place = omega arith }
 
   module _ {t : List ℕ} {q i : ℕ} (g : Laying t q i) where
     pub laying-upto : i ≤ n
-    laying-upto = omega (arith, g .stored .upto, steps-length o w s n p₀)
+    laying-upto = omega (arith, g .stored .upto, steps-length o f w s n p₀)
 
     pub laying-in : i < n → p₀ + n * w ≤ 8 * length s → q + w ≤ 8 * length s
     laying-in h l = omega (arith, g .place, step-in i n w h, l)
 
-    pub laying-next : {x v : ℕ} → i < n → x ≡ ub o s q w → v ≡ signExtend w x → Laying (set t (k + i) v) (q + w) (i + 1)
-    laying-next {x} {v} h e f =
-        let d : (i + 1) * w ≡ i * w + w = add-mul i 1 w ∙ ap (λ (y : ℕ). i * w + y) (one-mul w) in
-        let z : v ≡ getD (steps o w s n p₀) i 0 = f ∙ ap (signExtend w) (e ∙ ap (λ (y : ℕ). ub o s y w) (g .place)) ∙ sym (step-at o w s n p₀ i h) in
+    pub laying-next : {x v : ℕ} → i < n → x ≡ ub o s q w → v ≡ f x → Laying (set t (k + i) v) (q + w) (i + 1)
+    laying-next {x} {v} h e d =
+        let m : (i + 1) * w ≡ i * w + w = add-mul i 1 w ∙ ap (λ (y : ℕ). i * w + y) (one-mul w) in
+        let z : v ≡ getD (steps o f w s n p₀) i 0 = d ∙ ap f (e ∙ ap (λ (y : ℕ). ub o s y w) (g .place)) ∙ sym (step-at o f w s n p₀ i h) in
         record {
-          stored = storing-next t₀ (steps o w s n p₀) k (g .stored) (omega (arith, h, steps-length o w s n p₀)) z;
-          place = omega (arith, g .place, d);
+          stored = storing-next t₀ (steps o f w s n p₀) k (g .stored) (omega (arith, h, steps-length o f w s n p₀)) z;
+          place = omega (arith, g .place, m);
         }
 
     -- all are stored, or there is no more room
-    pub laying-done : {m e : ℕ} → m ≡ min n (length t - k) → m ≤ i → e ≡ p₀ + n * w → e ≤ 8 * length s → state t (k + n) (At e) ≡ shownOver t₀ k (run o s (times n (fieldOf Coordinate w)) p₀)
+    pub laying-done : {m e : ℕ} (kind : Field) → showsAll kind w ≡ true → ((x : ℕ) → x < 2 ^ w → f x ≡ shownBy kind w x) → m ≡ min n (length t - k) → m ≤ i → e ≡ p₀ + n * w → e ≤ 8 * length s
+        → state t (k + n) (At e) ≡ shownOver t₀ k (run o s (times n (fieldOf kind w)) p₀)
     unfolding shownOver
-    laying-done {m} {e} h l f inside =
-        let full : t ≡ sets t₀ k (steps o w s n p₀) = storing-done t₀ (steps o w s n p₀) k (g .stored) (h ∙ ap (λ (y : ℕ). min y (length t - k)) (sym (steps-length o w s n p₀))) l in
-        rw (steps-run o w s n p₀ (omega (arith, f, inside))) (state-eq full (ap (λ (c : ℕ). k + c) (sym (steps-length o w s n p₀))) (ap At f))
-
--- the one signed kind
-pub signed-run : (o : Order) (kind : Field) (w n : ℕ) (s t : List ℕ) (k p : ℕ) {x : State} → signed kind ≡ true → x ≡ shownOver t k (run o s (times n (fieldOf Coordinate w)) p) → x ≡ shownOver t k (run o s (times n (fieldOf kind w)) p)
-signed-run o Verb w n s t k p h e = cc
-signed-run o Interpolation w n s t k p h e = cc
-signed-run o SpatialFlag w n s t k p h e = cc
-signed-run o Plain w n s t k p h e = cc
-signed-run o ByteValue w n s t k p h e = cc
-signed-run o Coordinate w n s t k p h e = e
+    laying-done {m} {e} kind a b h l d inside =
+        let full : t ≡ sets t₀ k (steps o f w s n p₀) = storing-done t₀ (steps o f w s n p₀) k (g .stored) (h ∙ ap (λ (y : ℕ). min y (length t - k)) (sym (steps-length o f w s n p₀))) l in
+        rw (steps-run o kind f w s n p₀ a b (omega (arith, d, inside))) (state-eq full (ap (λ (c : ℕ). k + c) (sym (steps-length o f w s n p₀))) (ap At d))

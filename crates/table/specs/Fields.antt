@@ -41,6 +41,15 @@ signed Plain = false
 signed ByteValue = false
 signed Coordinate = true
 
+-- a field of this kind and width shows whatever its bits are: a byte value does in eight bits or fewer
+abbrev pub showsAll : Field → ℕ → Bool
+showsAll Verb w = true
+showsAll Interpolation w = false
+showsAll SpatialFlag w = true
+showsAll Plain w = true
+showsAll ByteValue w = leb w 8
+showsAll Coordinate w = true
+
 -- how many signed fields a field of this kind and value announces: a verb its coordinates, a Bezier frame four, a set spatial flag two
 abbrev pub announces : Field → ℕ → ℕ
 announces Verb v = coordinatesOf v

@@ -1,16 +1,17 @@
 // Runs of bit fields: verbs, coordinates, interpolations, keyframed Bools, bytes and Points, easing, spatial flags.
+ghost use mathlib.Core.Bool.{true};
 ghost use mathlib.Core.Path.{_≡_};
-ghost use Prim.Native.Nat.{_*_, _≤_, _<_, _^_};
+ghost use Prim.Native.Nat.{_*_, _/_, _≤_, _<_, _^_};
 ghost use lib.ListN.{getD};
 ghost use Rattle.format.specs.Formats.{item, Item as ItemOf, times, the, _▹_};
 ghost use Rattle.format.specs.Tests.{pick};
 ghost use Rattle.format.specs.Items.{coordinatesOf, run, signExtend};
 ghost use Rattle.table.specs.State.{shownOver};
 ghost use Rattle.table.specs.Run.{runLeaves};
-ghost use Rattle.table.specs.Fields.{Fits, allows, signed, fieldOf, announces, announced, weights};
-ghost use Rattle.table.specs.declared.fields.Field.the-variants.{Coordinate};
+ghost use Rattle.table.specs.Fields.{Fits, allows, signed, fieldOf, announces, announced, weights, showsAll};
 ghost use Rattle.bits.specs.Places.{orderOf};
 use crate::Run;
+use crate::again;
 use crate::put;
 use crate::room_for;
 use bits::BitPlace;
@@ -86,6 +87,13 @@ pub fn is_signed(kind: Field) -> bool
     }
 }
 
+// How many of the numbers below `size` are negative ones in a field of this kind: half of them if it is signed, else none.
+fn negatives_of(kind: Field, size: u64) -> u64
+    ensures { λ r. ⌜ r ≡ pick (signed kind) (size / 2) 0 ⌝ }
+{
+    if is_signed(kind) { size / 2 } else { 0 }
+}
+
 // What the bits of a field show.
 fn shown(kind: Field, width: u64, raw: u64) -> u64
     requires { ⌜ (1 ≤ width) × (width ≤ 32) × (raw < 2 ^ width) ⌝ }
@@ -142,9 +150,24 @@ pub fn read_fields(
     Announced { run, count: sum }
 }
 
-// n SB fields of w bits. They show whatever their bits are, so only those are read that there is room for.
-fn read_signed(
+// Do fields of this kind and width show whatever their bits are?
+fn shows_all(kind: Field, width: u64) -> bool
+    ensures { λ r. ⌜ r ≡ showsAll kind width ⌝ }
+{
+    match kind {
+        Field::Interpolation => false,
+        Field::ByteValue => width <= 8,
+        Field::Verb => true,
+        Field::SpatialFlag => true,
+        Field::Plain => true,
+        Field::Coordinate => true,
+    }
+}
+
+// n fields of w bits that show whatever their bits are: so only those are read that there is room for. Whether they are signed is asked once.
+fn read_all(
     order: Order,
+    kind: Field,
     width: u64,
     count: usize,
     body: &[u8],
@@ -152,31 +175,24 @@ fn read_signed(
     table: &mut [u64],
     from: usize,
 ) -> Run
-    requires { ⌜ Fits (now body) (at .0) from × (1 ≤ width) × (width ≤ 32) × (count < 2 ^ 32) ⌝ }
-    ensures { λ r. ⌜ runLeaves (now (table .exit)) r ≡ shownOver (now (table .entry)) from (run (orderOf order) (now (body .entry)) (times count (fieldOf Coordinate width)) (at .0)) ⌝ }
+    requires { ⌜ Fits (now body) (at .0) from × (1 ≤ width) × (width ≤ 32) × (count < 2 ^ 32) × (showsAll kind width ≡ true) ⌝ }
+    ensures { λ r. ⌜ runLeaves (now (table .exit)) r ≡ shownOver (now (table .entry)) from (run (orderOf order) (now (body .entry)) (times count (fieldOf kind width)) (at .0)) ⌝ }
 {
     let step = width as usize;
     let end = at.0 + count * step;
     if body.len() * 8 < end {
-        let fields = read_fields(
-            order,
-            Field::Coordinate,
-            width,
-            count,
-            body,
-            at,
-            table,
-            from,
-        );
+        let fields = read_fields(order, kind, width, count, body, at, table, from);
         return fields.run;
     }
+    let size = 1u64 << width;
+    let negatives = negatives_of(kind, size);
     let room = room_for(table.len(), from, count);
     let mut place = at.0;
     let mut i = 0;
     while i < room {
         let index = from + i;
         let raw = bits::fields::field(order, body, BitPlace(place), width);
-        table[index] = bits::fields::extend(raw, width);
+        table[index] = bits::fields::with_sign(raw, size, negatives);
         place += step;
         i += 1;
     }
@@ -197,8 +213,8 @@ fn read_run(
     requires { ⌜ Fits (now body) (at .0) from × (1 ≤ width) × (width ≤ 32) × (count < 2 ^ 32) ⌝ }
     ensures { λ r. ⌜ runLeaves (now (table .exit)) r ≡ shownOver (now (table .entry)) from (run (orderOf order) (now (body .entry)) (times count (fieldOf kind width)) (at .0)) ⌝ }
 {
-    if is_signed(kind) {
-        return read_signed(order, width, count, body, at, table, from);
+    if shows_all(kind, width) {
+        return read_all(order, kind, width, count, body, at, table, from);
     }
     let fields = read_fields(order, kind, width, count, body, at, table, from);
     fields.run
@@ -217,11 +233,11 @@ pub fn read_scaled(
     requires { ⌜ Fits (now body) (at .0) from × (count < 2 ^ 32) ⌝ }
     ensures { λ r. ⌜ runLeaves (now (table .exit)) r ≡ shownOver (now (table .entry)) from (run (orderOf order) (now (body .entry)) (item ItemOf.width ▹ λ width. times count (fieldOf kind (the width))) (at .0)) ⌝ }
 {
-    let r = bits::fields::read_width(order, body, at);
-    match r {
+    let got = bits::fields::read_width(order, body, at);
+    match got {
         Got::Value(width, next) => {
             put(table, from, width);
-            read_run(order, kind, width, count, body, next, table, from + 1)
+            again(read_run(order, kind, width, count, body, next, table, from + 1))
         }
         Got::Fault(why) => Run::Stop(why, from),
     }

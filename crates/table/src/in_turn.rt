@@ -32,9 +32,9 @@ pub fn read_items(
     let mut index = from;
     let mut left = count;
     while 0 < left {
-        let r = read_one(order, kind, body, place, table, index);
-        let Run::Done(next, behind) = r else {
-            return r;
+        let run = read_one(order, kind, body, place, table, index);
+        let Run::Done(next, behind) = run else {
+            return run;
         };
         place = next;
         index = behind;

@@ -24,6 +24,16 @@ pub enum Run {
     Stop(u32, usize),
 }
 
+// The same answer, taken apart and made again: handed on whole it is copied through memory in other pieces than it was stored in, and the processor waits for that.
+pub fn again(run: Run) -> Run
+    ensures { λ r. ⌜ r ≡ run ⌝ }
+{
+    match run {
+        Run::Done(next, behind) => Run::Done(BitPlace(next.0), behind),
+        Run::Stop(why, behind) => Run::Stop(why, behind),
+    }
+}
+
 // Stores a number where there is room for it.
 pub fn put(table: &mut [u64], index: usize, value: u64)
     ensures { λ r. ⌜ now (table .exit) ≡ set (now (table .entry)) index value ⌝ }
@@ -58,8 +68,8 @@ pub fn read_one(
     requires { ⌜ Fits (now body) (at .0) from ⌝ }
     ensures { λ r. ⌜ runLeaves (now (table .exit)) r ≡ shownOver (now (table .entry)) from (run (orderOf order) (now (body .entry)) (formatOf kind) (at .0)) ⌝ }
 {
-    let r = items::read_item(order, kind, body, at);
-    match r {
+    let got = items::read_item(order, kind, body, at);
+    match got {
         Got::Value(value, next) => {
             put(table, from, value);
             Run::Done(next, from + 1)

@@ -26,14 +26,14 @@ fn text(body: &[u8], byte: BytePlace, bit: BitPlace, table: &mut [u64], from: us
     let room = room_for(table.len(), first, len - start);
     let mut count = 0;
     while start + count < len {
-        let b = bits::byte_at(body, start + count);
-        if b == 0 {
+        let value = bits::byte_at(body, start + count);
+        if value == 0 {
             put(table, from, count as u64);
             return Run::Done(BitPlace(bit.0 + 8 * count + 8), first + count);
         }
         if count < room {
             let index = first + count;
-            table[index] = b;
+            table[index] = value;
         }
         count += 1;
     }

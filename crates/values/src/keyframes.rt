@@ -13,7 +13,6 @@ ghost use Rattle.values.specs.Parts.{framesOf, keyframesOf};
 ghost use Rattle.bits.specs.Places.{orderOf};
 use crate::read_announcing;
 use crate::read_frame_values;
-use crate::read_times;
 use attributes::DataType;
 use attributes::Kind;
 use bits::Aligned;
@@ -151,9 +150,9 @@ fn read_eased(
     requires { ⌜ Fits (now body) (at .0) from × (frames ≤ 4096) × (easing < 2 ^ 32) ⌝ }
     ensures { λ r. ⌜ runLeaves (now (table .exit)) r ≡ shownOver (now (table .entry)) from (run (orderOf order) (now (body .entry)) ((aligned ▸ scaled easing) ▸ pick (hasSpatial flag) (spatial frames) nothing) (at .0)) ⌝ }
 {
-    let r = read_easing(order, easing, body, at, table, from);
-    let Run::Done(eased, after_easing) = r else {
-        return r;
+    let run = read_easing(order, easing, body, at, table, from);
+    let Run::Done(eased, after_easing) = run else {
+        return run;
     };
     read_spatial(order, flag, frames, body, eased, table, after_easing)
 }
@@ -174,11 +173,11 @@ fn read_frames(
     requires { ⌜ Fits (now body) (at .0) from × (frames ≤ 4096) × (easing < 2 ^ 32) ⌝ }
     ensures { λ r. ⌜ runLeaves (now (table .exit)) r ≡ shownOver (now (table .entry)) from (run (orderOf order) (now (body .entry)) (framesOf (kindOf kind) (typeOf what) flag frames easing) (at .0)) ⌝ }
 {
-    let r = read_times(order, frames + 1, body, at, table, from);
-    let Run::Done(timed, after_times) = r else {
-        return r;
+    let run = table::in_turn::read_items(order, Item::Time, frames + 1, body, at, table, from);
+    let Run::Done(timed, after_times) = run else {
+        return run;
     };
-    let r = read_values_part(
+    let run = read_values_part(
         order,
         kind,
         what,
@@ -188,8 +187,8 @@ fn read_frames(
         table,
         after_times,
     );
-    let Run::Done(valued, after_values) = r else {
-        return r;
+    let Run::Done(valued, after_values) = run else {
+        return run;
     };
     read_eased(
         order,
@@ -220,9 +219,9 @@ fn read_keyframes(
 {
     let kinds = read_interpolations(order, kind, frames, body, at, table, from);
     let beziers = kinds.count;
-    let r = kinds.run;
-    let Run::Done(next, behind) = r else {
-        return r;
+    let run = kinds.run;
+    let Run::Done(next, behind) = run else {
+        return run;
     };
     let easing = beziers * attributes::curves(kind, what);
     read_frames(
@@ -240,7 +239,7 @@ fn read_keyframes(
 }
 
 // Keyframed content, with 1 to 4,096 frames, of an attribute with this flag number.
-pub fn read_keyframed(
+fn read_counted(
     order: Order,
     kind: Kind,
     what: DataType,
@@ -271,4 +270,21 @@ pub fn read_keyframed(
         }
         Got::Fault(why) => Run::Stop(why, from),
     }
+}
+
+// The same for callers: its answer is made again (see `table::again`).
+pub fn read_keyframed(
+    order: Order,
+    kind: Kind,
+    what: DataType,
+    flag: u64,
+    body: &[u8],
+    at: BitPlace,
+    table: &mut [u64],
+    from: usize,
+) -> Run
+    requires { ⌜ Fits (now body) (at .0) from ⌝ }
+    ensures { λ r. ⌜ runLeaves (now (table .exit)) r ≡ shownOver (now (table .entry)) from (run (orderOf order) (now (body .entry)) (keyframed (kindOf kind) (typeOf what) flag) (at .0)) ⌝ }
+{
+    table::again(read_counted(order, kind, what, flag, body, at, table, from))
 }

@@ -38,9 +38,9 @@ fn read_pair(
     requires { ⌜ Fits (now body) (at .0) from ⌝ }
     ensures { λ r. ⌜ runLeaves (now (table .exit)) r ≡ shownOver (now (table .entry)) from (run (orderOf order) (now (body .entry)) (formatOf first ▸ formatOf second) (at .0)) ⌝ }
 {
-    let r = table::read_one(order, first, body, at, table, from);
-    let Run::Done(next, behind) = r else {
-        return r;
+    let run = table::read_one(order, first, body, at, table, from);
+    let Run::Done(next, behind) = run else {
+        return run;
     };
     table::read_one(order, second, body, next, table, behind)
 }
@@ -61,9 +61,9 @@ fn read_announcing(
 {
     let fields = table::fields::read_fields(order, kind, width, count, body, at, table, from);
     let announced = fields.count;
-    let r = fields.run;
-    let Run::Done(next, behind) = r else {
-        return r;
+    let run = fields.run;
+    let Run::Done(next, behind) = run else {
+        return run;
     };
     table::fields::read_scaled(
         order,
@@ -112,9 +112,9 @@ fn read_stop(
     requires { ⌜ Fits (now body) (at .0) from ⌝ }
     ensures { λ r. ⌜ runLeaves (now (table .exit)) r ≡ shownOver (now (table .entry)) from (run (orderOf order) (now (body .entry)) (stopOf bytes) (at .0)) ⌝ }
 {
-    let r = read_pair(order, Item::Uint16, Item::Uint16, body, at, table, from);
-    let Run::Done(next, behind) = r else {
-        return r;
+    let run = read_pair(order, Item::Uint16, Item::Uint16, body, at, table, from);
+    let Run::Done(next, behind) = run else {
+        return run;
     };
     table::in_turn::read_items(order, Item::Byte, bytes, body, next, table, behind)
 }
@@ -136,9 +136,9 @@ fn read_stops(
     let mut index = from;
     let mut left = count;
     while 0 < left {
-        let r = read_stop(order, bytes, body, place, table, index);
-        let Run::Done(next, behind) = r else {
-            return r;
+        let run = read_stop(order, bytes, body, place, table, index);
+        let Run::Done(next, behind) = run else {
+            return run;
         };
         place = next;
         index = behind;
@@ -160,9 +160,9 @@ fn read_both_stops(
     requires { ⌜ Fits (now body) (at .0) from ⌝ }
     ensures { λ r. ⌜ runLeaves (now (table .exit)) r ≡ shownOver (now (table .entry)) from (run (orderOf order) (now (body .entry)) (stopsOf alphas colors) (at .0)) ⌝ }
 {
-    let r = read_stops(order, 1, alphas, body, at, table, from);
-    let Run::Done(next, behind) = r else {
-        return r;
+    let run = read_stops(order, 1, alphas, body, at, table, from);
+    let Run::Done(next, behind) = run else {
+        return run;
     };
     read_stops(order, 3, colors, body, next, table, behind)
 }
@@ -209,8 +209,8 @@ fn read_offset_flag(order: Order, body: &[u8], at: BitPlace, table: &mut [u64], 
     requires { ⌜ Fits (now body) (at .0) from ⌝ }
     ensures { λ r. ⌜ runLeaves (now (table .exit)) r ≡ shownOver (now (table .entry)) from (run (orderOf order) (now (body .entry)) offsetFlag (at .0)) ⌝ }
 {
-    let r = bits::fields::read_ub(order, body, at, 1);
-    match r {
+    let got = bits::fields::read_ub(order, body, at, 1);
+    match got {
         Got::Value(exist, next) => {
             table::put(table, from, exist);
             let fields = table::fields::read_fields(
@@ -238,8 +238,8 @@ fn read_dashes(order: Order, body: &[u8], at: BitPlace, table: &mut [u64], from:
     let Aligned::Clean(_, start) = aligned else {
         return Run::Stop(15, from);
     };
-    let r = bits::fields::read_ub(order, body, start, 3);
-    match r {
+    let got = bits::fields::read_ub(order, body, start, 3);
+    match got {
         Got::Value(length, next) => {
             table::put(table, from, length + 1);
             read_offset_flag(order, body, next, table, from + 1)
@@ -249,7 +249,7 @@ fn read_dashes(order: Order, body: &[u8], at: BitPlace, table: &mut [u64], from:
 }
 
 // One value that is not keyframed. A TagBlock has nothing here: its list stands behind the block.
-pub fn read_value(
+fn read_by_type(
     order: Order,
     what: DataType,
     body: &[u8],
@@ -272,17 +272,29 @@ pub fn read_value(
         DataType::Point => read_pair(order, Item::Float, Item::Float, body, at, table, from),
         DataType::Color => table::in_turn::read_items(order, Item::Byte, 3, body, at, table, from),
         DataType::GradientColor => read_gradient(order, body, at, table, from),
-        DataType::Enum(top) => table::read_one(
-            order,
-            Item::Enum(top as u64),
-            body,
-            at,
-            table,
-            from,
-        ),
+        DataType::EnumTo1 => table::read_one(order, Item::Enum(1), body, at, table, from),
+        DataType::EnumTo2 => table::read_one(order, Item::Enum(2), body, at, table, from),
+        DataType::EnumTo4 => table::read_one(order, Item::Enum(4), body, at, table, from),
+        DataType::EnumTo6 => table::read_one(order, Item::Enum(6), body, at, table, from),
+        DataType::EnumTo7 => table::read_one(order, Item::Enum(7), body, at, table, from),
         DataType::Dashes => read_dashes(order, body, at, table, from),
         DataType::TagBlock => Run::Done(at, from),
     }
+}
+
+// The same for callers: the answer of whichever arm it was is made again, once (see `table::again`).
+pub fn read_value(
+    order: Order,
+    what: DataType,
+    body: &[u8],
+    at: BitPlace,
+    table: &mut [u64],
+    from: usize,
+) -> Run
+    requires { ⌜ Fits (now body) (at .0) from ⌝ }
+    ensures { λ r. ⌜ runLeaves (now (table .exit)) r ≡ shownOver (now (table .entry)) from (run (orderOf order) (now (body .entry)) (valueOf (typeOf what)) (at .0)) ⌝ }
+{
+    table::again(read_by_type(order, what, body, at, table, from))
 }
 
 // n values in turn, one by one.
@@ -302,9 +314,9 @@ fn read_each(
     let mut index = from;
     let mut left = count;
     while 0 < left {
-        let r = read_value(order, what, body, place, table, index);
-        let Run::Done(next, behind) = r else {
-            return r;
+        let run = read_value(order, what, body, place, table, index);
+        let Run::Done(next, behind) = run else {
+            return run;
         };
         place = next;
         index = behind;
@@ -331,33 +343,6 @@ fn read_in_turn(
         DataType::Point => table::in_turn::read_floats(order, count * 2, body, at, table, from),
         _ => read_each(order, what, count, body, at, table, from),
     }
-}
-
-// n times. Apart from other values in turn, so that what an item is is not asked for each.
-fn read_times(
-    order: Order,
-    count: usize,
-    body: &[u8],
-    at: BitPlace,
-    table: &mut [u64],
-    from: usize,
-) -> Run
-    requires { ⌜ Fits (now body) (at .0) from ⌝ }
-    ensures { λ r. ⌜ runLeaves (now (table .exit)) r ≡ shownOver (now (table .entry)) from (run (orderOf order) (now (body .entry)) (times count time) (at .0)) ⌝ }
-{
-    let mut place = at;
-    let mut index = from;
-    let mut left = count;
-    while 0 < left {
-        let r = table::read_one(order, Item::Time, body, place, table, index);
-        let Run::Done(next, behind) = r else {
-            return r;
-        };
-        place = next;
-        index = behind;
-        left -= 1;
-    }
-    Run::Done(place, index)
 }
 
 // n keyframed values: in turn; as one bit each; or as a width and fields of it, one for each byte and two for each Point.

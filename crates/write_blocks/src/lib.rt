@@ -173,8 +173,16 @@ fn write_contents(order: Order, block: Block, values: &[u64], out: &mut [u8], si
         let Flagged::With(more) = flagged else {
             return Filled::No;
         };
-        let r = write_content(order, attribute, number, out, cur, values, index + 1);
-        let Put::Done(next, behind) = r else {
+        let put = spelling::again(write_content(
+            order,
+            attribute,
+            number,
+            out,
+            cur,
+            values,
+            index + 1,
+        ));
+        let Put::Done(next, behind) = put else {
             return Filled::No;
         };
         flags = more;
@@ -226,8 +234,8 @@ pub fn write_block(
     let from = at.0 + 1;
     let place = bits::first_bit(BytePlace(from));
     let sink = Sink { place, part: 0 };
-    let r = write_contents(order, block, values, out, sink);
-    let Filled::With(flags, next, behind) = r else {
+    let filled = write_contents(order, block, values, out, sink);
+    let Filled::With(flags, next, behind) = filled else {
         return Body::No;
     };
     let concluded = spelling::conclude(order, Put::Done(next, behind), values.len(), out);

@@ -19,8 +19,8 @@ fn write_items(order: Order, code: u32, values: &[u64], out: &mut [u8], at: Byte
     if 16777216 < at.0 {
         return Body::No;
     }
-    let r = write_fixed::write_fixed(order, code, out, at, values, 0);
-    spelling::conclude(order, r, values.len(), out)
+    let items = write_fixed::write_fixed(order, code, out, at, values, 0);
+    spelling::conclude(order, items, values.len(), out)
 }
 
 // The body of a leaf tag, from a byte place on.
@@ -33,8 +33,8 @@ pub fn write_body(order: Order, code: u32, values: &[u64], out: &mut [u8], at: B
         return write_blocks::write_block(order, block, values, out, at);
     }
     // The answer is made again, not handed on whole: see `write_blocks::write_contents`.
-    let r = write_items(order, code, values, out, at);
-    match r {
+    let written = write_items(order, code, values, out, at);
+    match written {
         Body::To(end) => Body::To(end),
         Body::No => Body::No,
     }

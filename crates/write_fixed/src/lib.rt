@@ -27,12 +27,11 @@ fn write_items(
     requires { ⌜ (start ≤ end) × (end ≤ 18) × (at .0 ≤ longest) ⌝ }
     ensures { λ r. ⌜ InEither (λ o. seen (now (out .exit)) r ≡ ran o (now (values .entry)) (mk (now (out .entry)) (8 * at .0) 0) from (inOrder (itemsFrom start end))) ⌝ }
 {
-    let rows = fixed::ITEMS;
     let mut byte = at.0;
     let mut index = from;
     let mut row = start;
     while row < end {
-        let kind = rows[row];
+        let kind = fixed::item_at(row);
         let next = spelling::spell_next(kind, out, byte, values, index);
         if next == 0 {
             return Put::Impossible;
@@ -61,9 +60,9 @@ fn write_strings(
     let mut index = from;
     let mut left = count;
     while 0 < left {
-        let r = spelling::text::write_string(order, out, cur, values, index);
-        let Put::Done(next, behind) = r else {
-            return r;
+        let put = spelling::again(spelling::text::write_string(order, out, cur, values, index));
+        let Put::Done(next, behind) = put else {
+            return put;
         };
         cur = next;
         index = behind;
@@ -77,9 +76,9 @@ fn write_fonts(order: Order, out: &mut [u8], sink: Sink, values: &[u64], from: u
     requires { ⌜ Fine sink ⌝ }
     ensures { λ r. ⌜ seen (now (out .exit)) r ≡ ran (orderOf order) (now (values .entry)) (under (now (out .entry)) sink) from fontTables ⌝ }
 {
-    let r = spelling::write_one(order, Item::Count(0), out, sink, values, from);
-    let Put::Done(next, behind) = r else {
-        return r;
+    let put = spelling::write_one(order, Item::Count(0), out, sink, values, from);
+    let Put::Done(next, behind) = put else {
+        return put;
     };
     write_strings(
         order,

@@ -13,7 +13,6 @@ ghost use Rattle.spelling.specs.Writing.{seen, ran, Fine};
 ghost use Rattle.write_values.specs.Easing.{Eases};
 use crate::write_announcing;
 use crate::write_frame_values;
-use crate::write_times;
 use attributes::DataType;
 use attributes::Kind;
 use bits::Order;
@@ -21,6 +20,7 @@ use items::Item;
 use sink::Sink;
 use spelling::Put;
 use spelling::fields::Announced;
+use spelling::in_turn::write_items;
 use table::fields::Field;
 
 // The interpolations of n frames, UB[2] each, if the kind has them. A Bezier frame announces four easing numbers for each of its curves.
@@ -133,9 +133,9 @@ fn write_eased(
     requires { ⌜ Fine sink × (frames ≤ 4096) × (easing < 2 ^ 32) ⌝ }
     ensures { λ r. ⌜ seen (now (out .exit)) r ≡ ran (orderOf order) (now (values .entry)) (under (now (out .entry)) sink) from ((aligned ▸ scaled easing) ▸ pick (hasSpatial flag) (spatial frames) nothing) ⌝ }
 {
-    let r = write_easing(order, easing, out, sink, values, from);
-    let Put::Done(eased, after_easing) = r else {
-        return r;
+    let put = write_easing(order, easing, out, sink, values, from);
+    let Put::Done(eased, after_easing) = put else {
+        return put;
     };
     write_spatial(order, flag, frames, out, eased, values, after_easing)
 }
@@ -156,11 +156,11 @@ fn write_frames(
     requires { ⌜ Fine sink × (frames ≤ 4096) × (easing < 2 ^ 32) ⌝ }
     ensures { λ r. ⌜ seen (now (out .exit)) r ≡ ran (orderOf order) (now (values .entry)) (under (now (out .entry)) sink) from (framesOf (kindOf kind) (typeOf what) flag frames easing) ⌝ }
 {
-    let r = write_times(order, frames + 1, out, sink, values, from);
-    let Put::Done(timed, after_times) = r else {
-        return r;
+    let put = write_items(order, Item::Time, frames + 1, out, sink, values, from);
+    let Put::Done(timed, after_times) = put else {
+        return put;
     };
-    let r = write_values_part(
+    let put = write_values_part(
         order,
         kind,
         what,
@@ -170,8 +170,8 @@ fn write_frames(
         values,
         after_times,
     );
-    let Put::Done(valued, after_values) = r else {
-        return r;
+    let Put::Done(valued, after_values) = put else {
+        return put;
     };
     write_eased(
         order,
@@ -202,9 +202,9 @@ fn write_keyframes(
 {
     let kinds = write_interpolations(order, kind, frames, out, sink, values, from);
     let beziers = kinds.count;
-    let r = kinds.put;
-    let Put::Done(next, behind) = r else {
-        return r;
+    let put = kinds.put;
+    let Put::Done(next, behind) = put else {
+        return put;
     };
     let easing = beziers * attributes::curves(kind, what);
     write_frames(
@@ -222,6 +222,37 @@ fn write_keyframes(
 }
 
 // Keyframed content, with 1 to 4,096 frames, of an attribute with this flag number.
+fn write_counted(
+    order: Order,
+    kind: Kind,
+    what: DataType,
+    flag: u64,
+    out: &mut [u8],
+    sink: Sink,
+    values: &[u64],
+    from: usize,
+) -> Put
+    requires { ⌜ Fine sink ⌝ }
+    ensures { λ r. ⌜ seen (now (out .exit)) r ≡ ran (orderOf order) (now (values .entry)) (under (now (out .entry)) sink) from (keyframed (kindOf kind) (typeOf what) flag) ⌝ }
+{
+    let put = spelling::write_one(order, Item::Count(1), out, sink, values, from);
+    let Put::Done(next, behind) = put else {
+        return put;
+    };
+    write_keyframes(
+        order,
+        kind,
+        what,
+        flag,
+        values[from] as usize,
+        out,
+        next,
+        values,
+        behind,
+    )
+}
+
+// The same for callers: its answer is made again (see `spelling::again`).
 pub fn write_keyframed(
     order: Order,
     kind: Kind,
@@ -235,19 +266,5 @@ pub fn write_keyframed(
     requires { ⌜ Fine sink ⌝ }
     ensures { λ r. ⌜ seen (now (out .exit)) r ≡ ran (orderOf order) (now (values .entry)) (under (now (out .entry)) sink) from (keyframed (kindOf kind) (typeOf what) flag) ⌝ }
 {
-    let r = spelling::write_one(order, Item::Count(1), out, sink, values, from);
-    let Put::Done(next, behind) = r else {
-        return r;
-    };
-    write_keyframes(
-        order,
-        kind,
-        what,
-        flag,
-        values[from] as usize,
-        out,
-        next,
-        values,
-        behind,
-    )
+    spelling::again(write_counted(order, kind, what, flag, out, sink, values, from))
 }

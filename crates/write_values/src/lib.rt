@@ -20,6 +20,7 @@ use bits::Order;
 use items::Item;
 use sink::Sink;
 use spelling::Put;
+use spelling::in_turn::write_items;
 use table::fields::Field;
 
 // Two items: a Ratio is an I32 and a U32, a Point two Floats.
@@ -35,9 +36,9 @@ fn write_pair(
     requires { ⌜ Fine sink ⌝ }
     ensures { λ r. ⌜ seen (now (out .exit)) r ≡ ran (orderOf order) (now (values .entry)) (under (now (out .entry)) sink) from (formatOf first ▸ formatOf second) ⌝ }
 {
-    let r = spelling::write_one(order, first, out, sink, values, from);
-    let Put::Done(next, behind) = r else {
-        return r;
+    let put = spelling::write_one(order, first, out, sink, values, from);
+    let Put::Done(next, behind) = put else {
+        return put;
     };
     spelling::write_one(order, second, out, next, values, behind)
 }
@@ -58,9 +59,9 @@ fn write_announcing(
 {
     let fields = spelling::fields::write_fields(order, kind, width, count, out, sink, values, from);
     let announced = fields.count;
-    let r = fields.put;
-    let Put::Done(next, behind) = r else {
-        return r;
+    let put = fields.put;
+    let Put::Done(next, behind) = put else {
+        return put;
     };
     spelling::fields::write_scaled(
         order,
@@ -78,9 +79,9 @@ fn write_path(order: Order, out: &mut [u8], sink: Sink, values: &[u64], from: us
     requires { ⌜ Fine sink ⌝ }
     ensures { λ r. ⌜ seen (now (out .exit)) r ≡ ran (orderOf order) (now (values .entry)) (under (now (out .entry)) sink) from path ⌝ }
 {
-    let r = spelling::write_one(order, Item::Count(0), out, sink, values, from);
-    let Put::Done(next, behind) = r else {
-        return r;
+    let put = spelling::write_one(order, Item::Count(0), out, sink, values, from);
+    let Put::Done(next, behind) = put else {
+        return put;
     };
     write_announcing(
         order,
@@ -92,33 +93,6 @@ fn write_path(order: Order, out: &mut [u8], sink: Sink, values: &[u64], from: us
         values,
         behind,
     )
-}
-
-// n bytes: a Color is three.
-fn write_bytes(
-    order: Order,
-    count: usize,
-    out: &mut [u8],
-    sink: Sink,
-    values: &[u64],
-    from: usize,
-) -> Put
-    requires { ⌜ Fine sink ⌝ }
-    ensures { λ r. ⌜ seen (now (out .exit)) r ≡ ran (orderOf order) (now (values .entry)) (under (now (out .entry)) sink) from (times count byte) ⌝ }
-{
-    let mut cur = sink;
-    let mut index = from;
-    let mut left = count;
-    while 0 < left {
-        let r = spelling::write_one(order, Item::Byte, out, cur, values, index);
-        let Put::Done(next, behind) = r else {
-            return r;
-        };
-        cur = next;
-        index = behind;
-        left -= 1;
-    }
-    Put::Done(cur, index)
 }
 
 // A stop of a gradient: position, midpoint, and its bytes, which are an opacity or a Color.
@@ -133,11 +107,11 @@ fn write_stop(
     requires { ⌜ Fine sink ⌝ }
     ensures { λ r. ⌜ seen (now (out .exit)) r ≡ ran (orderOf order) (now (values .entry)) (under (now (out .entry)) sink) from (stopOf bytes) ⌝ }
 {
-    let r = write_pair(order, Item::Uint16, Item::Uint16, out, sink, values, from);
-    let Put::Done(next, behind) = r else {
-        return r;
+    let put = write_pair(order, Item::Uint16, Item::Uint16, out, sink, values, from);
+    let Put::Done(next, behind) = put else {
+        return put;
     };
-    write_bytes(order, bytes, out, next, values, behind)
+    write_items(order, Item::Byte, bytes, out, next, values, behind)
 }
 
 // n stops with so many bytes each.
@@ -157,9 +131,9 @@ fn write_stops(
     let mut index = from;
     let mut left = count;
     while 0 < left {
-        let r = write_stop(order, bytes, out, cur, values, index);
-        let Put::Done(next, behind) = r else {
-            return r;
+        let put = write_stop(order, bytes, out, cur, values, index);
+        let Put::Done(next, behind) = put else {
+            return put;
         };
         cur = next;
         index = behind;
@@ -181,9 +155,9 @@ fn write_both_stops(
     requires { ⌜ Fine sink ⌝ }
     ensures { λ r. ⌜ seen (now (out .exit)) r ≡ ran (orderOf order) (now (values .entry)) (under (now (out .entry)) sink) from (stopsOf alphas colors) ⌝ }
 {
-    let r = write_stops(order, 1, alphas, out, sink, values, from);
-    let Put::Done(next, behind) = r else {
-        return r;
+    let put = write_stops(order, 1, alphas, out, sink, values, from);
+    let Put::Done(next, behind) = put else {
+        return put;
     };
     write_stops(order, 3, colors, out, next, values, behind)
 }
@@ -200,9 +174,9 @@ fn write_after_alphas(
     requires { ⌜ Fine sink ⌝ }
     ensures { λ r. ⌜ seen (now (out .exit)) r ≡ ran (orderOf order) (now (values .entry)) (under (now (out .entry)) sink) from (afterAlphas alphas) ⌝ }
 {
-    let r = spelling::write_one(order, Item::Count(0), out, sink, values, from);
-    let Put::Done(next, behind) = r else {
-        return r;
+    let put = spelling::write_one(order, Item::Count(0), out, sink, values, from);
+    let Put::Done(next, behind) = put else {
+        return put;
     };
     write_both_stops(
         order,
@@ -220,9 +194,9 @@ fn write_gradient(order: Order, out: &mut [u8], sink: Sink, values: &[u64], from
     requires { ⌜ Fine sink ⌝ }
     ensures { λ r. ⌜ seen (now (out .exit)) r ≡ ran (orderOf order) (now (values .entry)) (under (now (out .entry)) sink) from gradientColor ⌝ }
 {
-    let r = spelling::write_one(order, Item::Count(0), out, sink, values, from);
-    let Put::Done(next, behind) = r else {
-        return r;
+    let put = spelling::write_one(order, Item::Count(0), out, sink, values, from);
+    let Put::Done(next, behind) = put else {
+        return put;
     };
     write_after_alphas(order, values[from] as usize, out, next, values, behind)
 }
@@ -233,9 +207,9 @@ fn write_offset_flag(order: Order, out: &mut [u8], sink: Sink, values: &[u64], f
     ensures { λ r. ⌜ seen (now (out .exit)) r ≡ ran (orderOf order) (now (values .entry)) (under (now (out .entry)) sink) from offsetFlag ⌝ }
 {
     let exist = spelling::fields::write_fields(order, Field::Plain, 1, 1, out, sink, values, from);
-    let r = exist.put;
-    let Put::Done(next, behind) = r else {
-        return r;
+    let put = exist.put;
+    let Put::Done(next, behind) = put else {
+        return put;
     };
     let animatable = spelling::fields::write_fields(
         order,
@@ -256,15 +230,15 @@ fn write_dashes(order: Order, out: &mut [u8], sink: Sink, values: &[u64], from: 
     ensures { λ r. ⌜ seen (now (out .exit)) r ≡ ran (orderOf order) (now (values .entry)) (under (now (out .entry)) sink) from dashes ⌝ }
 {
     let start = spelling::skip(order, out, sink);
-    let r = spelling::fields::write_dash_length(order, out, start, values, from);
-    let Put::Done(next, behind) = r else {
-        return r;
+    let put = spelling::fields::write_dash_length(order, out, start, values, from);
+    let Put::Done(next, behind) = put else {
+        return put;
     };
     write_offset_flag(order, out, next, values, behind)
 }
 
 // One value that is not keyframed. A TagBlock has nothing here: its list stands behind the block.
-pub fn write_value(
+fn write_by_type(
     order: Order,
     what: DataType,
     out: &mut [u8],
@@ -285,19 +259,31 @@ pub fn write_value(
         DataType::BlendMode => spelling::write_one(order, Item::BlendMode, out, sink, values, from),
         DataType::Path => write_path(order, out, sink, values, from),
         DataType::Point => write_pair(order, Item::Float, Item::Float, out, sink, values, from),
-        DataType::Color => write_bytes(order, 3, out, sink, values, from),
+        DataType::Color => write_items(order, Item::Byte, 3, out, sink, values, from),
         DataType::GradientColor => write_gradient(order, out, sink, values, from),
-        DataType::Enum(top) => spelling::write_one(
-            order,
-            Item::Enum(top as u64),
-            out,
-            sink,
-            values,
-            from,
-        ),
+        DataType::EnumTo1 => spelling::write_one(order, Item::Enum(1), out, sink, values, from),
+        DataType::EnumTo2 => spelling::write_one(order, Item::Enum(2), out, sink, values, from),
+        DataType::EnumTo4 => spelling::write_one(order, Item::Enum(4), out, sink, values, from),
+        DataType::EnumTo6 => spelling::write_one(order, Item::Enum(6), out, sink, values, from),
+        DataType::EnumTo7 => spelling::write_one(order, Item::Enum(7), out, sink, values, from),
         DataType::Dashes => write_dashes(order, out, sink, values, from),
         DataType::TagBlock => Put::Done(sink, from),
     }
+}
+
+// The same for callers: the answer of whichever arm it was is made again, once (see `spelling::again`).
+pub fn write_value(
+    order: Order,
+    what: DataType,
+    out: &mut [u8],
+    sink: Sink,
+    values: &[u64],
+    from: usize,
+) -> Put
+    requires { ⌜ Fine sink ⌝ }
+    ensures { λ r. ⌜ seen (now (out .exit)) r ≡ ran (orderOf order) (now (values .entry)) (under (now (out .entry)) sink) from (valueOf (typeOf what)) ⌝ }
+{
+    spelling::again(write_by_type(order, what, out, sink, values, from))
 }
 
 // n values in turn, one by one.
@@ -317,9 +303,9 @@ fn write_each(
     let mut index = from;
     let mut left = count;
     while 0 < left {
-        let r = write_value(order, what, out, cur, values, index);
-        let Put::Done(next, behind) = r else {
-            return r;
+        let put = write_value(order, what, out, cur, values, index);
+        let Put::Done(next, behind) = put else {
+            return put;
         };
         cur = next;
         index = behind;
@@ -342,44 +328,10 @@ fn write_in_turn(
     ensures { λ r. ⌜ seen (now (out .exit)) r ≡ ran (orderOf order) (now (values .entry)) (under (now (out .entry)) sink) from (times count (valueOf (typeOf what))) ⌝ }
 {
     match what {
-        DataType::Float => spelling::in_turn::write_floats(order, count, out, sink, values, from),
-        DataType::Point => spelling::in_turn::write_floats(
-            order,
-            count * 2,
-            out,
-            sink,
-            values,
-            from,
-        ),
+        DataType::Float => write_items(order, Item::Float, count, out, sink, values, from),
+        DataType::Point => write_items(order, Item::Float, count * 2, out, sink, values, from),
         _ => write_each(order, what, count, out, sink, values, from),
     }
-}
-
-// n times. Apart from other values in turn, so that what an item is is not asked for each.
-fn write_times(
-    order: Order,
-    count: usize,
-    out: &mut [u8],
-    sink: Sink,
-    values: &[u64],
-    from: usize,
-) -> Put
-    requires { ⌜ Fine sink ⌝ }
-    ensures { λ r. ⌜ seen (now (out .exit)) r ≡ ran (orderOf order) (now (values .entry)) (under (now (out .entry)) sink) from (times count time) ⌝ }
-{
-    let mut cur = sink;
-    let mut index = from;
-    let mut left = count;
-    while 0 < left {
-        let r = spelling::write_one(order, Item::Time, out, cur, values, index);
-        let Put::Done(next, behind) = r else {
-            return r;
-        };
-        cur = next;
-        index = behind;
-        left -= 1;
-    }
-    Put::Done(cur, index)
 }
 
 // n keyframed values: in turn; as one bit each; or as a width and fields of it, one for each byte and two for each Point.

@@ -50,6 +50,18 @@ enum-told-13 c = search needs
 enum-told-14 : tie.Need-enum-told-14
 enum-told-14 c = search needs
 
+enum-told-15 : tie.Need-enum-told-15
+enum-told-15 c = search needs
+
+enum-told-16 : tie.Need-enum-told-16
+enum-told-16 c = search needs
+
+enum-told-17 : tie.Need-enum-told-17
+enum-told-17 c = search needs
+
+enum-told-18 : tie.Need-enum-told-18
+enum-told-18 c = search needs
+
 returns : tie.Need-returns
 returns c = (ap (λ (z : DataType). dimensions (typeOf z)) (sym (c .enum-told .given .1)), lit≤ tt)
 
@@ -92,6 +104,18 @@ returns-13 c = (ap (λ (z : DataType). dimensions (typeOf z)) (sym (c .enum-told
 returns-14 : tie.Need-returns-14
 returns-14 c = (ap (λ (z : DataType). dimensions (typeOf z)) (sym (c .enum-told14 .given .1)), lit≤ tt)
 
+returns-15 : tie.Need-returns-15
+returns-15 c = (ap (λ (z : DataType). dimensions (typeOf z)) (sym (c .enum-told15 .given .1)), lit≤ tt)
+
+returns-16 : tie.Need-returns-16
+returns-16 c = (ap (λ (z : DataType). dimensions (typeOf z)) (sym (c .enum-told16 .given .1)), lit≤ tt)
+
+returns-17 : tie.Need-returns-17
+returns-17 c = (ap (λ (z : DataType). dimensions (typeOf z)) (sym (c .enum-told17 .given .1)), lit≤ tt)
+
+returns-18 : tie.Need-returns-18
+returns-18 c = (ap (λ (z : DataType). dimensions (typeOf z)) (sym (c .enum-told18 .given .1)), lit≤ tt)
+
 pub dimensions-spec : {M : Type 1} → statement M
 dimensions-spec =
     tie.close
@@ -110,6 +134,10 @@ dimensions-spec =
     enum-told-12
     enum-told-13
     enum-told-14
+    enum-told-15
+    enum-told-16
+    enum-told-17
+    enum-told-18
     returns
     returns-2
     returns-3
@@ -123,4 +151,8 @@ dimensions-spec =
     returns-11
     returns-12
     returns-13
-    returns-14)
+    returns-14
+    returns-15
+    returns-16
+    returns-17
+    returns-18)

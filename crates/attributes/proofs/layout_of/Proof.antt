@@ -52,6 +52,18 @@ enum-told-13 c = search needs
 enum-told-14 : tie.Need-enum-told-14
 enum-told-14 c = search needs
 
+enum-told-15 : tie.Need-enum-told-15
+enum-told-15 c = search needs
+
+enum-told-16 : tie.Need-enum-told-16
+enum-told-16 c = search needs
+
+enum-told-17 : tie.Need-enum-told-17
+enum-told-17 c = search needs
+
+enum-told-18 : tie.Need-enum-told-18
+enum-told-18 c = search needs
+
 returns : tie.Need-returns
 returns c = ap (λ (z : DataType). layoutBy (kindOf (c .before .before .args .kind)) (typeOf z)) (sym (c .enum-told .given .1))
 
@@ -94,6 +106,18 @@ returns-13 c = ap (λ (z : DataType). layoutBy (kindOf (c .before .before .args 
 returns-14 : tie.Need-returns-14
 returns-14 c = ap (λ (z : DataType). layoutBy (kindOf (c .before .before .args .kind)) (typeOf z)) (sym (c .enum-told14 .given .1))
 
+returns-15 : tie.Need-returns-15
+returns-15 c = ap (λ (z : DataType). layoutBy (kindOf (c .before .before .args .kind)) (typeOf z)) (sym (c .enum-told15 .given .1))
+
+returns-16 : tie.Need-returns-16
+returns-16 c = ap (λ (z : DataType). layoutBy (kindOf (c .before .before .args .kind)) (typeOf z)) (sym (c .enum-told16 .given .1))
+
+returns-17 : tie.Need-returns-17
+returns-17 c = ap (λ (z : DataType). layoutBy (kindOf (c .before .before .args .kind)) (typeOf z)) (sym (c .enum-told17 .given .1))
+
+returns-18 : tie.Need-returns-18
+returns-18 c = ap (λ (z : DataType). layoutBy (kindOf (c .before .before .args .kind)) (typeOf z)) (sym (c .enum-told18 .given .1))
+
 pub layout-of-spec : {M : Type 1} → statement M
 layout-of-spec =
     tie.close
@@ -113,6 +137,10 @@ layout-of-spec =
     enum-told-12
     enum-told-13
     enum-told-14
+    enum-told-15
+    enum-told-16
+    enum-told-17
+    enum-told-18
     returns
     returns-2
     returns-3
@@ -126,4 +154,8 @@ layout-of-spec =
     returns-11
     returns-12
     returns-13
-    returns-14)
+    returns-14
+    returns-15
+    returns-16
+    returns-17
+    returns-18)

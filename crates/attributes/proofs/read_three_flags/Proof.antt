@@ -1,67 +1,44 @@
--- `attributes::read_three_flags` meets its contract: an exist bit, and the flags after it.
-use denote.Ref.{now}
-use mathlib.Core.Path.{sym, ap, _∙_}
+-- `attributes::read_three_flags` meets its contract: a bit, and the two after it where it is set.
 use native.Mathlib.Omega.{arith}
-use Rattle.bits.specs.Places.{numOf, orderOf}
-use Rattle.bits.proofs.FieldLaws.{ub-got}
-use Rattle.attributes.proofs.FlagLaws.{flag-past, flag-none, flag-cut, flag-both, flag-small}
+use Rattle.bits.specs.Places.{orderOf}
+use Rattle.attributes.proofs.FlagLaws.{flag-none, flag-more}
 use borrow.Author.Needs.{needs}
 use Rattle.attributes.proofs.read_three_flags.Statement.{statement}
 use Rattle.attributes.proofs.read_three_flags.Tie as tie
 
-read-ub-requires : tie.Need-read-ub-requires
-read-ub-requires c κs = search needs
+bit-of-requires : tie.Need-bit-of-requires
+bit-of-requires c κs = search needs
 
-enum-known-e : tie.Need-enum-known-e
-enum-known-e c = search needs
-
-enum-told : tie.Need-enum-told
-enum-told c = search needs
+add-t7 : tie.Need-add-t7
+add-t7 c = search needs
 
 returns : tie.Need-returns
-returns c = let a = c .before .before .before .before .args in flag-past (orderOf (a .order)) (now (a .body)) (a .at .0) 2 (c .before .before .read-ub .result) (c .before .before .read-ub .ensures) (c .enum-told .given .1)
+returns c = let a = c .before .before .args in flag-none (orderOf (a .order)) (a .first) (a .at) (omega (arith, c .before .before .pre)) (c .before .bit-of .ensures) 2 (c .if1 .taken) (omega arith)
 
-returns-2 : tie.Need-returns-2
-returns-2 c = let a = c .before .before .before .before .before .before .args in flag-none (orderOf (a .order)) (now (a .body)) (a .at .0) 2 (c .before .before .before .before .read-ub .result) (c .before .before .before .before .read-ub .ensures) (c .before .before .e .given .1) (c .if1 .taken)
+add-read-two-flags : tie.Need-add-read-two-flags
+add-read-two-flags c = search needs
 
 read-two-flags-requires : tie.Need-read-two-flags-requires
-read-two-flags-requires c κs = let a = c .before .before .before .before .before .before .args in
-    let g = ub-got (orderOf (a .order)) (now (a .body)) (a .at .0) 1 (ap numOf (sym (c .before .before .e .given .1)) ∙ c .before .before .before .before .read-ub .ensures) in
-    (g .inside, c .before .before .before .before .before .before .pre .1)
+read-two-flags-requires c κs = search needs
 
-enum-known-a : tie.Need-enum-known-a
-enum-known-a c = search needs
+mul-t8 : tie.Need-mul-t8
+mul-t8 c = omega (arith, c .before .read-two-flags .ensures .small)
 
-enum-told-2 : tie.Need-enum-told-2
-enum-told-2 c = search needs
+add-t9 : tie.Need-add-t9
+add-t9 c = omega (arith, c .before .read-two-flags .ensures .small)
 
-returns-3 : tie.Need-returns-3
-returns-3 c = let a = c .before .before .before .before .before .before .before .before .before .args in flag-cut (orderOf (a .order)) (now (a .body)) (a .at .0) 2 (c .before .before .before .before .before .before .before .read-ub .result) (c .before .before .before .before .before .before .before .read-ub .ensures) (c .before .before .read-two-flags .result) (c .before .before .before .before .before .e .given .1) (c .before .before .before .if1 .left) (c .before .before .read-two-flags .ensures) (c .enum-told2 .given .1)
-
-mul-t11 : tie.Need-mul-t11
-mul-t11 c = let a = c .before .before .before .before .before .before .before .before .before .before .args in
-    omega (arith, flag-small (orderOf (a .order)) (now (a .body)) (a .at .0) 2 (c .before .before .before .before .before .before .before .before .read-ub .result) (c .before .before .before .before .before .before .before .before .read-ub .ensures) (c .before .before .before .read-two-flags .result) (c .before .before .before .before .before .before .e .given .1) (c .before .before .before .before .if1 .left) (c .before .before .before .read-two-flags .ensures) (c .before .a .given .1))
-
-add-t12 : tie.Need-add-t12
-add-t12 c = let a = c .before .before .before .before .before .before .before .before .before .before .args in
-    omega (arith, flag-small (orderOf (a .order)) (now (a .body)) (a .at .0) 2 (c .before .before .before .before .before .before .before .before .read-ub .result) (c .before .before .before .before .before .before .before .before .read-ub .ensures) (c .before .before .before .read-two-flags .result) (c .before .before .before .before .before .before .e .given .1) (c .before .before .before .before .if1 .left) (c .before .before .before .read-two-flags .ensures) (c .before .a .given .1))
-
-returns-4 : tie.Need-returns-4
-returns-4 c = let a = c .before .before .before .before .before .before .before .before .before .before .args in flag-both (orderOf (a .order)) (now (a .body)) (a .at .0) 2 (c .before .before .before .before .before .before .before .before .read-ub .result) (c .before .before .before .before .before .before .before .before .read-ub .ensures) (c .before .before .before .read-two-flags .result) (c .before .before .before .before .before .before .e .given .1) (c .before .before .before .before .if1 .left) (c .before .before .before .read-two-flags .ensures) (c .before .a .given .1)
+returns-2 : tie.Need-returns-2
+returns-2 c = let a = c .before .before .before .before .args in flag-more (orderOf (a .order)) (a .first) (a .at) (omega (arith, c .before .before .before .before .pre)) (c .before .before .before .bit-of .ensures) 2 (c .before .before .if1 .left) (c .before .read-two-flags .ensures) (omega arith) (omega arith)
 
 pub read-three-flags-spec : {M : Type 1} → statement M
 read-three-flags-spec =
     tie.close
     (tie.spec
-    read-ub-requires
-    enum-known-e
-    enum-told
+    bit-of-requires
+    add-t7
     returns
-    returns-2
+    add-read-two-flags
     read-two-flags-requires
-    enum-known-a
-    enum-told-2
-    returns-3
-    mul-t11
-    add-t12
-    returns-4)
+    mul-t8
+    add-t9
+    returns-2)

@@ -1,69 +1,49 @@
--- `attributes::read_two_flags` meets its contract: two bits, by what each gave.
-use denote.Ref.{now}
-use mathlib.Core.Path.{sym, ap, _∙_}
+-- `attributes::read_two_flags` meets its contract: two bits, the second where the first is set.
 use native.Mathlib.Omega.{arith}
-use Rattle.bits.specs.Places.{numOf, orderOf}
-use Rattle.bits.proofs.FieldLaws.{ub-got}
-use Rattle.attributes.proofs.FlagLaws.{one-bit, flag-past, flag-none, flag-cut, flag-both}
+use Prim.Native.Nat.{_+_}
+use Rattle.bits.specs.Places.{orderOf}
+use Rattle.attributes.proofs.FlagLaws.{flag-only, flag-none, flag-more}
 use borrow.Author.Needs.{needs}
 use Rattle.attributes.proofs.read_two_flags.Statement.{statement}
 use Rattle.attributes.proofs.read_two_flags.Tie as tie
 
-read-ub-requires : tie.Need-read-ub-requires
-read-ub-requires c κs = search needs
+bit-of-requires : tie.Need-bit-of-requires
+bit-of-requires c κs = search needs
 
-enum-known-e : tie.Need-enum-known-e
-enum-known-e c = search needs
-
-enum-told : tie.Need-enum-told
-enum-told c = search needs
+add-t7 : tie.Need-add-t7
+add-t7 c = search needs
 
 returns : tie.Need-returns
-returns c = let a = c .before .before .before .before .args in flag-past (orderOf (a .order)) (now (a .body)) (a .at .0) 1 (c .before .before .read-ub .result) (c .before .before .read-ub .ensures) (c .enum-told .given .1)
+returns c = let a = c .before .before .args in flag-none (orderOf (a .order)) (a .first) (a .at) (omega (arith, c .before .before .pre)) (c .before .bit-of .ensures) 1 (c .if1 .taken) (omega arith)
+
+add-bit-of : tie.Need-add-bit-of
+add-bit-of c = search needs
+
+bit-of-requires-2 : tie.Need-bit-of-requires-2
+bit-of-requires-2 c κs = search needs
+
+mul-t8 : tie.Need-mul-t8
+mul-t8 c = search needs
+
+add-t9 : tie.Need-add-t9
+add-t9 c = search needs
+
+add-t10 : tie.Need-add-t10
+add-t10 c = search needs
 
 returns-2 : tie.Need-returns-2
-returns-2 c = let a = c .before .before .before .before .before .before .args in flag-none (orderOf (a .order)) (now (a .body)) (a .at .0) 1 (c .before .before .before .before .read-ub .result) (c .before .before .before .before .read-ub .ensures) (c .before .before .e .given .1) (c .if1 .taken)
-
-read-ub-requires-2 : tie.Need-read-ub-requires-2
-read-ub-requires-2 c κs = let a = c .before .before .before .before .before .before .args in
-    let g = ub-got (orderOf (a .order)) (now (a .body)) (a .at .0) 1 (ap numOf (sym (c .before .before .e .given .1)) ∙ c .before .before .before .before .read-ub .ensures) in
-    ((g .inside, c .before .before .before .before .before .before .pre .1), omega arith, omega arith)
-
-enum-known-a : tie.Need-enum-known-a
-enum-known-a c = search needs
-
-enum-told-2 : tie.Need-enum-told-2
-enum-told-2 c = search needs
-
-returns-3 : tie.Need-returns-3
-returns-3 c = let a = c .before .before .before .before .before .before .before .before .before .args in flag-cut (orderOf (a .order)) (now (a .body)) (a .at .0) 1 (c .before .before .before .before .before .before .before .read-ub .result) (c .before .before .before .before .before .before .before .read-ub .ensures) (c .before .before .read-ub2 .result) (c .before .before .before .before .before .e .given .1) (c .before .before .before .if1 .left) (one-bit (orderOf (a .order)) (now (a .body)) _ (c .before .before .read-ub2 .ensures)) (c .enum-told2 .given .1)
-
-mul-t11 : tie.Need-mul-t11
-mul-t11 c = let a = c .before .before .before .before .before .before .before .before .before .before .args in
-    let g = ub-got (orderOf (a .order)) (now (a .body)) _ 1 (ap numOf (sym (c .before .a .given .1)) ∙ c .before .before .before .read-ub2 .ensures) in
-    omega (arith, g .value, g .below)
-
-add-t12 : tie.Need-add-t12
-add-t12 c = let a = c .before .before .before .before .before .before .before .before .before .before .args in
-    let g = ub-got (orderOf (a .order)) (now (a .body)) _ 1 (ap numOf (sym (c .before .a .given .1)) ∙ c .before .before .before .read-ub2 .ensures) in
-    omega (arith, g .value, g .below)
-
-returns-4 : tie.Need-returns-4
-returns-4 c = let a = c .before .before .before .before .before .before .before .before .before .before .args in flag-both (orderOf (a .order)) (now (a .body)) (a .at .0) 1 (c .before .before .before .before .before .before .before .before .read-ub .result) (c .before .before .before .before .before .before .before .before .read-ub .ensures) (c .before .before .before .read-ub2 .result) (c .before .before .before .before .before .before .e .given .1) (c .before .before .before .before .if1 .left) (one-bit (orderOf (a .order)) (now (a .body)) _ (c .before .before .before .read-ub2 .ensures)) (c .before .a .given .1)
+returns-2 c = let a = c .before .before .before .args in flag-more (orderOf (a .order)) (a .first) (a .at) (omega (arith, c .before .before .before .pre)) (c .before .before .bit-of .ensures) 1 (c .before .if1 .left) (flag-only (orderOf (a .order)) (a .first) (a .at + 1) (c .before .before .before .pre) (c .bit-of2 .ensures) (omega arith)) (omega arith) (omega arith)
 
 pub read-two-flags-spec : {M : Type 1} → statement M
 read-two-flags-spec =
     tie.close
     (tie.spec
-    read-ub-requires
-    enum-known-e
-    enum-told
+    bit-of-requires
+    add-t7
     returns
-    returns-2
-    read-ub-requires-2
-    enum-known-a
-    enum-told-2
-    returns-3
-    mul-t11
-    add-t12
-    returns-4)
+    add-bit-of
+    bit-of-requires-2
+    mul-t8
+    add-t9
+    add-t10
+    returns-2)

@@ -7,8 +7,8 @@ use borrow.Author.Needs.{needs}
 use Rattle.headers.proofs.le16_at.Statement.{statement}
 use Rattle.headers.proofs.le16_at.Tie as tie
 
-add-j : tie.Need-add-j
-add-j c = search needs
+add-second : tie.Need-add-second
+add-second c = search needs
 
 shared-slice-read-wide : tie.Need-shared-slice-read-wide
 shared-slice-read-wide c = search needs
@@ -35,7 +35,7 @@ pub le16-at-spec : {M : Type 1} → statement M
 le16-at-spec =
     tie.close
     (tie.spec
-    add-j
+    add-second
     shared-slice-read-wide
     wide-requires
     shared-slice-read-wide-2

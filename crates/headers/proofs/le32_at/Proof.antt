@@ -6,8 +6,8 @@ use borrow.Author.Needs.{needs}
 use Rattle.headers.proofs.le32_at.Statement.{statement}
 use Rattle.headers.proofs.le32_at.Tie as tie
 
-add-j : tie.Need-add-j
-add-j c = search needs
+add-upper : tie.Need-add-upper
+add-upper c = search needs
 
 le16-at-requires : tie.Need-le16-at-requires
 le16-at-requires c κs = search needs
@@ -26,4 +26,4 @@ returns c = four-bytes (now (c .before .before .before .args .bytes)) (c .before
 
 pub le32-at-spec : {M : Type 1} → statement M
 le32-at-spec =
-    tie.close (tie.spec add-j le16-at-requires le16-at-requires-2 mul-result add-result returns)
+    tie.close (tie.spec add-upper le16-at-requires le16-at-requires-2 mul-result add-result returns)

@@ -9,6 +9,9 @@ use Rattle.items.proofs.out_of_range.Tie as tie
 enum-known-kind : tie.Need-enum-known-kind
 enum-known-kind c = search needs
 
+cast-if1 : tie.Need-cast-if1
+cast-if1 c = search needs
+
 enum-told : tie.Need-enum-told
 enum-told c = search needs
 
@@ -17,6 +20,9 @@ between-requires c κs = search needs
 
 enum-known-kind-2 : tie.Need-enum-known-kind-2
 enum-known-kind-2 c = search needs
+
+cast-between : tie.Need-cast-between
+cast-between c = search needs
 
 between-requires-2 : tie.Need-between-requires-2
 between-requires-2 c κs = search needs
@@ -96,9 +102,11 @@ out-of-range-spec =
     tie.close
     (tie.spec
     enum-known-kind
+    cast-if1
     enum-told
     between-requires
     enum-known-kind-2
+    cast-between
     between-requires-2
     enum-told-2
     enum-told-3

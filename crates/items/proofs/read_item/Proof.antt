@@ -27,8 +27,8 @@ read-spelling-requires c κs = let a = c .before .before .before .before .before
     let h = align-clean (orderOf (a .order)) (now (a .body)) (a .at .0) (sym (c .before .before .before .align .ensures) ∙ c .before .aligned .given .1) in
     ((omega arith, c .before .before .before .before .before .pre .1), h .1)
 
-enum-known-r : tie.Need-enum-known-r
-enum-known-r c = search needs
+enum-known-got : tie.Need-enum-known-got
+enum-known-got c = search needs
 
 enum-told-2 : tie.Need-enum-told-2
 enum-told-2 c = search needs
@@ -44,12 +44,12 @@ out-of-range-requires c κs = search needs
 returns-3 : tie.Need-returns-3
 returns-3 c = let a = c .before .before .before .before .before .before .before .before .before .before .before .args in
     let h = align-clean (orderOf (a .order)) (now (a .body)) (a .at .0) (sym (c .before .before .before .before .before .before .before .before .before .align .ensures) ∙ c .before .before .before .before .before .before .before .aligned .given .1) in
-    item-in (orderOf (a .order)) (now (a .body)) (a .at .0) (a .kind) (h .0) (c .before .before .before .before .before .read-spelling .ensures (orderOf (a .order))) (c .before .before .before .r .given .1) (sym (c .before .out-of-range .ensures) ∙ c .if1 .taken)
+    item-in (orderOf (a .order)) (now (a .body)) (a .at .0) (a .kind) (h .0) (c .before .before .before .before .before .read-spelling .ensures (orderOf (a .order))) (c .before .before .before .got .given .1) (sym (c .before .out-of-range .ensures) ∙ c .if1 .taken)
 
 returns-4 : tie.Need-returns-4
 returns-4 c = let a = c .before .before .before .before .before .before .before .before .before .before .before .args in
     let h = align-clean (orderOf (a .order)) (now (a .body)) (a .at .0) (sym (c .before .before .before .before .before .before .before .before .before .align .ensures) ∙ c .before .before .before .before .before .before .before .aligned .given .1) in
-    item-out (orderOf (a .order)) (now (a .body)) (a .at .0) (a .kind) (h .0) (c .before .before .before .before .before .read-spelling .ensures (orderOf (a .order))) (c .before .before .before .r .given .1) (c .before .out-of-range .ensures) (c .if1 .left)
+    item-out (orderOf (a .order)) (now (a .body)) (a .at .0) (a .kind) (h .0) (c .before .before .before .before .before .read-spelling .ensures (orderOf (a .order))) (c .before .before .before .got .given .1) (c .before .out-of-range .ensures) (c .if1 .left)
 
 pub read-item-spec : {M : Type 1} → statement M
 read-item-spec =
@@ -60,7 +60,7 @@ read-item-spec =
     enum-told
     returns
     read-spelling-requires
-    enum-known-r
+    enum-known-got
     enum-told-2
     returns-2
     out-of-range-requires

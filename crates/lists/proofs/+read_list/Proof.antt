@@ -109,7 +109,7 @@ read-list-add-start t c = let a = c .before .before .before .before .before .bef
 read-list-read-list-requires : (t : ℕ) → read-list-lts.Need-read-list-requires (calls t) (read-list-at t) read-list.Post read-list-Inv-loop read-list-μ-loop
 read-list-read-list-requires t c κs = let a = c .before .before .before .before .before .before .before .before .before .before .before .before .before .before .before .before .before .before .before .before .before .before .before .args in (omega (arith, c .before .before .before .before .before .before .before .before .before .before .before .before .before .before .before .before .before .before .before .before .before .before .before .pre .0, tag-open (orderOf (a .order)) (now (a .classes)) (a .depths) (ownerOf (a .owner)) (a .at .0) (now (a .room)) (now (a .table)) (a .from) (now (a .rows)) (a .row) (c .before .before .before .before .before .before .before .before .before .before .before .before .before .before .before .before .before .before .loop .inv) (c .before .before .before .before .before .before .before .before .before .before .before .before .before .before .before .before .if1 .taken) (c .before .before .before .before .before .before .before .before .before .before .before .read-tag .result) refl (c .before .before .before .before .before .before .before .before .before .before .before .read-tag .ensures) _ (c .before .before .before .before .before .opened .given .1) .deep), (c .before .before .before .before .before .before .before .before .before .before .before .before .before .before .before .before .before .before .before .before .before .before .before .pre .1 .0, open-bounds (orderOf (a .order)) (now (a .classes)) (a .depths) (ownerOf (a .owner)) (a .at .0) (now (a .room)) (now (a .table)) (a .from) (now (a .rows)) (a .row) (c .before .before .before .before .before .before .before .before .before .before .before .before .before .before .before .before .before .before .loop .inv) (c .before .before .before .before .before .before .before .before .before .before .before .before .before .before .before .before .if1 .taken) (c .before .before .before .before .before .before .before .before .before .before .before .read-tag .result) refl (c .before .before .before .before .before .before .before .before .before .before .before .read-tag .ensures) _ (c .before .before .before .before .before .opened .given .1) (c .before .before .before .before .before .before .before .before .before .before .before .before .before .before .before .before .before .before .before .before .before .before .before .pre .1 .0) (c .before .before .before .before .before .before .before .before .before .before .before .before .before .before .before .before .before .before .before .before .before .before .before .pre .1 .1)))
 
-read-list-enum-known-x : (t : ℕ) → read-list-lts.Need-enum-known-x (calls t) (read-list-at t) read-list.Post read-list-Inv-loop read-list-μ-loop
+read-list-enum-known-x : (t : ℕ) → read-list-lts.Need-enum-known-walked (calls t) (read-list-at t) read-list.Post read-list-Inv-loop read-list-μ-loop
 read-list-enum-known-x t c = search needs
 
 read-list-enum-told : (t : ℕ) → read-list-lts.Need-enum-told (calls t) (read-list-at t) read-list.Post read-list-Inv-loop read-list-μ-loop
@@ -128,7 +128,7 @@ read-list-loop-less-2 : (t : ℕ) → read-list-lts.Need-loop-less-2 (calls t) (
 read-list-loop-less-2 t c = let a = c .before .before .before .before .before .before .before .before .before .before .before .before .before .before .before .before .before .before .before .before .before .before .before .before .before .before .before .before .before .before .before .before .args in omega (arith, tag-open (orderOf (a .order)) (now (a .classes)) (a .depths) (ownerOf (a .owner)) (a .at .0) (now (a .room)) (now (a .table)) (a .from) (now (a .rows)) (a .row) (c .before .before .before .before .before .before .before .before .before .before .before .before .before .before .before .before .before .before .before .before .before .before .before .before .before .before .before .loop .inv) (c .before .before .before .before .before .before .before .before .before .before .before .before .before .before .before .before .before .before .before .before .before .before .before .before .before .if1 .taken) (c .before .before .before .before .before .before .before .before .before .before .before .before .before .before .before .before .before .before .before .before .read-tag .result) refl (c .before .before .before .before .before .before .before .before .before .before .before .before .before .before .before .before .before .before .before .before .read-tag .ensures) _ (c .before .before .before .before .before .before .before .before .before .before .before .before .before .before .opened .given .1) .ahead, tag-open (orderOf (a .order)) (now (a .classes)) (a .depths) (ownerOf (a .owner)) (a .at .0) (now (a .room)) (now (a .table)) (a .from) (now (a .rows)) (a .row) (c .before .before .before .before .before .before .before .before .before .before .before .before .before .before .before .before .before .before .before .before .before .before .before .before .before .before .before .loop .inv) (c .before .before .before .before .before .before .before .before .before .before .before .before .before .before .before .before .before .before .before .before .before .before .before .before .before .if1 .taken) (c .before .before .before .before .before .before .before .before .before .before .before .before .before .before .before .before .before .before .before .before .read-tag .result) refl (c .before .before .before .before .before .before .before .before .before .before .before .before .before .before .before .before .before .before .before .before .read-tag .ensures) _ (c .before .before .before .before .before .before .before .before .before .before .before .before .before .before .opened .given .1) .inside)
 
 read-list-loop-again-2 : (t : ℕ) → read-list-lts.Need-loop-again-2 (calls t) (read-list-at t) read-list.Post read-list-Inv-loop read-list-μ-loop
-read-list-loop-again-2 t c = let a = c .before .before .before .before .before .before .before .before .before .before .before .before .before .before .before .before .before .before .before .before .before .before .before .before .before .before .before .before .before .before .before .before .args in open-next (orderOf (a .order)) (now (a .classes)) (a .depths) (ownerOf (a .owner)) (a .at .0) (now (a .room)) (now (a .table)) (a .from) (now (a .rows)) (a .row) (c .before .before .before .before .before .before .before .before .before .before .before .before .before .before .before .before .before .before .before .before .before .before .before .before .before .before .before .loop .inv) (c .before .before .before .before .before .before .before .before .before .before .before .before .before .before .before .before .before .before .before .before .before .before .before .before .before .if1 .taken) (c .before .before .before .before .before .before .before .before .before .before .before .before .before .before .before .before .before .before .before .before .read-tag .result) refl (c .before .before .before .before .before .before .before .before .before .before .before .before .before .before .before .before .before .before .before .before .read-tag .ensures) _ (c .before .before .before .before .before .before .before .before .before .before .before .before .before .before .opened .given .1) (c .before .before .before .before .before .before .before .before .read-list .result) (c .before .before .before .before .before .before .before .before .read-list .ensures) (c .before .before .x .given .1) .1
+read-list-loop-again-2 t c = let a = c .before .before .before .before .before .before .before .before .before .before .before .before .before .before .before .before .before .before .before .before .before .before .before .before .before .before .before .before .before .before .before .before .args in open-next (orderOf (a .order)) (now (a .classes)) (a .depths) (ownerOf (a .owner)) (a .at .0) (now (a .room)) (now (a .table)) (a .from) (now (a .rows)) (a .row) (c .before .before .before .before .before .before .before .before .before .before .before .before .before .before .before .before .before .before .before .before .before .before .before .before .before .before .before .loop .inv) (c .before .before .before .before .before .before .before .before .before .before .before .before .before .before .before .before .before .before .before .before .before .before .before .before .before .if1 .taken) (c .before .before .before .before .before .before .before .before .before .before .before .before .before .before .before .before .before .before .before .before .read-tag .result) refl (c .before .before .before .before .before .before .before .before .before .before .before .before .before .before .before .before .before .before .before .before .read-tag .ensures) _ (c .before .before .before .before .before .before .before .before .before .before .before .before .before .before .opened .given .1) (c .before .before .before .before .before .before .before .before .read-list .result) (c .before .before .before .before .before .before .before .before .read-list .ensures) (c .before .before .walked .given .1) .1
 
 read-list-add-over : (t : ℕ) → read-list-lts.Need-add-over (calls t) (read-list-at t) read-list.Post read-list-Inv-loop read-list-μ-loop
 read-list-add-over t c = omega (arith, c .before .before .before .before .before .before .before .before .pre .1 .1 .place)

@@ -19,8 +19,8 @@ use Rattle.table.proofs.fields.read_scaled.Reads as read-scaled-reads
 read-fields-requires : tie.Need-read-fields-requires
 read-fields-requires c κs = search needs
 
-enum-known-r : tie.Need-enum-known-r
-enum-known-r c = search needs
+enum-known-run : tie.Need-enum-known-run
+enum-known-run c = search needs
 
 enum-told : tie.Need-enum-told
 enum-told c = search needs
@@ -32,13 +32,13 @@ returns : tie.Need-returns
 returns c = let a = c .before .before .before .before .before .before .before .before .args in run-stop (orderOf (a .order)) (now (a .body)) (now (a .table)) (a .from) (times (a .count) (fieldOf (a .kind) (a .width))) (a .at .0) (c .before .before .before .before .read-fields .ensures .0) (λ xs. scaled (announced (a .kind) xs)) (c .enum-told .given .1)
 
 read-scaled-requires : tie.Need-read-scaled-requires
-read-scaled-requires c κs = let a = c .before .before .before .before .before .before .before .before .before .before .args in (run-fits (orderOf (a .order)) (now (a .body)) (now (a .table)) (a .from) (times (a .count) (fieldOf (a .kind) (a .width))) (a .at .0) (c .before .before .before .before .before .before .read-fields .ensures .0) (c .before .before .r .given .1) (fair-times (orderOf (a .order)) (a .count) (fieldOf (a .kind) (a .width)) (fair-field (orderOf (a .order)) (a .kind) (a .width) (c .before .before .before .before .before .before .before .before .before .before .pre .1))) (c .before .before .before .before .before .before .before .before .before .before .pre .0), omega (arith, c .before .before .before .before .before .before .read-fields .ensures .1 .1, c .before .before .before .before .before .before .before .before .before .before .pre .3))
+read-scaled-requires c κs = let a = c .before .before .before .before .before .before .before .before .before .before .args in (run-fits (orderOf (a .order)) (now (a .body)) (now (a .table)) (a .from) (times (a .count) (fieldOf (a .kind) (a .width))) (a .at .0) (c .before .before .before .before .before .before .read-fields .ensures .0) (c .before .before .run .given .1) (fair-times (orderOf (a .order)) (a .count) (fieldOf (a .kind) (a .width)) (fair-field (orderOf (a .order)) (a .kind) (a .width) (c .before .before .before .before .before .before .before .before .before .before .pre .1))) (c .before .before .before .before .before .before .before .before .before .before .pre .0), omega (arith, c .before .before .before .before .before .before .read-fields .ensures .1 .1, c .before .before .before .before .before .before .before .before .before .before .pre .3))
 
 same-length-2 : tie.Need-same-length-2
 same-length-2 c = search needs
 
 returns-2 : tie.Need-returns-2
-returns-2 c = let a = c .before .before .before .before .before .before .before .before .before .before .before .before .before .args in run-done (orderOf (a .order)) (now (a .body)) (now (a .table)) (a .from) (times (a .count) (fieldOf (a .kind) (a .width))) (a .at .0) (c .before .before .before .before .before .before .before .before .before .read-fields .ensures .0) (λ xs. scaled (announced (a .kind) xs)) (c .before .before .before .before .before .r .given .1)
+returns-2 c = let a = c .before .before .before .before .before .before .before .before .before .before .before .before .before .args in run-done (orderOf (a .order)) (now (a .body)) (now (a .table)) (a .from) (times (a .count) (fieldOf (a .kind) (a .width))) (a .at .0) (c .before .before .before .before .before .before .before .before .before .read-fields .ensures .0) (λ xs. scaled (announced (a .kind) xs)) (c .before .before .before .before .before .run .given .1)
     (announced-of (orderOf (a .order)) (now (a .body)) _ _ _ (c .before .before .before .before .before .before .before .before .before .read-fields .ensures .1 .0) (c .before .before .read-scaled .ensures))
 
 pub read-announcing-spec : {M : Type 1} → statement M
@@ -46,7 +46,7 @@ read-announcing-spec =
     tie.close
     (tie.spec
     read-fields-requires
-    enum-known-r
+    enum-known-run
     enum-told
     same-length
     returns

@@ -12,44 +12,36 @@ use Rattle.values.proofs.read_both_stops.Reads as reads
 use Rattle.values.proofs.read_both_stops.Lts as lts
 use Rattle.values.proofs.read_stops.Reads as read-stops-reads
 
--- src/lib.rt:191:9
 read-stops-requires : tie.Need-read-stops-requires
 read-stops-requires c κs = search needs
 
--- src/lib.rt:192:19
-enum-known-r : tie.Need-enum-known-r
-enum-known-r c = search needs
+enum-known-run : tie.Need-enum-known-run
+enum-known-run c = search needs
 
--- src/lib.rt:193:9
 enum-told : tie.Need-enum-told
 enum-told c = search needs
 
--- src/lib.rt:193:9
 same-length : tie.Need-same-length
 same-length c = search needs
 
--- src/lib.rt:193:9
 returns : tie.Need-returns
 returns c = let a = c .before .before .before .before .before .before .before .before .args in run-stop (orderOf (a .order)) (now (a .body)) (now (a .table)) (a .from) (times (a .alphas) (stopOf 1)) (a .at .0) (c .before .before .before .before .read-stops .ensures) (λ xs. times (a .colors) (stopOf 3)) (c .enum-told .given .1)
 
--- src/lib.rt:195:5
 read-stops-requires-2 : tie.Need-read-stops-requires-2
-read-stops-requires-2 c κs = let a = c .before .before .before .before .before .before .before .before .before .before .args in run-fits (orderOf (a .order)) (now (a .body)) (now (a .table)) (a .from) (times (a .alphas) (stopOf 1)) (a .at .0) (c .before .before .before .before .before .before .read-stops .ensures) (c .before .before .r .given .1) (fair-times (orderOf (a .order)) (a .alphas) (stopOf 1) (fair-stop (orderOf (a .order)) 1)) (c .before .before .before .before .before .before .before .before .before .before .pre)
+read-stops-requires-2 c κs = let a = c .before .before .before .before .before .before .before .before .before .before .args in run-fits (orderOf (a .order)) (now (a .body)) (now (a .table)) (a .from) (times (a .alphas) (stopOf 1)) (a .at .0) (c .before .before .before .before .before .before .read-stops .ensures) (c .before .before .run .given .1) (fair-times (orderOf (a .order)) (a .alphas) (stopOf 1) (fair-stop (orderOf (a .order)) 1)) (c .before .before .before .before .before .before .before .before .before .before .pre)
 
--- src/lib.rt:179:1
 same-length-2 : tie.Need-same-length-2
 same-length-2 c = search needs
 
--- src/lib.rt:179:1
 returns-2 : tie.Need-returns-2
-returns-2 c = let a = c .before .before .before .before .before .before .before .before .before .before .before .before .before .args in run-done (orderOf (a .order)) (now (a .body)) (now (a .table)) (a .from) (times (a .alphas) (stopOf 1)) (a .at .0) (c .before .before .before .before .before .before .before .before .before .read-stops .ensures) (λ xs. times (a .colors) (stopOf 3)) (c .before .before .before .before .before .r .given .1) (c .before .before .read-stops2 .ensures)
+returns-2 c = let a = c .before .before .before .before .before .before .before .before .before .before .before .before .before .args in run-done (orderOf (a .order)) (now (a .body)) (now (a .table)) (a .from) (times (a .alphas) (stopOf 1)) (a .at .0) (c .before .before .before .before .before .before .before .before .before .read-stops .ensures) (λ xs. times (a .colors) (stopOf 3)) (c .before .before .before .before .before .run .given .1) (c .before .before .read-stops2 .ensures)
 
 pub read-both-stops-spec : {M : Type 1} → statement M
 read-both-stops-spec =
     tie.close
     (tie.spec
     read-stops-requires
-    enum-known-r
+    enum-known-run
     enum-told
     same-length
     returns

@@ -19,61 +19,47 @@ use Rattle.bits.proofs.fields.read_ub.Reads as read-ub-reads
 use Rattle.table.proofs.put.Reads as put-reads
 use Rattle.values.proofs.read_offset_flag.Reads as read-offset-flag-reads
 
--- src/lib.rt:265:9
 align-requires : tie.Need-align-requires
 align-requires c κs = search needs
 
--- src/lib.rt:266:27
 enum-known-aligned : tie.Need-enum-known-aligned
 enum-known-aligned c = search needs
 
--- src/lib.rt:267:9
 enum-told : tie.Need-enum-told
 enum-told c = search needs
 
--- src/lib.rt:267:9
 returns : tie.Need-returns
 returns c = let a = c .before .before .before .before .before .args in then-never (orderOf (a .order)) (now (a .body)) (now (a .table)) (a .from) aligned (λ xs. item Item.dashLength ▸ offsetFlag) (a .at .0) (align-never (orderOf (a .order)) (now (a .body)) (a .at .0) (sym (c .before .before .align .ensures) ∙ c .enum-told .given .1))
 
--- src/lib.rt:269:9
 read-ub-requires : tie.Need-read-ub-requires
 read-ub-requires c κs = let a = c .before .before .before .before .before .before .args in (align-fits (orderOf (a .order)) (now (a .body)) (a .at .0) (sym (c .before .before .before .align .ensures) ∙ c .before .aligned .given .1) (c .before .before .before .before .before .before .pre) .0, lit≤ tt, lit≤ tt)
 
--- src/lib.rt:271:20
-enum-known-r : tie.Need-enum-known-r
-enum-known-r c = search needs
+enum-known-got : tie.Need-enum-known-got
+enum-known-got c = search needs
 
--- src/lib.rt:272:37
 add-put : tie.Need-add-put
-add-put c = let a = c .before .before .before .before .before .before .before .before .before .before .before .args in let f = ub-fits (orderOf (a .order)) (now (a .body)) _ 3 (c .before .before .before .before .read-ub .ensures) (lit≤ tt) (c .before .before .r .given .1) (align-fits (orderOf (a .order)) (now (a .body)) (a .at .0) (sym (c .before .before .before .before .before .before .before .before .align .ensures) ∙ c .before .before .before .before .before .before .aligned .given .1) (c .before .before .before .before .before .before .before .before .before .before .before .pre)) in omega (arith, f .1)
+add-put c = let a = c .before .before .before .before .before .before .before .before .before .before .before .args in let f = ub-fits (orderOf (a .order)) (now (a .body)) _ 3 (c .before .before .before .before .read-ub .ensures) (lit≤ tt) (c .before .before .got .given .1) (align-fits (orderOf (a .order)) (now (a .body)) (a .at .0) (sym (c .before .before .before .before .before .before .before .before .align .ensures) ∙ c .before .before .before .before .before .before .aligned .given .1) (c .before .before .before .before .before .before .before .before .before .before .before .pre)) in omega (arith, f .1)
 
--- src/lib.rt:272:13
 put-requires : tie.Need-put-requires
 put-requires c κs = search needs
 
--- src/lib.rt:273:56
 add-read-offset-flag : tie.Need-add-read-offset-flag
 add-read-offset-flag c = search needs
 
--- src/lib.rt:273:13
 read-offset-flag-requires : tie.Need-read-offset-flag-requires
-read-offset-flag-requires c κs = let a = c .before .before .before .before .before .before .before .before .before .before .before .before .before .before .before .args in ub-fits (orderOf (a .order)) (now (a .body)) _ 3 (c .before .before .before .before .before .before .before .before .read-ub .ensures) (lit≤ tt) (c .before .before .before .before .before .before .r .given .1) (align-fits (orderOf (a .order)) (now (a .body)) (a .at .0) (sym (c .before .before .before .before .before .before .before .before .before .before .before .before .align .ensures) ∙ c .before .before .before .before .before .before .before .before .before .before .aligned .given .1) (c .before .before .before .before .before .before .before .before .before .before .before .before .before .before .before .pre)) .0
+read-offset-flag-requires c κs = let a = c .before .before .before .before .before .before .before .before .before .before .before .before .before .before .before .args in ub-fits (orderOf (a .order)) (now (a .body)) _ 3 (c .before .before .before .before .before .before .before .before .read-ub .ensures) (lit≤ tt) (c .before .before .before .before .before .before .got .given .1) (align-fits (orderOf (a .order)) (now (a .body)) (a .at .0) (sym (c .before .before .before .before .before .before .before .before .before .before .before .before .align .ensures) ∙ c .before .before .before .before .before .before .before .before .before .before .aligned .given .1) (c .before .before .before .before .before .before .before .before .before .before .before .before .before .before .before .pre)) .0
 
--- src/lib.rt:275:20
-enum-known-r-2 : tie.Need-enum-known-r-2
-enum-known-r-2 c = search needs
+enum-known-got-2 : tie.Need-enum-known-got-2
+enum-known-got-2 c = search needs
 
--- src/lib.rt:261:1
 same-length : tie.Need-same-length
 same-length c = search needs
 
--- src/lib.rt:261:1
 returns-2 : tie.Need-returns-2
-returns-2 c = let a = c .before .before .before .before .before .before .before .before .before .before .before .before .before .before .before .before .before .before .args in then-none (orderOf (a .order)) (now (a .body)) (now (a .table)) (a .from) aligned (λ xs. item Item.dashLength ▸ offsetFlag) (a .at .0) (align-none (orderOf (a .order)) (now (a .body)) (a .at .0) (sym (c .before .before .before .before .before .before .before .before .before .before .before .before .before .before .before .align .ensures) ∙ c .before .before .before .before .before .before .before .before .before .before .before .before .before .aligned .given .1)) (then-one (orderOf (a .order)) (now (a .body)) (now (a .table)) (a .from) (item Item.dashLength) (λ xs. offsetFlag) _ (dash-one (orderOf (a .order)) (now (a .body)) _ (c .before .before .before .before .before .before .before .before .before .before .before .read-ub .ensures) (c .before .before .before .before .before .before .before .before .before .r .given .1)) (c .before .before .before .before .before .before .put .ensures) (c .before .before .read-offset-flag .ensures))
+returns-2 c = let a = c .before .before .before .before .before .before .before .before .before .before .before .before .before .before .before .before .before .before .args in then-none (orderOf (a .order)) (now (a .body)) (now (a .table)) (a .from) aligned (λ xs. item Item.dashLength ▸ offsetFlag) (a .at .0) (align-none (orderOf (a .order)) (now (a .body)) (a .at .0) (sym (c .before .before .before .before .before .before .before .before .before .before .before .before .before .before .before .align .ensures) ∙ c .before .before .before .before .before .before .before .before .before .before .before .before .before .aligned .given .1)) (then-one (orderOf (a .order)) (now (a .body)) (now (a .table)) (a .from) (item Item.dashLength) (λ xs. offsetFlag) _ (dash-one (orderOf (a .order)) (now (a .body)) _ (c .before .before .before .before .before .before .before .before .before .before .before .read-ub .ensures) (c .before .before .before .before .before .before .before .before .before .got .given .1)) (c .before .before .before .before .before .before .put .ensures) (c .before .before .read-offset-flag .ensures))
 
--- src/lib.rt:261:1
 returns-3 : tie.Need-returns-3
-returns-3 c = let a = c .before .before .before .before .before .before .before .before .before .before .args in then-none (orderOf (a .order)) (now (a .body)) (now (a .table)) (a .from) aligned (λ xs. item Item.dashLength ▸ offsetFlag) (a .at .0) (align-none (orderOf (a .order)) (now (a .body)) (a .at .0) (sym (c .before .before .before .before .before .before .before .align .ensures) ∙ c .before .before .before .before .before .aligned .given .1)) (then-never (orderOf (a .order)) (now (a .body)) (now (a .table)) (a .from) (item Item.dashLength) (λ xs. offsetFlag) _ (dash-stop (orderOf (a .order)) (now (a .body)) _ (c .before .before .before .read-ub .ensures) (c .before .r2 .given .1)))
+returns-3 c = let a = c .before .before .before .before .before .before .before .before .before .before .args in then-none (orderOf (a .order)) (now (a .body)) (now (a .table)) (a .from) aligned (λ xs. item Item.dashLength ▸ offsetFlag) (a .at .0) (align-none (orderOf (a .order)) (now (a .body)) (a .at .0) (sym (c .before .before .before .before .before .before .before .align .ensures) ∙ c .before .before .before .before .before .aligned .given .1)) (then-never (orderOf (a .order)) (now (a .body)) (now (a .table)) (a .from) (item Item.dashLength) (λ xs. offsetFlag) _ (dash-stop (orderOf (a .order)) (now (a .body)) _ (c .before .before .before .read-ub .ensures) (c .before .got2 .given .1)))
 
 pub read-dashes-spec : {M : Type 1} → statement M
 read-dashes-spec =
@@ -84,12 +70,12 @@ read-dashes-spec =
     enum-told
     returns
     read-ub-requires
-    enum-known-r
+    enum-known-got
     add-put
     put-requires
     add-read-offset-flag
     read-offset-flag-requires
-    enum-known-r-2
+    enum-known-got-2
     same-length
     returns-2
     returns-3)

@@ -26,8 +26,8 @@ loop-holds c = record { size = refl; same = refl; fits = c .before .before .pre 
 read-value-requires : tie.Need-read-value-requires Inv-loop μ-loop
 read-value-requires c κs = c .before .before .loop .inv .fits
 
-enum-known-r : tie.Need-enum-known-r Inv-loop μ-loop
-enum-known-r c = search needs
+enum-known-run : tie.Need-enum-known-run Inv-loop μ-loop
+enum-known-run c = search needs
 
 enum-told : tie.Need-enum-told Inv-loop μ-loop
 enum-told c = search needs
@@ -45,7 +45,7 @@ loop-less : tie.Need-loop-less Inv-loop μ-loop
 loop-less c = omega arith
 
 loop-again : tie.Need-loop-again Inv-loop μ-loop
-loop-again c = going-next (orderOf (c .before .before .before .before .before .before .before .before .before .before .before .args .order)) (c .before .before .before .before .before .before .before .before .loop .inv) (times-more (c .before .before .before .before .before .before .before .before .loop .left) (value (typeOf (c .before .before .before .before .before .before .before .before .before .before .before .args .what))) (c .before .before .before .before .before .before .before .loop-test .taken)) (fair-value (orderOf (c .before .before .before .before .before .before .before .before .before .before .before .args .order)) (typeOf (c .before .before .before .before .before .before .before .before .before .before .before .args .what))) (c .before .r .given .1) (c .before .before .before .before .before .read-value .ensures)
+loop-again c = going-next (orderOf (c .before .before .before .before .before .before .before .before .before .before .before .args .order)) (c .before .before .before .before .before .before .before .before .loop .inv) (times-more (c .before .before .before .before .before .before .before .before .loop .left) (value (typeOf (c .before .before .before .before .before .before .before .before .before .before .before .args .what))) (c .before .before .before .before .before .before .before .loop-test .taken)) (fair-value (orderOf (c .before .before .before .before .before .before .before .before .before .before .before .args .order)) (typeOf (c .before .before .before .before .before .before .before .before .before .before .before .args .what))) (c .before .run .given .1) (c .before .before .before .before .before .read-value .ensures)
 
 same-length-2 : tie.Need-same-length-2 Inv-loop μ-loop
 same-length-2 c = c .before .loop .inv .size
@@ -61,7 +61,7 @@ read-each-spec =
     μ-loop
     loop-holds
     read-value-requires
-    enum-known-r
+    enum-known-run
     enum-told
     same-length
     returns

@@ -19,47 +19,36 @@ Inv-loop order bytes count body table₀ from place₀ index₀ left₀ table pl
 abbrev μ-loop : tie.MeasureT-loop
 μ-loop order bytes count body table₀ from place₀ index₀ left₀ table place index left = left
 
--- src/lib.rt:166:5
 loop-holds : tie.Need-loop-holds Inv-loop μ-loop
 loop-holds c = record { size = refl; same = refl; fits = c .before .before .pre }
 
--- src/lib.rt:167:13
 read-stop-requires : tie.Need-read-stop-requires Inv-loop μ-loop
 read-stop-requires c κs = c .before .before .loop .inv .fits
 
--- src/lib.rt:168:23
-enum-known-r : tie.Need-enum-known-r Inv-loop μ-loop
-enum-known-r c = search needs
+enum-known-run : tie.Need-enum-known-run Inv-loop μ-loop
+enum-known-run c = search needs
 
--- src/lib.rt:169:13
 enum-told : tie.Need-enum-told Inv-loop μ-loop
 enum-told c = search needs
 
--- src/lib.rt:169:13
 same-length : tie.Need-same-length Inv-loop μ-loop
 same-length c = going-size (orderOf (c .before .before .before .before .before .before .before .before .before .before .args .order)) (c .before .before .before .before .before .before .before .loop .inv) (times-more (c .before .before .before .before .before .before .before .loop .left) (stopOf (c .before .before .before .before .before .before .before .before .before .before .args .bytes)) (c .before .before .before .before .before .before .loop-test .taken)) (c .before .before .before .before .read-stop .ensures)
 
--- src/lib.rt:169:13
 returns : tie.Need-returns Inv-loop μ-loop
 returns c = going-stop (orderOf (c .before .before .before .before .before .before .before .before .before .before .args .order)) (c .before .before .before .before .before .before .before .loop .inv) (times-more (c .before .before .before .before .before .before .before .loop .left) (stopOf (c .before .before .before .before .before .before .before .before .before .before .args .bytes)) (c .before .before .before .before .before .before .loop-test .taken)) (c .enum-told .given .1) (c .before .before .before .before .read-stop .ensures)
 
--- src/lib.rt:173:9
 sub-left : tie.Need-sub-left Inv-loop μ-loop
 sub-left c = omega arith
 
--- src/lib.rt:166:5
 loop-less : tie.Need-loop-less Inv-loop μ-loop
 loop-less c = omega arith
 
--- src/lib.rt:166:5
 loop-again : tie.Need-loop-again Inv-loop μ-loop
-loop-again c = going-next (orderOf (c .before .before .before .before .before .before .before .before .before .before .before .args .order)) (c .before .before .before .before .before .before .before .before .loop .inv) (times-more (c .before .before .before .before .before .before .before .before .loop .left) (stopOf (c .before .before .before .before .before .before .before .before .before .before .before .args .bytes)) (c .before .before .before .before .before .before .before .loop-test .taken)) (fair-stop (orderOf (c .before .before .before .before .before .before .before .before .before .before .before .args .order)) (c .before .before .before .before .before .before .before .before .before .before .before .args .bytes)) (c .before .r .given .1) (c .before .before .before .before .before .read-stop .ensures)
+loop-again c = going-next (orderOf (c .before .before .before .before .before .before .before .before .before .before .before .args .order)) (c .before .before .before .before .before .before .before .before .loop .inv) (times-more (c .before .before .before .before .before .before .before .before .loop .left) (stopOf (c .before .before .before .before .before .before .before .before .before .before .before .args .bytes)) (c .before .before .before .before .before .before .before .loop-test .taken)) (fair-stop (orderOf (c .before .before .before .before .before .before .before .before .before .before .before .args .order)) (c .before .before .before .before .before .before .before .before .before .before .before .args .bytes)) (c .before .run .given .1) (c .before .before .before .before .before .read-stop .ensures)
 
--- src/lib.rt:151:1
 same-length-2 : tie.Need-same-length-2 Inv-loop μ-loop
 same-length-2 c = c .before .loop .inv .size
 
--- src/lib.rt:151:1
 returns-2 : tie.Need-returns-2 Inv-loop μ-loop
 returns-2 c = going-done (orderOf (c .before .before .before .before .args .order)) (c .before .loop .inv) (times-zero (c .before .loop .left) (stopOf (c .before .before .before .before .args .bytes)) (omega arith))
 
@@ -71,7 +60,7 @@ read-stops-spec =
     μ-loop
     loop-holds
     read-stop-requires
-    enum-known-r
+    enum-known-run
     enum-told
     same-length
     returns

@@ -59,26 +59,29 @@ add-write-content c = search needs
 write-content-requires : tie.Need-write-content-requires Inv-loop μ-loop
 write-content-requires c κs = c .before .before .before .before .before .before .before .before .before .loop .inv .1 .fine
 
-enum-known-r : tie.Need-enum-known-r Inv-loop μ-loop
-enum-known-r c = search needs
+again-requires : tie.Need-again-requires Inv-loop μ-loop
+again-requires c κs = search needs
+
+enum-known-put : tie.Need-enum-known-put Inv-loop μ-loop
+enum-known-put c = search needs
 
 enum-told-2 : tie.Need-enum-told-2 Inv-loop μ-loop
 enum-told-2 c = search needs
 
 same-length-3 : tie.Need-same-length-3 Inv-loop μ-loop
-same-length-3 c = c .before .before .before .before .write-content .kept .1 .1 .1 .0 ∙ c .before .before .before .before .before .before .before .before .before .before .before .before .before .before .loop .inv .1 .size
+same-length-3 c = c .before .before .before .before .before .write-content .kept .1 .1 .1 .0 ∙ c .before .before .before .before .before .before .before .before .before .before .before .before .before .before .before .loop .inv .1 .size
 
 returns-3 : tie.Need-returns-3 Inv-loop μ-loop
-returns-3 c = (fill-gone (c .before .before .before .before .before .before .before .before .before .before .before .before .before .before .loop .inv .1) (attributeOf (rowAt (c .before .before .before .before .before .before .before .before .before .before .before .before .before .before .before .before .before .before .args .block .rows) (c .before .before .before .before .before .before .before .before .before .before .before .before .before .before .loop .row))) (rowsFrom (c .before .before .before .before .before .before .before .before .before .before .before .before .before .before .before .before .before .before .args .block .rows) (c .before .before .before .before .before .before .before .before .before .before .before .before .before .before .loop .row + 1) (c .before .before .before .before .before .before .before .before .before .before .before .before .before .before .before .before .before .before .args .block .count - (c .before .before .before .before .before .before .before .before .before .before .before .before .before .before .loop .row + 1))) (rows-next (c .before .before .before .before .before .before .before .before .before .before .before .before .before .before .before .before .before .before .args .block .rows) (c .before .before .before .before .before .before .before .before .before .before .before .before .before .loop-test .taken)) (omega (arith, c .before .before .before .before .before .before .before .before .before .before .before .before .if1 .left)) (c .before .before .before .before .before .before .before .before .before .add-flags .result) (c .before .before .before .before .before .before .before .before .before .add-flags .ensures) (c .before .before .before .before .write-content .last .1 .1 .1 .0) (c .before .before .before .before .write-content .result) (c .before .before .before .before .write-content .ensures) (c .enum-told2 .given .1), tt)
+returns-3 c = (fill-gone (c .before .before .before .before .before .before .before .before .before .before .before .before .before .before .before .loop .inv .1) (attributeOf (rowAt (c .before .before .before .before .before .before .before .before .before .before .before .before .before .before .before .before .before .before .before .args .block .rows) (c .before .before .before .before .before .before .before .before .before .before .before .before .before .before .before .loop .row))) (rowsFrom (c .before .before .before .before .before .before .before .before .before .before .before .before .before .before .before .before .before .before .before .args .block .rows) (c .before .before .before .before .before .before .before .before .before .before .before .before .before .before .before .loop .row + 1) (c .before .before .before .before .before .before .before .before .before .before .before .before .before .before .before .before .before .before .before .args .block .count - (c .before .before .before .before .before .before .before .before .before .before .before .before .before .before .before .loop .row + 1))) (rows-next (c .before .before .before .before .before .before .before .before .before .before .before .before .before .before .before .before .before .before .before .args .block .rows) (c .before .before .before .before .before .before .before .before .before .before .before .before .before .before .loop-test .taken)) (omega (arith, c .before .before .before .before .before .before .before .before .before .before .before .before .before .if1 .left)) (c .before .before .before .before .before .before .before .before .before .before .add-flags .result) (c .before .before .before .before .before .before .before .before .before .before .add-flags .ensures) (c .before .before .before .before .before .write-content .last .1 .1 .1 .0) (c .before .before .again .result) (rw (c .before .before .again .ensures) (c .before .before .before .before .before .write-content .ensures)) (c .enum-told2 .given .1), tt)
 
 add-row : tie.Need-add-row Inv-loop μ-loop
-add-row c = omega (arith, c .before .before .before .before .before .before .before .before .before .before .before .before .before .before .before .before .before .before .before .pre .0, c .before .before .before .before .before .before .before .before .before .before .before .before .before .before .loop-test .taken)
+add-row c = omega (arith, c .before .before .before .before .before .before .before .before .before .before .before .before .before .before .before .before .before .before .before .before .pre .0, c .before .before .before .before .before .before .before .before .before .before .before .before .before .before .before .loop-test .taken)
 
 loop-less : tie.Need-loop-less Inv-loop μ-loop
-loop-less c = omega (arith, c .before .before .before .before .before .before .before .before .before .before .before .before .before .before .loop-test .taken)
+loop-less c = omega (arith, c .before .before .before .before .before .before .before .before .before .before .before .before .before .before .before .loop-test .taken)
 
 loop-again : tie.Need-loop-again Inv-loop μ-loop
-loop-again c = (omega (arith, c .before .before .before .before .before .before .before .before .before .before .before .before .before .before .loop-test .taken), fill-next (c .before .before .before .before .before .before .before .before .before .before .before .before .before .before .before .loop .inv .1) (attributeOf (rowAt (c .before .before .before .before .before .before .before .before .before .before .before .before .before .before .before .before .before .before .before .args .block .rows) (c .before .before .before .before .before .before .before .before .before .before .before .before .before .before .before .loop .row))) (rowsFrom (c .before .before .before .before .before .before .before .before .before .before .before .before .before .before .before .before .before .before .before .args .block .rows) (c .before .before .before .before .before .before .before .before .before .before .before .before .before .before .before .loop .row + 1) (c .before .before .before .before .before .before .before .before .before .before .before .before .before .before .before .before .before .before .before .args .block .count - (c .before .before .before .before .before .before .before .before .before .before .before .before .before .before .before .loop .row + 1))) (rows-next (c .before .before .before .before .before .before .before .before .before .before .before .before .before .before .before .before .before .before .before .args .block .rows) (c .before .before .before .before .before .before .before .before .before .before .before .before .before .before .loop-test .taken)) (omega (arith, c .before .before .before .before .before .before .before .before .before .before .before .before .before .if1 .left)) (c .before .before .before .before .before .before .before .before .before .before .add-flags .result) (c .before .before .before .before .before .before .before .before .before .before .add-flags .ensures) (c .before .before .before .before .before .write-content .last .1 .1 .1 .0) (c .before .before .before .before .before .write-content .result) (c .before .before .before .before .before .write-content .ensures) (c .before .before .before .before .before .before .before .before .flagged .given .0 .0) (c .before .r .given .0 .0) (c .before .r .given .0 .1 .0) (c .before .before .before .before .before .before .before .before .flagged .given .1) (c .before .r .given .1) (c .before .before .before .before .before .write-content .kept .1 .1 .1 .0))
+loop-again c = (omega (arith, c .before .before .before .before .before .before .before .before .before .before .before .before .before .before .before .loop-test .taken), fill-next (c .before .before .before .before .before .before .before .before .before .before .before .before .before .before .before .before .loop .inv .1) (attributeOf (rowAt (c .before .before .before .before .before .before .before .before .before .before .before .before .before .before .before .before .before .before .before .before .args .block .rows) (c .before .before .before .before .before .before .before .before .before .before .before .before .before .before .before .before .loop .row))) (rowsFrom (c .before .before .before .before .before .before .before .before .before .before .before .before .before .before .before .before .before .before .before .before .args .block .rows) (c .before .before .before .before .before .before .before .before .before .before .before .before .before .before .before .before .loop .row + 1) (c .before .before .before .before .before .before .before .before .before .before .before .before .before .before .before .before .before .before .before .before .args .block .count - (c .before .before .before .before .before .before .before .before .before .before .before .before .before .before .before .before .loop .row + 1))) (rows-next (c .before .before .before .before .before .before .before .before .before .before .before .before .before .before .before .before .before .before .before .before .args .block .rows) (c .before .before .before .before .before .before .before .before .before .before .before .before .before .before .before .loop-test .taken)) (omega (arith, c .before .before .before .before .before .before .before .before .before .before .before .before .before .before .if1 .left)) (c .before .before .before .before .before .before .before .before .before .before .before .add-flags .result) (c .before .before .before .before .before .before .before .before .before .before .before .add-flags .ensures) (c .before .before .before .before .before .before .write-content .last .1 .1 .1 .0) (c .before .before .before .again .result) (rw (c .before .before .before .again .ensures) (c .before .before .before .before .before .before .write-content .ensures)) (c .before .before .before .before .before .before .before .before .before .flagged .given .0 .0) (c .before .put .given .0 .0) (c .before .put .given .0 .1 .0) (c .before .before .before .before .before .before .before .before .before .flagged .given .1) (c .before .put .given .1) (c .before .before .before .before .before .before .write-content .kept .1 .1 .1 .0))
 
 same-length-4 : tie.Need-same-length-4 Inv-loop μ-loop
 same-length-4 c = c .before .loop .inv .1 .size
@@ -106,7 +109,8 @@ write-contents-spec =
     returns-2
     add-write-content
     write-content-requires
-    enum-known-r
+    again-requires
+    enum-known-put
     enum-told-2
     same-length-3
     returns-3

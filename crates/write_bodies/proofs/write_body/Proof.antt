@@ -26,8 +26,8 @@ returns c = let a = c .before .before .before .before .before .before .before .b
 write-items-requires : tie.Need-write-items-requires
 write-items-requires c κs = search needs
 
-enum-known-r : tie.Need-enum-known-r
-enum-known-r c = search needs
+enum-known-written : tie.Need-enum-known-written
+enum-known-written c = search needs
 
 enum-told : tie.Need-enum-told
 enum-told c = search needs
@@ -36,7 +36,7 @@ same-length-2 : tie.Need-same-length-2
 same-length-2 c = search needs
 
 returns-2 : tie.Need-returns-2
-returns-2 c = let a = c .before .before .before .before .before .before .before .before .before .before .before .args in ap (lainAs (c .before .before .before .before .before .write-items .last .1 .1 .1 .0)) (sym (c .before .r .given .1)) ∙ body-fixed (orderOf (a .order)) (now (a .values)) (now (a .out)) (a .at .0) (a .code) (sym (c .before .before .before .before .before .before .before .before .is-block .ensures) ∙ c .before .before .before .before .before .before .before .if1 .left) (c .before .before .before .before .before .write-items .ensures)
+returns-2 c = let a = c .before .before .before .before .before .before .before .before .before .before .before .args in ap (lainAs (c .before .before .before .before .before .write-items .last .1 .1 .1 .0)) (sym (c .before .written .given .1)) ∙ body-fixed (orderOf (a .order)) (now (a .values)) (now (a .out)) (a .at .0) (a .code) (sym (c .before .before .before .before .before .before .before .before .is-block .ensures) ∙ c .before .before .before .before .before .before .before .if1 .left) (c .before .before .before .before .before .write-items .ensures)
 
 same-length-3 : tie.Need-same-length-3
 same-length-3 c = search needs
@@ -54,7 +54,7 @@ write-body-spec =
     same-length
     returns
     write-items-requires
-    enum-known-r
+    enum-known-written
     enum-told
     same-length-2
     returns-2

@@ -3,12 +3,11 @@ use Prim.Native.Nat.{ℕ, _+_, _-_, _*_, _≤_}
 use mathlib.Core.Path.{_≡_, refl, sym, ap, _∙_}
 use native.Mathlib.Omega.{arith}
 use denote.Ref.{now}
-use lib.ListN.{length, getD}
+use lib.ListN.{length}
 use Rattle.format.specs.Bits.{Order, high}
 use Rattle.format.specs.Possible.{this}
 use Rattle.items.specs.Kinds.{formatOf}
-use Rattle.items.specs.declared.Item.the-variants.{U32}
-use Rattle.fixed.specs.Fixed.{inOrder, allItems, itemsFrom}
+use Rattle.fixed.specs.Fixed.{inOrder, itemsFrom}
 use Rattle.fixed.proofs.FixedLaws.{items-more, items-none}
 use Rattle.sink.specs.Lain.{longest}
 use Rattle.sink.specs.Laying.{mk}
@@ -20,19 +19,16 @@ use Rattle.write_fixed.proofs.write_items.Statement.{statement}
 use Rattle.write_fixed.proofs.write_items.Tie as tie
 
 abbrev Inv-loop : tie.InvT-loop
-Inv-loop start end out₀ values from rows byte₀ index₀ row₀ out byte index row = (row ≤ end) × (byte ≤ longest) × (length out ≡ length out₀) × ((o : Order) → ran o values (mk out₀ (8 * byte₀) 0) index₀ (inOrder (itemsFrom row₀ end)) ≡ ran o values (mk out (8 * byte) 0) index (inOrder (itemsFrom row end)))
+Inv-loop start end out₀ values from byte₀ index₀ row₀ out byte index row = (row ≤ end) × (byte ≤ longest) × (length out ≡ length out₀) × ((o : Order) → ran o values (mk out₀ (8 * byte₀) 0) index₀ (inOrder (itemsFrom row₀ end)) ≡ ran o values (mk out (8 * byte) 0) index (inOrder (itemsFrom row end)))
 
 abbrev μ-loop : tie.MeasureT-loop
-μ-loop start end out₀ values from rows byte₀ index₀ row₀ out byte index row = end - row
+μ-loop start end out₀ values from byte₀ index₀ row₀ out byte index row = end - row
 
 loop-holds : tie.Need-loop-holds Inv-loop μ-loop
 loop-holds c = (c .before .before .pre .0, c .before .before .pre .2, refl, λ o. refl)
 
-mul-kind : tie.Need-mul-kind Inv-loop μ-loop
-mul-kind c = search needs
-
-array-copy-out-kind : tie.Need-array-copy-out-kind Inv-loop μ-loop
-array-copy-out-kind c = omega (arith, c .before .before .before .before .pre .1)
+item-at-requires : tie.Need-item-at-requires Inv-loop μ-loop
+item-at-requires c κs = search needs
 
 spell-next-requires : tie.Need-spell-next-requires Inv-loop μ-loop
 spell-next-requires c κs = c .before .before .before .loop .inv .1
@@ -41,10 +37,10 @@ same-length : tie.Need-same-length Inv-loop μ-loop
 same-length c = c .before .before .before .spell-next .kept .1 .0 ∙ c .before .before .before .before .before .before .before .loop .inv .2
 
 returns : tie.Need-returns Inv-loop μ-loop
-returns c = λ o. let l = c .before .before .before .before .before .before .before .loop in next-fell o (getD allItems (l .row) U32) (now (c .before .before .before .before .before .before .before .before .before .before .args .values)) (l .out) (l .byte) (l .index) (c .before .before .before .spell-next .last .1 .0) (c .before .before .before .spell-next .result) (c .before .before .before .spell-next .ensures .0 o) (inOrder (itemsFrom (l .row + 1) (c .before .before .before .before .before .before .before .before .before .before .args .end))) (c .if1 .taken) ∙ sym (l .inv .3 o ∙ ap (ran o (now (c .before .before .before .before .before .before .before .before .before .before .args .values)) (mk (l .out) (8 * l .byte) 0) (l .index)) (items-more (l .row) (c .before .before .before .before .before .before .before .before .before .before .args .end) refl (c .before .before .before .before .before .before .loop-test .taken) (c .before .before .before .before .before .before .before .before .before .before .pre .1)))
+returns c = λ o. let l = c .before .before .before .before .before .before .before .loop in next-fell o (c .before .before .before .before .before .item-at .result) (now (c .before .before .before .before .before .before .before .before .before .before .args .values)) (l .out) (l .byte) (l .index) (c .before .before .before .spell-next .last .1 .0) (c .before .before .before .spell-next .result) (c .before .before .before .spell-next .ensures .0 o) (inOrder (itemsFrom (l .row + 1) (c .before .before .before .before .before .before .before .before .before .before .args .end))) (c .if1 .taken) ∙ sym (l .inv .3 o ∙ ap (ran o (now (c .before .before .before .before .before .before .before .before .before .before .args .values)) (mk (l .out) (8 * l .byte) 0) (l .index)) (items-more (l .row) (c .before .before .before .before .before .before .before .before .before .before .args .end) (c .before .before .before .before .before .item-at .ensures) (c .before .before .before .before .before .before .loop-test .taken) (c .before .before .before .before .before .before .before .before .before .before .pre .1)))
 
 add-index : tie.Need-add-index Inv-loop μ-loop
-add-index c = let l = c .before .before .before .before .before .before .before .loop in omega (arith, next-inside high (getD allItems (l .row) U32) (now (c .before .before .before .before .before .before .before .before .before .before .args .values)) (l .out) (l .byte) (l .index) (c .before .before .before .spell-next .last .1 .0) (c .before .before .before .spell-next .result) (c .before .before .before .spell-next .ensures .0 high) (c .if1 .left))
+add-index c = let l = c .before .before .before .before .before .before .before .loop in omega (arith, next-inside high (c .before .before .before .before .before .item-at .result) (now (c .before .before .before .before .before .before .before .before .before .before .args .values)) (l .out) (l .byte) (l .index) (c .before .before .before .spell-next .last .1 .0) (c .before .before .before .spell-next .result) (c .before .before .before .spell-next .ensures .0 high) (c .if1 .left))
 
 add-row : tie.Need-add-row Inv-loop μ-loop
 add-row c = omega (arith, c .before .before .before .before .before .before .before .before .before .before .pre .1)
@@ -53,7 +49,7 @@ loop-less : tie.Need-loop-less Inv-loop μ-loop
 loop-less c = omega arith
 
 loop-again : tie.Need-loop-again Inv-loop μ-loop
-loop-again c = let l = c .before .before .before .before .before .before .before .loop in (omega arith, c .before .before .before .spell-next .ensures .1, c .before .before .before .spell-next .kept .1 .0 ∙ l .inv .2, λ o. l .inv .3 o ∙ ap (ran o (now (c .before .before .before .before .before .before .before .before .before .before .args .values)) (mk (l .out) (8 * l .byte) 0) (l .index)) (items-more (l .row) (c .before .before .before .before .before .before .before .before .before .before .args .end) refl (c .before .before .before .before .before .before .loop-test .taken) (c .before .before .before .before .before .before .before .before .before .before .pre .1)) ∙ next-on o (getD allItems (l .row) U32) (now (c .before .before .before .before .before .before .before .before .before .before .args .values)) (l .out) (l .byte) (l .index) (c .before .before .before .spell-next .last .1 .0) (c .before .before .before .spell-next .result) (c .before .before .before .spell-next .ensures .0 o) (inOrder (itemsFrom (l .row + 1) (c .before .before .before .before .before .before .before .before .before .before .args .end))) (c .if1 .left))
+loop-again c = let l = c .before .before .before .before .before .before .before .loop in (omega arith, c .before .before .before .spell-next .ensures .1, c .before .before .before .spell-next .kept .1 .0 ∙ l .inv .2, λ o. l .inv .3 o ∙ ap (ran o (now (c .before .before .before .before .before .before .before .before .before .before .args .values)) (mk (l .out) (8 * l .byte) 0) (l .index)) (items-more (l .row) (c .before .before .before .before .before .before .before .before .before .before .args .end) (c .before .before .before .before .before .item-at .ensures) (c .before .before .before .before .before .before .loop-test .taken) (c .before .before .before .before .before .before .before .before .before .before .pre .1)) ∙ next-on o (c .before .before .before .before .before .item-at .result) (now (c .before .before .before .before .before .before .before .before .before .before .args .values)) (l .out) (l .byte) (l .index) (c .before .before .before .spell-next .last .1 .0) (c .before .before .before .spell-next .result) (c .before .before .before .spell-next .ensures .0 o) (inOrder (itemsFrom (l .row + 1) (c .before .before .before .before .before .before .before .before .before .before .args .end))) (c .if1 .left))
 
 first-bit-requires : tie.Need-first-bit-requires Inv-loop μ-loop
 first-bit-requires c κs = omega (arith, c .before .loop .inv .1)
@@ -71,8 +67,7 @@ write-items-spec =
     Inv-loop
     μ-loop
     loop-holds
-    mul-kind
-    array-copy-out-kind
+    item-at-requires
     spell-next-requires
     same-length
     returns

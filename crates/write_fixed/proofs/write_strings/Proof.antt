@@ -23,26 +23,29 @@ loop-holds c = going-none (orderOf (c .before .before .args .order)) (now (c .be
 write-string-requires : tie.Need-write-string-requires Inv-loop μ-loop
 write-string-requires c κs = c .before .before .loop .inv .fine
 
-enum-known-r : tie.Need-enum-known-r Inv-loop μ-loop
-enum-known-r c = search needs
+again-requires : tie.Need-again-requires Inv-loop μ-loop
+again-requires c κs = search needs
+
+enum-known-put : tie.Need-enum-known-put Inv-loop μ-loop
+enum-known-put c = search needs
 
 enum-told : tie.Need-enum-told Inv-loop μ-loop
 enum-told c = search needs
 
 same-length : tie.Need-same-length Inv-loop μ-loop
-same-length c = c .before .before .before .before .write-string .kept .1 .0 ∙ c .before .before .before .before .before .before .before .loop .inv .size
+same-length c = c .before .before .before .before .before .write-string .kept .1 .0 ∙ c .before .before .before .before .before .before .before .before .loop .inv .size
 
 returns : tie.Need-returns Inv-loop μ-loop
-returns c = going-stop (c .before .before .before .before .before .before .before .loop .inv) string (times (c .before .before .before .before .before .before .before .loop .left - 1) string) (times-more string (c .before .before .before .before .before .before .before .loop .left) (c .before .before .before .before .before .before .loop-test .taken)) (c .before .before .before .before .write-string .last .1 .0) (c .before .before .before .before .write-string .result) (c .before .before .before .before .write-string .ensures) (c .enum-told .given .1)
+returns c = going-stop (c .before .before .before .before .before .before .before .before .loop .inv) string (times (c .before .before .before .before .before .before .before .before .loop .left - 1) string) (times-more string (c .before .before .before .before .before .before .before .before .loop .left) (c .before .before .before .before .before .before .before .loop-test .taken)) (c .before .before .before .before .before .write-string .last .1 .0) (c .before .before .again .result) (rw (c .before .before .again .ensures) (c .before .before .before .before .before .write-string .ensures)) (c .enum-told .given .1)
 
 sub-left : tie.Need-sub-left Inv-loop μ-loop
-sub-left c = omega (arith, c .before .before .before .before .before .before .before .loop-test .taken)
+sub-left c = omega (arith, c .before .before .before .before .before .before .before .before .loop-test .taken)
 
 loop-less : tie.Need-loop-less Inv-loop μ-loop
-loop-less c = omega (arith, c .before .before .before .before .before .before .before .loop-test .taken)
+loop-less c = omega (arith, c .before .before .before .before .before .before .before .before .loop-test .taken)
 
 loop-again : tie.Need-loop-again Inv-loop μ-loop
-loop-again c = going-next (c .before .before .before .before .before .before .before .before .loop .inv) string (times (c .before .before .before .before .before .before .before .before .loop .left - 1) string) (times-more string (c .before .before .before .before .before .before .before .before .loop .left) (c .before .before .before .before .before .before .before .loop-test .taken)) (c .before .before .before .before .before .write-string .last .1 .0) (c .before .before .before .before .before .write-string .result) (c .before .before .before .before .before .write-string .ensures) (c .before .before .before .before .before .write-string .kept .1 .0) (c .before .r .given .0 .0) (c .before .r .given .0 .1 .0) (c .before .r .given .1)
+loop-again c = going-next (c .before .before .before .before .before .before .before .before .before .loop .inv) string (times (c .before .before .before .before .before .before .before .before .before .loop .left - 1) string) (times-more string (c .before .before .before .before .before .before .before .before .before .loop .left) (c .before .before .before .before .before .before .before .before .loop-test .taken)) (c .before .before .before .before .before .before .write-string .last .1 .0) (c .before .before .before .again .result) (rw (c .before .before .before .again .ensures) (c .before .before .before .before .before .before .write-string .ensures)) (c .before .before .before .before .before .before .write-string .kept .1 .0) (c .before .put .given .0 .0) (c .before .put .given .0 .1 .0) (c .before .put .given .1)
 
 same-length-2 : tie.Need-same-length-2 Inv-loop μ-loop
 same-length-2 c = c .before .loop .inv .size
@@ -58,7 +61,8 @@ write-strings-spec =
     μ-loop
     loop-holds
     write-string-requires
-    enum-known-r
+    again-requires
+    enum-known-put
     enum-told
     same-length
     returns

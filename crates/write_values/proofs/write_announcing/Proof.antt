@@ -16,8 +16,8 @@ use Rattle.write_values.proofs.write_announcing.Tie as tie
 write-fields-requires : tie.Need-write-fields-requires
 write-fields-requires c κs = search needs
 
-enum-known-r : tie.Need-enum-known-r
-enum-known-r c = search needs
+enum-known-put : tie.Need-enum-known-put
+enum-known-put c = search needs
 
 enum-told : tie.Need-enum-told
 enum-told c = search needs
@@ -30,21 +30,21 @@ returns c = let a = c .before .before .before .before .before .before .before .b
 
 write-scaled-requires : tie.Need-write-scaled-requires
 write-scaled-requires c κs = let a = c .before .before .before .before .before .before .before .before .before .before .args in
-    let h = announces-done (a .kind) (now (a .values)) (a .from) (a .count) (c .before .before .before .before .before .before .write-fields .result .count) (c .before .before .before .before .before .before .write-fields .ensures .1) (c .before .before .r .given .1) in
-    (ran-fine (orderOf (a .order)) (now (a .values)) (now (a .out)) (a .sink) (a .from) (times (a .count) (fieldOf (a .kind) (a .width))) (c .before .before .before .before .before .before .write-fields .last .1 .1 .1 .1 .0) (c .before .before .before .before .before .before .write-fields .result .put) (c .before .before .before .before .before .before .before .before .before .before .pre .0) (c .before .before .before .before .before .before .write-fields .ensures .0) (c .before .before .r .given .0 .0) (c .before .before .r .given .0 .1 .0) (c .before .before .r .given .1), omega (arith, h .1, c .before .before .before .before .before .before .before .before .before .before .pre .3))
+    let h = announces-done (a .kind) (now (a .values)) (a .from) (a .count) (c .before .before .before .before .before .before .write-fields .result .count) (c .before .before .before .before .before .before .write-fields .ensures .1) (c .before .before .put .given .1) in
+    (ran-fine (orderOf (a .order)) (now (a .values)) (now (a .out)) (a .sink) (a .from) (times (a .count) (fieldOf (a .kind) (a .width))) (c .before .before .before .before .before .before .write-fields .last .1 .1 .1 .1 .0) (c .before .before .before .before .before .before .write-fields .result .put) (c .before .before .before .before .before .before .before .before .before .before .pre .0) (c .before .before .before .before .before .before .write-fields .ensures .0) (c .before .before .put .given .0 .0) (c .before .before .put .given .0 .1 .0) (c .before .before .put .given .1), omega (arith, h .1, c .before .before .before .before .before .before .before .before .before .before .pre .3))
 
 same-length-2 : tie.Need-same-length-2
 same-length-2 c = search needs
 
 returns-2 : tie.Need-returns-2
-returns-2 c = let a = c .before .before .before .before .before .before .before .before .before .before .before .before .before .args in announcing-done (orderOf (a .order)) (now (a .values)) (at (now (a .out)) (a .sink)) (a .from) (a .kind) (a .width) (a .count) (c .before .before .before .before .before .before .before .before .before .write-fields .result .count) (c .before .before .before .before .before .before .before .before .before .write-fields .last .1 .1 .1 .1 .0) (c .before .before .before .before .before .before .before .before .before .write-fields .result .put) (c .before .before .before .before .before .before .before .before .before .write-fields .ensures .0) (c .before .before .before .before .before .before .before .before .before .write-fields .ensures .1) (c .before .before .before .before .before .r .given .0 .0) (c .before .before .before .before .before .r .given .0 .1 .0) (c .before .before .before .before .before .r .given .1) (c .before .before .write-scaled .ensures)
+returns-2 c = let a = c .before .before .before .before .before .before .before .before .before .before .before .before .before .args in announcing-done (orderOf (a .order)) (now (a .values)) (at (now (a .out)) (a .sink)) (a .from) (a .kind) (a .width) (a .count) (c .before .before .before .before .before .before .before .before .before .write-fields .result .count) (c .before .before .before .before .before .before .before .before .before .write-fields .last .1 .1 .1 .1 .0) (c .before .before .before .before .before .before .before .before .before .write-fields .result .put) (c .before .before .before .before .before .before .before .before .before .write-fields .ensures .0) (c .before .before .before .before .before .before .before .before .before .write-fields .ensures .1) (c .before .before .before .before .before .put .given .0 .0) (c .before .before .before .before .before .put .given .0 .1 .0) (c .before .before .before .before .before .put .given .1) (c .before .before .write-scaled .ensures)
 
 pub write-announcing-spec : {M : Type 1} → statement M
 write-announcing-spec =
     tie.close
     (tie.spec
     write-fields-requires
-    enum-known-r
+    enum-known-put
     enum-told
     same-length
     returns

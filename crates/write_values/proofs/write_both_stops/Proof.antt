@@ -12,8 +12,8 @@ use Rattle.write_values.proofs.write_both_stops.Tie as tie
 write-stops-requires : tie.Need-write-stops-requires
 write-stops-requires c κs = search needs
 
-enum-known-r : tie.Need-enum-known-r
-enum-known-r c = search needs
+enum-known-put : tie.Need-enum-known-put
+enum-known-put c = search needs
 
 enum-told : tie.Need-enum-told
 enum-told c = search needs
@@ -25,20 +25,20 @@ returns : tie.Need-returns
 returns c = let a = c .before .before .before .before .before .before .before .before .args in then-off (orderOf (a .order)) (now (a .values)) (at (now (a .out)) (a .sink)) (a .from) (times (a .alphas) (stopOf 1)) (λ xs. times (a .colors) (stopOf 3)) (c .before .before .before .before .write-stops .last .1 .1 .1 .0) (c .before .before .before .before .write-stops .result) (c .before .before .before .before .write-stops .ensures) (c .enum-told .given .1)
 
 write-stops-requires-2 : tie.Need-write-stops-requires-2
-write-stops-requires-2 c κs = let a = c .before .before .before .before .before .before .before .before .before .before .args in ran-fine (orderOf (a .order)) (now (a .values)) (now (a .out)) (a .sink) (a .from) (times (a .alphas) (stopOf 1)) (c .before .before .before .before .before .before .write-stops .last .1 .1 .1 .0) (c .before .before .before .before .before .before .write-stops .result) (c .before .before .before .before .before .before .before .before .before .before .pre) (c .before .before .before .before .before .before .write-stops .ensures) (c .before .before .r .given .0 .0) (c .before .before .r .given .0 .1 .0) (c .before .before .r .given .1)
+write-stops-requires-2 c κs = let a = c .before .before .before .before .before .before .before .before .before .before .args in ran-fine (orderOf (a .order)) (now (a .values)) (now (a .out)) (a .sink) (a .from) (times (a .alphas) (stopOf 1)) (c .before .before .before .before .before .before .write-stops .last .1 .1 .1 .0) (c .before .before .before .before .before .before .write-stops .result) (c .before .before .before .before .before .before .before .before .before .before .pre) (c .before .before .before .before .before .before .write-stops .ensures) (c .before .before .put .given .0 .0) (c .before .before .put .given .0 .1 .0) (c .before .before .put .given .1)
 
 same-length-2 : tie.Need-same-length-2
 same-length-2 c = search needs
 
 returns-2 : tie.Need-returns-2
-returns-2 c = let a = c .before .before .before .before .before .before .before .before .before .before .before .before .before .args in then-on (orderOf (a .order)) (now (a .values)) (at (now (a .out)) (a .sink)) (a .from) (times (a .alphas) (stopOf 1)) (λ xs. times (a .colors) (stopOf 3)) (c .before .before .before .before .before .before .before .before .before .write-stops .last .1 .1 .1 .0) (c .before .before .before .before .before .before .before .before .before .write-stops .result) (c .before .before .before .before .before .before .before .before .before .write-stops .ensures) (c .before .before .before .before .before .r .given .0 .0) (c .before .before .before .before .before .r .given .0 .1 .0) (c .before .before .before .before .before .r .given .1) (c .before .before .write-stops2 .ensures)
+returns-2 c = let a = c .before .before .before .before .before .before .before .before .before .before .before .before .before .args in then-on (orderOf (a .order)) (now (a .values)) (at (now (a .out)) (a .sink)) (a .from) (times (a .alphas) (stopOf 1)) (λ xs. times (a .colors) (stopOf 3)) (c .before .before .before .before .before .before .before .before .before .write-stops .last .1 .1 .1 .0) (c .before .before .before .before .before .before .before .before .before .write-stops .result) (c .before .before .before .before .before .before .before .before .before .write-stops .ensures) (c .before .before .before .before .before .put .given .0 .0) (c .before .before .before .before .before .put .given .0 .1 .0) (c .before .before .before .before .before .put .given .1) (c .before .before .write-stops2 .ensures)
 
 pub write-both-stops-spec : {M : Type 1} → statement M
 write-both-stops-spec =
     tie.close
     (tie.spec
     write-stops-requires
-    enum-known-r
+    enum-known-put
     enum-told
     same-length
     returns

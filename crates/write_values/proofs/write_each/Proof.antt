@@ -24,8 +24,8 @@ loop-holds c = going-none (orderOf (c .before .before .args .order)) (now (c .be
 write-value-requires : tie.Need-write-value-requires Inv-loop μ-loop
 write-value-requires c κs = c .before .before .loop .inv .fine
 
-enum-known-r : tie.Need-enum-known-r Inv-loop μ-loop
-enum-known-r c = search needs
+enum-known-put : tie.Need-enum-known-put Inv-loop μ-loop
+enum-known-put c = search needs
 
 enum-told : tie.Need-enum-told Inv-loop μ-loop
 enum-told c = search needs
@@ -43,7 +43,7 @@ loop-less : tie.Need-loop-less Inv-loop μ-loop
 loop-less c = omega (arith, c .before .before .before .before .before .before .before .loop-test .taken)
 
 loop-again : tie.Need-loop-again Inv-loop μ-loop
-loop-again c = going-next (c .before .before .before .before .before .before .before .before .loop .inv) (value (typeOf (c .before .before .before .before .before .before .before .before .before .before .before .args .what))) (times (c .before .before .before .before .before .before .before .before .loop .left - 1) (value (typeOf (c .before .before .before .before .before .before .before .before .before .before .before .args .what)))) (times-more (value (typeOf (c .before .before .before .before .before .before .before .before .before .before .before .args .what))) (c .before .before .before .before .before .before .before .before .loop .left) (c .before .before .before .before .before .before .before .loop-test .taken)) (c .before .before .before .before .before .write-value .last .1 .1 .0) (c .before .before .before .before .before .write-value .result) (c .before .before .before .before .before .write-value .ensures) (c .before .before .before .before .before .write-value .kept .1 .1 .0) (c .before .r .given .0 .0) (c .before .r .given .0 .1 .0) (c .before .r .given .1)
+loop-again c = going-next (c .before .before .before .before .before .before .before .before .loop .inv) (value (typeOf (c .before .before .before .before .before .before .before .before .before .before .before .args .what))) (times (c .before .before .before .before .before .before .before .before .loop .left - 1) (value (typeOf (c .before .before .before .before .before .before .before .before .before .before .before .args .what)))) (times-more (value (typeOf (c .before .before .before .before .before .before .before .before .before .before .before .args .what))) (c .before .before .before .before .before .before .before .before .loop .left) (c .before .before .before .before .before .before .before .loop-test .taken)) (c .before .before .before .before .before .write-value .last .1 .1 .0) (c .before .before .before .before .before .write-value .result) (c .before .before .before .before .before .write-value .ensures) (c .before .before .before .before .before .write-value .kept .1 .1 .0) (c .before .put .given .0 .0) (c .before .put .given .0 .1 .0) (c .before .put .given .1)
 
 same-length-2 : tie.Need-same-length-2 Inv-loop μ-loop
 same-length-2 c = c .before .loop .inv .size
@@ -59,7 +59,7 @@ write-each-spec =
     μ-loop
     loop-holds
     write-value-requires
-    enum-known-r
+    enum-known-put
     enum-told
     same-length
     returns

@@ -8,7 +8,7 @@ use Rattle.write_values.proofs.write_in_turn.Statement.{statement}
 use Rattle.write_values.proofs.write_in_turn.Tie as tie
 use Rattle.write_values.proofs.write_in_turn.Reads as reads
 use Rattle.write_values.proofs.write_in_turn.Lts as lts
-use Rattle.spelling.proofs.in_turn.write_floats.Reads as write-floats-reads
+use Rattle.spelling.proofs.in_turn.write_items.Reads as write-items-reads
 use Rattle.write_values.proofs.write_each.Reads as write-each-reads
 
 -- src/lib.rt:345:74
@@ -16,20 +16,20 @@ enum-told : tie.Need-enum-told
 enum-told c = search needs
 
 -- src/lib.rt:345:28
-write-floats-requires : tie.Need-write-floats-requires
-write-floats-requires c κs = search needs
+write-items-requires : tie.Need-write-items-requires
+write-items-requires c κs = search needs
 
 -- src/lib.rt:348:13
 enum-told-2 : tie.Need-enum-told-2
 enum-told-2 c = search needs
 
 -- src/lib.rt:348:13
-mul-write-floats : tie.Need-mul-write-floats
-mul-write-floats c = search needs
+mul-write-items : tie.Need-mul-write-items
+mul-write-items c = search needs
 
 -- src/lib.rt:346:28
-write-floats-requires-2 : tie.Need-write-floats-requires-2
-write-floats-requires-2 c κs = search needs
+write-items-requires-2 : tie.Need-write-items-requires-2
+write-items-requires-2 c κs = search needs
 
 -- src/lib.rt:354:14
 write-each-requires : tie.Need-write-each-requires
@@ -41,7 +41,7 @@ same-length c = search needs
 
 -- src/lib.rt:332:1
 returns : tie.Need-returns
-returns c = let a = c .before .before .before .before .before .before .before .before .args in in-turn-of (orderOf (a .order)) (now (a .values)) (at (now (a .out)) (a .sink)) (a .from) (a .count) Float (c .before .before .before .before .enum-told .given .1) (c .before .before .write-floats .ensures)
+returns c = let a = c .before .before .before .before .before .before .before .before .args in in-turn-of (orderOf (a .order)) (now (a .values)) (at (now (a .out)) (a .sink)) (a .from) (a .count) Float (c .before .before .before .before .enum-told .given .1) (c .before .before .write-items .ensures)
 
 -- src/lib.rt:332:1
 same-length-2 : tie.Need-same-length-2
@@ -49,7 +49,7 @@ same-length-2 c = search needs
 
 -- src/lib.rt:332:1
 returns-2 : tie.Need-returns-2
-returns-2 c = let a = c .before .before .before .before .before .before .before .before .args in in-turn-of (orderOf (a .order)) (now (a .values)) (at (now (a .out)) (a .sink)) (a .from) (a .count) Point (c .before .before .before .before .enum-told2 .given .1) (points-are (orderOf (a .order)) (now (a .values)) (at (now (a .out)) (a .sink)) (a .from) (a .count) (c .before .before .write-floats2 .ensures))
+returns-2 c = let a = c .before .before .before .before .before .before .before .before .args in in-turn-of (orderOf (a .order)) (now (a .values)) (at (now (a .out)) (a .sink)) (a .from) (a .count) Point (c .before .before .before .before .enum-told2 .given .1) (points-are (orderOf (a .order)) (now (a .values)) (at (now (a .out)) (a .sink)) (a .from) (a .count) (c .before .before .write-items2 .ensures))
 
 -- src/lib.rt:332:1
 same-length-3 : tie.Need-same-length-3
@@ -64,10 +64,10 @@ write-in-turn-spec =
     tie.close
     (tie.spec
     enum-told
-    write-floats-requires
+    write-items-requires
     enum-told-2
-    mul-write-floats
-    write-floats-requires-2
+    mul-write-items
+    write-items-requires-2
     write-each-requires
     same-length
     returns

@@ -16,8 +16,8 @@ use Rattle.write_values.proofs.write_offset_flag.Tie as tie
 write-fields-requires : tie.Need-write-fields-requires
 write-fields-requires c κs = search needs
 
-enum-known-r : tie.Need-enum-known-r
-enum-known-r c = search needs
+enum-known-put : tie.Need-enum-known-put
+enum-known-put c = search needs
 
 enum-told : tie.Need-enum-told
 enum-told c = search needs
@@ -29,26 +29,26 @@ returns : tie.Need-returns
 returns c = let a = c .before .before .before .before .before .before .before .before .args in exist-stop (orderOf (a .order)) (now (a .values)) (at (now (a .out)) (a .sink)) (a .from) (c .before .before .before .before .write-fields .last .1 .1 .1 .1 .0) (c .before .before .before .before .write-fields .result .put) (c .before .before .before .before .write-fields .ensures .0) (c .enum-told .given .1)
 
 mul-write-fields : tie.Need-mul-write-fields
-mul-write-fields c = let a = c .before .before .before .before .before .before .before .before .before .args in let h = exist-inside (orderOf (a .order)) (now (a .values)) (at (now (a .out)) (a .sink)) (a .from) (c .before .before .before .before .before .write-fields .last .1 .1 .1 .1 .0) (c .before .before .before .before .before .write-fields .result .put) (c .before .before .before .before .before .write-fields .ensures .0) (c .before .r .given .0 .0) (c .before .r .given .0 .1 .0) (c .before .r .given .1) in omega (arith, h)
+mul-write-fields c = let a = c .before .before .before .before .before .before .before .before .before .args in let h = exist-inside (orderOf (a .order)) (now (a .values)) (at (now (a .out)) (a .sink)) (a .from) (c .before .before .before .before .before .write-fields .last .1 .1 .1 .1 .0) (c .before .before .before .before .before .write-fields .result .put) (c .before .before .before .before .before .write-fields .ensures .0) (c .before .put .given .0 .0) (c .before .put .given .0 .1 .0) (c .before .put .given .1) in omega (arith, h)
 
 shared-slice-read-write-fields : tie.Need-shared-slice-read-write-fields
-shared-slice-read-write-fields c = let a = c .before .before .before .before .before .before .before .before .before .before .args in exist-inside (orderOf (a .order)) (now (a .values)) (at (now (a .out)) (a .sink)) (a .from) (c .before .before .before .before .before .before .write-fields .last .1 .1 .1 .1 .0) (c .before .before .before .before .before .before .write-fields .result .put) (c .before .before .before .before .before .before .write-fields .ensures .0) (c .before .before .r .given .0 .0) (c .before .before .r .given .0 .1 .0) (c .before .before .r .given .1)
+shared-slice-read-write-fields c = let a = c .before .before .before .before .before .before .before .before .before .before .args in exist-inside (orderOf (a .order)) (now (a .values)) (at (now (a .out)) (a .sink)) (a .from) (c .before .before .before .before .before .before .write-fields .last .1 .1 .1 .1 .0) (c .before .before .before .before .before .before .write-fields .result .put) (c .before .before .before .before .before .before .write-fields .ensures .0) (c .before .before .put .given .0 .0) (c .before .before .put .given .0 .1 .0) (c .before .before .put .given .1)
 
 write-fields-requires-2 : tie.Need-write-fields-requires-2
-write-fields-requires-2 c κs = let a = c .before .before .before .before .before .before .before .before .before .before .before .args in (ran-fine (orderOf (a .order)) (now (a .values)) (now (a .out)) (a .sink) (a .from) (times 1 (fieldOf Plain 1)) (c .before .before .before .before .before .before .before .write-fields .last .1 .1 .1 .1 .0) (c .before .before .before .before .before .before .before .write-fields .result .put) (c .before .before .before .before .before .before .before .before .before .before .before .pre) (c .before .before .before .before .before .before .before .write-fields .ensures .0) (c .before .before .before .r .given .0 .0) (c .before .before .before .r .given .0 .1 .0) (c .before .before .before .r .given .1), lit≤ tt, lit≤ tt, omega (arith, exist-most (orderOf (a .order)) (now (a .values)) (at (now (a .out)) (a .sink)) (a .from) (c .before .before .before .before .before .before .before .write-fields .last .1 .1 .1 .1 .0) (c .before .before .before .before .before .before .before .write-fields .result .put) (c .before .before .before .before .before .before .before .write-fields .ensures .0) (c .before .before .before .r .given .0 .0) (c .before .before .before .r .given .0 .1 .0) (c .before .before .before .r .given .1)))
+write-fields-requires-2 c κs = let a = c .before .before .before .before .before .before .before .before .before .before .before .args in (ran-fine (orderOf (a .order)) (now (a .values)) (now (a .out)) (a .sink) (a .from) (times 1 (fieldOf Plain 1)) (c .before .before .before .before .before .before .before .write-fields .last .1 .1 .1 .1 .0) (c .before .before .before .before .before .before .before .write-fields .result .put) (c .before .before .before .before .before .before .before .before .before .before .before .pre) (c .before .before .before .before .before .before .before .write-fields .ensures .0) (c .before .before .before .put .given .0 .0) (c .before .before .before .put .given .0 .1 .0) (c .before .before .before .put .given .1), lit≤ tt, lit≤ tt, omega (arith, exist-most (orderOf (a .order)) (now (a .values)) (at (now (a .out)) (a .sink)) (a .from) (c .before .before .before .before .before .before .before .write-fields .last .1 .1 .1 .1 .0) (c .before .before .before .before .before .before .before .write-fields .result .put) (c .before .before .before .before .before .before .before .write-fields .ensures .0) (c .before .before .before .put .given .0 .0) (c .before .before .before .put .given .0 .1 .0) (c .before .before .before .put .given .1)))
 
 same-length-2 : tie.Need-same-length-2
 same-length-2 c = search needs
 
 returns-2 : tie.Need-returns-2
-returns-2 c = let a = c .before .before .before .before .before .before .before .before .before .before .before .before .before .before .args in exist-on (orderOf (a .order)) (now (a .values)) (at (now (a .out)) (a .sink)) (a .from) (c .before .before .before .before .before .before .before .before .before .before .write-fields .last .1 .1 .1 .1 .0) (c .before .before .before .before .before .before .before .before .before .before .write-fields .result .put) (c .before .before .before .before .before .before .before .before .before .before .write-fields .ensures .0) (c .before .before .before .before .before .before .r .given .0 .0) (c .before .before .before .before .before .before .r .given .0 .1 .0) (c .before .before .before .before .before .before .r .given .1) (c .before .before .write-fields2 .ensures .0)
+returns-2 c = let a = c .before .before .before .before .before .before .before .before .before .before .before .before .before .before .args in exist-on (orderOf (a .order)) (now (a .values)) (at (now (a .out)) (a .sink)) (a .from) (c .before .before .before .before .before .before .before .before .before .before .write-fields .last .1 .1 .1 .1 .0) (c .before .before .before .before .before .before .before .before .before .before .write-fields .result .put) (c .before .before .before .before .before .before .before .before .before .before .write-fields .ensures .0) (c .before .before .before .before .before .before .put .given .0 .0) (c .before .before .before .before .before .before .put .given .0 .1 .0) (c .before .before .before .before .before .before .put .given .1) (c .before .before .write-fields2 .ensures .0)
 
 pub write-offset-flag-spec : {M : Type 1} → statement M
 write-offset-flag-spec =
     tie.close
     (tie.spec
     write-fields-requires
-    enum-known-r
+    enum-known-put
     enum-told
     same-length
     returns

@@ -18,8 +18,8 @@ use Rattle.write_values.proofs.write_path.Tie as tie
 write-one-requires : tie.Need-write-one-requires
 write-one-requires c κs = search needs
 
-enum-known-r : tie.Need-enum-known-r
-enum-known-r c = search needs
+enum-known-put : tie.Need-enum-known-put
+enum-known-put c = search needs
 
 enum-told : tie.Need-enum-told
 enum-told c = search needs
@@ -31,26 +31,26 @@ returns : tie.Need-returns
 returns c = let a = c .before .before .before .before .before .before .before .before .args in path-of (orderOf (a .order)) (now (a .values)) (at (now (a .out)) (a .sink)) (a .from) (counted-stop (orderOf (a .order)) 0 (announcing Verb 3) (now (a .values)) (at (now (a .out)) (a .sink)) (a .from) (c .before .before .before .before .write-one .last .1 .1 .0) (c .before .before .before .before .write-one .result) (c .before .before .before .before .write-one .ensures) (c .enum-told .given .1))
 
 mul-write-announcing : tie.Need-mul-write-announcing
-mul-write-announcing c = let a = c .before .before .before .before .before .before .before .before .before .args in let h = counted-inside (orderOf (a .order)) 0 (announcing Verb 3) (now (a .values)) (at (now (a .out)) (a .sink)) (a .from) (c .before .before .before .before .before .write-one .last .1 .1 .0) (c .before .before .before .before .before .write-one .result) (c .before .before .before .before .before .write-one .ensures) (c .before .r .given .0 .0) (c .before .r .given .0 .1 .0) (c .before .r .given .1) in omega (arith, h)
+mul-write-announcing c = let a = c .before .before .before .before .before .before .before .before .before .args in let h = counted-inside (orderOf (a .order)) 0 (announcing Verb 3) (now (a .values)) (at (now (a .out)) (a .sink)) (a .from) (c .before .before .before .before .before .write-one .last .1 .1 .0) (c .before .before .before .before .before .write-one .result) (c .before .before .before .before .before .write-one .ensures) (c .before .put .given .0 .0) (c .before .put .given .0 .1 .0) (c .before .put .given .1) in omega (arith, h)
 
 shared-slice-read-write-announcing : tie.Need-shared-slice-read-write-announcing
-shared-slice-read-write-announcing c = let a = c .before .before .before .before .before .before .before .before .before .before .args in counted-inside (orderOf (a .order)) 0 (announcing Verb 3) (now (a .values)) (at (now (a .out)) (a .sink)) (a .from) (c .before .before .before .before .before .before .write-one .last .1 .1 .0) (c .before .before .before .before .before .before .write-one .result) (c .before .before .before .before .before .before .write-one .ensures) (c .before .before .r .given .0 .0) (c .before .before .r .given .0 .1 .0) (c .before .before .r .given .1)
+shared-slice-read-write-announcing c = let a = c .before .before .before .before .before .before .before .before .before .before .args in counted-inside (orderOf (a .order)) 0 (announcing Verb 3) (now (a .values)) (at (now (a .out)) (a .sink)) (a .from) (c .before .before .before .before .before .before .write-one .last .1 .1 .0) (c .before .before .before .before .before .before .write-one .result) (c .before .before .before .before .before .before .write-one .ensures) (c .before .before .put .given .0 .0) (c .before .before .put .given .0 .1 .0) (c .before .before .put .given .1)
 
 write-announcing-requires : tie.Need-write-announcing-requires
-write-announcing-requires c κs = let a = c .before .before .before .before .before .before .before .before .before .before .before .args in (ran-fine (orderOf (a .order)) (now (a .values)) (now (a .out)) (a .sink) (a .from) (formatOf (Count 0)) (c .before .before .before .before .before .before .before .write-one .last .1 .1 .0) (c .before .before .before .before .before .before .before .write-one .result) (c .before .before .before .before .before .before .before .before .before .before .before .pre) (c .before .before .before .before .before .before .before .write-one .ensures) (c .before .before .before .r .given .0 .0) (c .before .before .before .r .given .0 .1 .0) (c .before .before .before .r .given .1), lit≤ tt, lit≤ tt, omega (arith, counted-most (orderOf (a .order)) 0 (announcing Verb 3) (now (a .values)) (at (now (a .out)) (a .sink)) (a .from) (c .before .before .before .before .before .before .before .write-one .last .1 .1 .0) (c .before .before .before .before .before .before .before .write-one .result) (c .before .before .before .before .before .before .before .write-one .ensures) (c .before .before .before .r .given .0 .0) (c .before .before .before .r .given .0 .1 .0) (c .before .before .before .r .given .1)))
+write-announcing-requires c κs = let a = c .before .before .before .before .before .before .before .before .before .before .before .args in (ran-fine (orderOf (a .order)) (now (a .values)) (now (a .out)) (a .sink) (a .from) (formatOf (Count 0)) (c .before .before .before .before .before .before .before .write-one .last .1 .1 .0) (c .before .before .before .before .before .before .before .write-one .result) (c .before .before .before .before .before .before .before .before .before .before .before .pre) (c .before .before .before .before .before .before .before .write-one .ensures) (c .before .before .before .put .given .0 .0) (c .before .before .before .put .given .0 .1 .0) (c .before .before .before .put .given .1), lit≤ tt, lit≤ tt, omega (arith, counted-most (orderOf (a .order)) 0 (announcing Verb 3) (now (a .values)) (at (now (a .out)) (a .sink)) (a .from) (c .before .before .before .before .before .before .before .write-one .last .1 .1 .0) (c .before .before .before .before .before .before .before .write-one .result) (c .before .before .before .before .before .before .before .write-one .ensures) (c .before .before .before .put .given .0 .0) (c .before .before .before .put .given .0 .1 .0) (c .before .before .before .put .given .1)))
 
 same-length-2 : tie.Need-same-length-2
 same-length-2 c = search needs
 
 returns-2 : tie.Need-returns-2
-returns-2 c = let a = c .before .before .before .before .before .before .before .before .before .before .before .before .before .before .args in path-of (orderOf (a .order)) (now (a .values)) (at (now (a .out)) (a .sink)) (a .from) (counted-on (orderOf (a .order)) 0 (announcing Verb 3) (now (a .values)) (at (now (a .out)) (a .sink)) (a .from) (c .before .before .before .before .before .before .before .before .before .before .write-one .last .1 .1 .0) (c .before .before .before .before .before .before .before .before .before .before .write-one .result) (c .before .before .before .before .before .before .before .before .before .before .write-one .ensures) (c .before .before .before .before .before .before .r .given .0 .0) (c .before .before .before .before .before .before .r .given .0 .1 .0) (c .before .before .before .before .before .before .r .given .1) (c .before .before .write-announcing .ensures))
+returns-2 c = let a = c .before .before .before .before .before .before .before .before .before .before .before .before .before .before .args in path-of (orderOf (a .order)) (now (a .values)) (at (now (a .out)) (a .sink)) (a .from) (counted-on (orderOf (a .order)) 0 (announcing Verb 3) (now (a .values)) (at (now (a .out)) (a .sink)) (a .from) (c .before .before .before .before .before .before .before .before .before .before .write-one .last .1 .1 .0) (c .before .before .before .before .before .before .before .before .before .before .write-one .result) (c .before .before .before .before .before .before .before .before .before .before .write-one .ensures) (c .before .before .before .before .before .before .put .given .0 .0) (c .before .before .before .before .before .before .put .given .0 .1 .0) (c .before .before .before .before .before .before .put .given .1) (c .before .before .write-announcing .ensures))
 
 pub write-path-spec : {M : Type 1} → statement M
 write-path-spec =
     tie.close
     (tie.spec
     write-one-requires
-    enum-known-r
+    enum-known-put
     enum-told
     same-length
     returns

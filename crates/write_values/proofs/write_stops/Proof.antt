@@ -23,8 +23,8 @@ loop-holds c = let a = c .before .before .args in going-none (orderOf (a .order)
 write-stop-requires : tie.Need-write-stop-requires Inv-loop μ-loop
 write-stop-requires c κs = c .before .before .loop .inv .fine
 
-enum-known-r : tie.Need-enum-known-r Inv-loop μ-loop
-enum-known-r c = search needs
+enum-known-put : tie.Need-enum-known-put Inv-loop μ-loop
+enum-known-put c = search needs
 
 enum-told : tie.Need-enum-told Inv-loop μ-loop
 enum-told c = search needs
@@ -42,7 +42,7 @@ loop-less : tie.Need-loop-less Inv-loop μ-loop
 loop-less c = omega (arith, c .before .before .before .before .before .before .before .loop-test .taken)
 
 loop-again : tie.Need-loop-again Inv-loop μ-loop
-loop-again c = going-next (c .before .before .before .before .before .before .before .before .loop .inv) (stopOf (c .before .before .before .before .before .before .before .before .before .before .before .args .bytes)) (times (c .before .before .before .before .before .before .before .before .loop .left - 1) (stopOf (c .before .before .before .before .before .before .before .before .before .before .before .args .bytes))) (times-more (stopOf (c .before .before .before .before .before .before .before .before .before .before .before .args .bytes)) (c .before .before .before .before .before .before .before .before .loop .left) (c .before .before .before .before .before .before .before .loop-test .taken)) (c .before .before .before .before .before .write-stop .last .1 .1 .0) (c .before .before .before .before .before .write-stop .result) (c .before .before .before .before .before .write-stop .ensures) (c .before .before .before .before .before .write-stop .kept .1 .1 .0) (c .before .r .given .0 .0) (c .before .r .given .0 .1 .0) (c .before .r .given .1)
+loop-again c = going-next (c .before .before .before .before .before .before .before .before .loop .inv) (stopOf (c .before .before .before .before .before .before .before .before .before .before .before .args .bytes)) (times (c .before .before .before .before .before .before .before .before .loop .left - 1) (stopOf (c .before .before .before .before .before .before .before .before .before .before .before .args .bytes))) (times-more (stopOf (c .before .before .before .before .before .before .before .before .before .before .before .args .bytes)) (c .before .before .before .before .before .before .before .before .loop .left) (c .before .before .before .before .before .before .before .loop-test .taken)) (c .before .before .before .before .before .write-stop .last .1 .1 .0) (c .before .before .before .before .before .write-stop .result) (c .before .before .before .before .before .write-stop .ensures) (c .before .before .before .before .before .write-stop .kept .1 .1 .0) (c .before .put .given .0 .0) (c .before .put .given .0 .1 .0) (c .before .put .given .1)
 
 same-length-2 : tie.Need-same-length-2 Inv-loop μ-loop
 same-length-2 c = c .before .loop .inv .size
@@ -58,7 +58,7 @@ write-stops-spec =
     μ-loop
     loop-holds
     write-stop-requires
-    enum-known-r
+    enum-known-put
     enum-told
     same-length
     returns

@@ -16,52 +16,43 @@ use Rattle.bodies.proofs.blocks.read_block.Lts as lts
 use Rattle.attributes.proofs.read_flags.Reads as read-flags-reads
 use Rattle.bodies.proofs.blocks.read_contents.Reads as read-contents-reads
 
--- src/blocks.rt:117:9
 read-flags-requires : tie.Need-read-flags-requires
 read-flags-requires c κs = search needs
 
--- src/blocks.rt:119:19
-enum-known-r : tie.Need-enum-known-r
-enum-known-r c = search needs
+enum-known-run : tie.Need-enum-known-run
+enum-known-run c = search needs
 
--- src/blocks.rt:119:31
 read-contents-requires : tie.Need-read-contents-requires
 read-contents-requires c κs = let a = c .before .before .before .before .before .before .before .before .before .before .before .before .args in (
   c .before .before .before .before .before .before .before .before .before .before .before .before .pre .0,
-  omega (arith, c .before .before .before .before .before .before .before .before .before .before .before .before .pre .1, c .before .before .before .before .before .before .before .read-flags .kept .1 .1 .1 .1 .0),
-  flags-fit (orderOf (a .order)) (now (a .body)) (rowsFrom (a .block .rows) 0 (a .block .count)) (flags-read (orderOf (a .order)) (a .block .rows) (a .block .count) (now (a .body)) (now (a .flags)) (a .at .0) (omega (arith, c .before .before .before .before .before .before .before .before .before .before .before .before .pre .0, c .before .before .before .before .before .before .before .before .before .before .before .before .pre .1)) (ap (runLeaves _) (sym (c .before .before .before .r .given .1)) ∙ c .before .before .before .before .before .before .before .read-flags .ensures)) (c .before .before .before .before .before .before .before .before .before .before .before .before .pre .2),
+  omega (arith, c .before .before .before .before .before .before .before .before .before .before .before .before .pre .1, c .before .before .before .before .before .before .before .read-flags .kept .1 .1 .1 .0),
+  flags-fit (orderOf (a .order)) (now (a .body)) (rowsFrom (a .block .rows) 0 (a .block .count)) (flags-read (orderOf (a .order)) (a .block .rows) (a .block .count) (now (a .body)) (now (a .flags)) 0 (omega (arith, c .before .before .before .before .before .before .before .before .before .before .before .before .pre .0, c .before .before .before .before .before .before .before .before .before .before .before .before .pre .1)) (ap (runLeaves _) (sym (c .before .before .before .run .given .1)) ∙ c .before .before .before .before .before .before .before .read-flags .ensures)) (c .before .before .before .before .before .before .before .before .before .before .before .before .pre .2),
 )
 
--- src/blocks.rt:120:19
-enum-known-r-2 : tie.Need-enum-known-r-2
-enum-known-r-2 c = search needs
+enum-known-run-2 : tie.Need-enum-known-run-2
+enum-known-run-2 c = search needs
 
--- src/blocks.rt:105:1
 same-length : tie.Need-same-length
 same-length c = search needs
 
--- src/blocks.rt:105:1
 same-length-2 : tie.Need-same-length-2
 same-length-2 c = search needs
 
--- src/blocks.rt:105:1
 returns : tie.Need-returns
 returns c = let a = c .before .before .before .before .before .before .before .before .before .before .before .before .before .before .before .args in (
-  block-rows (orderOf (a .order)) (now (a .body)) (now (a .table)) (a .from) (a .at .0) (rowsFrom (a .block .rows) 0 (a .block .count))
-      (flags-read (orderOf (a .order)) (a .block .rows) (a .block .count) (now (a .body)) (now (a .flags)) (a .at .0) (omega (arith, c .before .before .before .before .before .before .before .before .before .before .before .before .before .before .before .pre .0, c .before .before .before .before .before .before .before .before .before .before .before .before .before .before .before .pre .1)) (ap (runLeaves _) (sym (c .before .before .before .before .before .before .r .given .1)) ∙ c .before .before .before .before .before .before .before .before .before .before .read-flags .ensures)) (c .before .before .read-contents .ensures),
-  flags-left (now (a .flags)) (run (orderOf (a .order)) (now (a .body)) (allFlags (rowsFrom (a .block .rows) 0 (a .block .count))) (a .at .0)) (c .before .before .before .before .before .before .before .before .before .before .read-flags .ensures),
+  block-rows (orderOf (a .order)) (now (a .body)) (now (a .table)) (a .from) 0 (rowsFrom (a .block .rows) 0 (a .block .count))
+      (flags-read (orderOf (a .order)) (a .block .rows) (a .block .count) (now (a .body)) (now (a .flags)) 0 (omega (arith, c .before .before .before .before .before .before .before .before .before .before .before .before .before .before .before .pre .0, c .before .before .before .before .before .before .before .before .before .before .before .before .before .before .before .pre .1)) (ap (runLeaves _) (sym (c .before .before .before .before .before .before .run .given .1)) ∙ c .before .before .before .before .before .before .before .before .before .before .read-flags .ensures)) (c .before .before .read-contents .ensures),
+  flags-left (now (a .flags)) (run (orderOf (a .order)) (now (a .body)) (allFlags (rowsFrom (a .block .rows) 0 (a .block .count))) 0) (c .before .before .before .before .before .before .before .before .before .before .read-flags .ensures),
 )
 
--- src/blocks.rt:105:1
 same-length-3 : tie.Need-same-length-3
 same-length-3 c = search needs
 
--- src/blocks.rt:105:1
 returns-2 : tie.Need-returns-2
 returns-2 c = let a = c .before .before .before .before .before .before .before .before .before .before .args in (
-  block-stop (orderOf (a .order)) (now (a .body)) (now (a .table)) (a .from) (a .at .0) (rowsFrom (a .block .rows) 0 (a .block .count))
-      (ended-is (now (a .flags)) 0 (run (orderOf (a .order)) (now (a .body)) (allFlags (rowsFrom (a .block .rows) 0 (a .block .count))) (a .at .0)) (ap (runLeaves _) (sym (c .before .r2 .given .1)) ∙ c .before .before .before .before .before .read-flags .ensures)),
-  flags-left (now (a .flags)) (run (orderOf (a .order)) (now (a .body)) (allFlags (rowsFrom (a .block .rows) 0 (a .block .count))) (a .at .0)) (c .before .before .before .before .before .read-flags .ensures),
+  block-stop (orderOf (a .order)) (now (a .body)) (now (a .table)) (a .from) 0 (rowsFrom (a .block .rows) 0 (a .block .count))
+      (ended-is (now (a .flags)) 0 (run (orderOf (a .order)) (now (a .body)) (allFlags (rowsFrom (a .block .rows) 0 (a .block .count))) 0) (ap (runLeaves _) (sym (c .before .run2 .given .1)) ∙ c .before .before .before .before .before .read-flags .ensures)),
+  flags-left (now (a .flags)) (run (orderOf (a .order)) (now (a .body)) (allFlags (rowsFrom (a .block .rows) 0 (a .block .count))) 0) (c .before .before .before .before .before .read-flags .ensures),
 )
 
 pub read-block-spec : {M : Type 1} → statement M
@@ -69,9 +60,9 @@ read-block-spec =
     tie.close
     (tie.spec
     read-flags-requires
-    enum-known-r
+    enum-known-run
     read-contents-requires
-    enum-known-r-2
+    enum-known-run-2
     same-length
     same-length-2
     returns

@@ -17,65 +17,53 @@ Inv-loop order flags body table₀ from rows count place₀ index₀ row₀ tabl
 abbrev μ-loop : tie.MeasureT-loop
 μ-loop order flags body table₀ from rows count place₀ index₀ row₀ table place index row = count - row
 
--- src/blocks.rt:90:5
 loop-holds : tie.Need-loop-holds Inv-loop μ-loop
 loop-holds c = let a = c .before .before .before .before .args in rows-start (orderOf (a .order)) (now (a .body)) (now (a .table)) (now (a .flags)) (a .from) (a .block .rows) (a .block .count) (a .at .0) (c .before .before .before .before .pre .0) (c .before .before .before .before .pre .2)
 
--- src/blocks.rt:91:20
 mul-flag : tie.Need-mul-flag Inv-loop μ-loop
 mul-flag c = omega (arith, c .before .before .before .before .before .before .pre .0)
 
--- src/blocks.rt:91:20
 shared-slice-read-flag : tie.Need-shared-slice-read-flag Inv-loop μ-loop
 shared-slice-read-flag c = omega (arith, c .before .before .before .before .before .before .before .pre .0, c .before .before .before .before .before .before .before .pre .1)
 
--- src/blocks.rt:92:25
 mul-attribute : tie.Need-mul-attribute Inv-loop μ-loop
 mul-attribute c = omega (arith, c .before .before .before .before .before .before .before .pre .0)
 
--- src/blocks.rt:92:25
 array-copy-out-attribute : tie.Need-array-copy-out-attribute Inv-loop μ-loop
 array-copy-out-attribute c = omega (arith, c .before .before .before .before .before .before .before .pre .0)
 
--- src/blocks.rt:93:13
 read-attribute-requires : tie.Need-read-attribute-requires Inv-loop μ-loop
 read-attribute-requires c κs = (c .before .before .before .before .loop .inv .fits .0, omega (arith, c .before .before .before .before .loop .inv .fits .1))
 
--- src/blocks.rt:94:23
-enum-known-r : tie.Need-enum-known-r Inv-loop μ-loop
-enum-known-r c = search needs
+again-requires : tie.Need-again-requires Inv-loop μ-loop
+again-requires c κs = search needs
 
--- src/blocks.rt:95:13
+enum-known-run : tie.Need-enum-known-run Inv-loop μ-loop
+enum-known-run c = search needs
+
 enum-told : tie.Need-enum-told Inv-loop μ-loop
 enum-told c = search needs
 
--- src/blocks.rt:95:13
 same-length : tie.Need-same-length Inv-loop μ-loop
-same-length c = c .before .before .before .before .read-attribute .kept .1 .1 .1 .1 .1 .0 ∙ c .before .before .before .before .before .before .before .before .before .loop .inv .size
+same-length c = c .before .before .before .before .before .read-attribute .kept .1 .1 .1 .1 .1 .0 ∙ c .before .before .before .before .before .before .before .before .before .before .loop .inv .size
 
--- src/blocks.rt:95:13
 returns : tie.Need-returns Inv-loop μ-loop
-returns c = let a = c .before .before .before .before .before .before .before .before .before .before .before .before .before .before .args in
-    rows-stop (orderOf (a .order)) (now (a .body)) (now (a .table)) (now (a .flags)) (a .from) (a .block .rows) (a .block .count) (a .at .0) (c .before .before .before .before .before .before .before .before .loop-test .taken) (omega (arith, c .before .before .before .before .before .before .before .before .before .before .before .before .before .before .pre .0, c .before .before .before .before .before .before .before .before .before .before .before .before .before .before .pre .1)) refl (c .before .before .before .before .before .before .before .before .before .loop .inv) (c .before .before .before .before .read-attribute .ensures) (c .enum-told .given .1)
+returns c = let a = c .before .before .before .before .before .before .before .before .before .before .before .before .before .before .before .args in
+    rows-stop (orderOf (a .order)) (now (a .body)) (now (a .table)) (now (a .flags)) (a .from) (a .block .rows) (a .block .count) (a .at .0) (c .before .before .before .before .before .before .before .before .before .loop-test .taken) (omega (arith, c .before .before .before .before .before .before .before .before .before .before .before .before .before .before .before .pre .0, c .before .before .before .before .before .before .before .before .before .before .before .before .before .before .before .pre .1)) refl (c .before .before .before .before .before .before .before .before .before .before .loop .inv) (rw (c .before .before .again .ensures) (c .before .before .before .before .before .read-attribute .ensures)) (c .enum-told .given .1)
 
--- src/blocks.rt:99:9
 add-row : tie.Need-add-row Inv-loop μ-loop
-add-row c = omega (arith, c .before .before .before .before .before .before .before .before .before .before .before .before .before .before .before .pre .0)
+add-row c = omega (arith, c .before .before .before .before .before .before .before .before .before .before .before .before .before .before .before .before .pre .0)
 
--- src/blocks.rt:90:5
 loop-less : tie.Need-loop-less Inv-loop μ-loop
 loop-less c = omega arith
 
--- src/blocks.rt:90:5
 loop-again : tie.Need-loop-again Inv-loop μ-loop
-loop-again c = let a = c .before .before .before .before .before .before .before .before .before .before .before .before .before .before .before .args in
-    rows-next-row (orderOf (a .order)) (now (a .body)) (now (a .table)) (now (a .flags)) (a .from) (a .block .rows) (a .block .count) (a .at .0) (c .before .before .before .before .before .before .before .before .before .loop-test .taken) (omega (arith, c .before .before .before .before .before .before .before .before .before .before .before .before .before .before .before .pre .0, c .before .before .before .before .before .before .before .before .before .before .before .before .before .before .before .pre .1)) refl (c .before .before .before .before .before .before .before .before .before .before .loop .inv) (c .before .before .before .before .before .read-attribute .ensures) (c .before .before .before .before .before .read-attribute .kept .1 .1 .1 .1 .1 .0) (c .before .r .given .1)
+loop-again c = let a = c .before .before .before .before .before .before .before .before .before .before .before .before .before .before .before .before .args in
+    rows-next-row (orderOf (a .order)) (now (a .body)) (now (a .table)) (now (a .flags)) (a .from) (a .block .rows) (a .block .count) (a .at .0) (c .before .before .before .before .before .before .before .before .before .before .loop-test .taken) (omega (arith, c .before .before .before .before .before .before .before .before .before .before .before .before .before .before .before .before .pre .0, c .before .before .before .before .before .before .before .before .before .before .before .before .before .before .before .before .pre .1)) refl (c .before .before .before .before .before .before .before .before .before .before .before .loop .inv) (rw (c .before .before .before .again .ensures) (c .before .before .before .before .before .before .read-attribute .ensures)) (c .before .before .before .before .before .before .read-attribute .kept .1 .1 .1 .1 .1 .0) (c .before .run .given .1)
 
--- src/blocks.rt:73:1
 same-length-2 : tie.Need-same-length-2 Inv-loop μ-loop
 same-length-2 c = c .before .loop .inv .size
 
--- src/blocks.rt:73:1
 returns-2 : tie.Need-returns-2 Inv-loop μ-loop
 returns-2 c = let a = c .before .before .before .before .before .before .args in
     rows-done (orderOf (a .order)) (now (a .body)) (now (a .table)) (now (a .flags)) (a .from) (a .block .rows) (a .block .count) (a .at .0) (c .loop-test .left) (c .before .loop .inv)
@@ -92,7 +80,8 @@ read-contents-spec =
     mul-attribute
     array-copy-out-attribute
     read-attribute-requires
-    enum-known-r
+    again-requires
+    enum-known-run
     enum-told
     same-length
     returns

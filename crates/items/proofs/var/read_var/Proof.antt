@@ -12,10 +12,10 @@ use Rattle.items.proofs.var.read_var.Statement.{statement}
 use Rattle.items.proofs.var.read_var.Tie as tie
 
 abbrev Inv-loop : tie.InvT-loop
-Inv-loop body most top i₀ next₀ b sum₀ weight₀ left₀ i next sum weight left = (0 < left) × ((o : Order) (p : ℕ) → p + 8 ≡ next₀ → Rest o body top (readVar o body top p most) i next (left - 1) weight sum)
+Inv-loop body most top i₀ next₀ value sum₀ weight₀ left₀ i next sum weight left = (0 < left) × ((o : Order) (p : ℕ) → p + 8 ≡ next₀ → Rest o body top (readVar o body top p most) i next (left - 1) weight sum)
 
 abbrev μ-loop : tie.MeasureT-loop
-μ-loop body most top i₀ next₀ b sum₀ weight₀ left₀ i next sum weight left = left
+μ-loop body most top i₀ next₀ value sum₀ weight₀ left₀ i next sum weight left = left
 
 returns : tie.Need-returns Inv-loop μ-loop
 returns c = λ o. let a = c .before .before .args in sym (var-past o (now (a .body)) (a .top) (a .byte .0) (a .bit .0) (a .most) (c .before .before .pre .1) (c .if1 .taken))

@@ -43,15 +43,15 @@ slice-aggregate-read-contents-2 c = search needs
 
 -- src/places.rt:70:28
 read-contents-requires : tie.Need-read-contents-requires
-read-contents-requires c κs = (omega arith, omega (arith, c .before .before .before .before .before .read-flags .kept .1 .1 .1 .1 .0), ((behind-in (orderOf (c .before .before .before .before .before .before .before .before .before .args .order)) (now (c .before .before .before .before .before .before .before .before .before .args .body)) (c .before .before .before .before .before .before .before .before .before .pre) _ _ (omega arith) (c .before .before .before .before .before .read-flags .result) (c .before .before .before .before .before .before .before .block-of .result .rows) (c .before .before .before .before .before .before .before .block-of .result .count) (c .before .before .before .before .before .before .before .block-of .ensures) (c .before .before .before .before .before .read-flags .ensures) (c .before .before .before .place-of .ensures), c .before .before .before .before .before .before .before .before .before .pre .few), omega arith))
+read-contents-requires c κs = (omega arith, omega (arith, c .before .before .before .before .before .read-flags .kept .1 .1 .1 .0), ((behind-in (orderOf (c .before .before .before .before .before .before .before .before .before .args .order)) (now (c .before .before .before .before .before .before .before .before .before .args .body)) (c .before .before .before .before .before .before .before .before .before .pre) _ _ (omega arith) (c .before .before .before .before .before .read-flags .result) (c .before .before .before .before .before .before .before .block-of .result .rows) (c .before .before .before .before .before .before .before .block-of .result .count) (c .before .before .before .before .before .before .before .block-of .ensures) (c .before .before .before .before .before .read-flags .ensures) (c .before .before .before .place-of .ensures), c .before .before .before .before .before .before .before .before .before .pre .few), omega arith))
 
 -- src/places.rt:70:9
 place-of-requires-2 : tie.Need-place-of-requires-2
 place-of-requires-2 c κs = search needs
 
 -- src/places.rt:80:15
-array-read-t20 : tie.Need-array-read-t20
-array-read-t20 c = search needs
+array-read-t19 : tie.Need-array-read-t19
+array-read-t19 c = search needs
 
 -- src/places.rt:57:1
 returns : tie.Need-returns
@@ -70,5 +70,5 @@ find-spec =
     slice-aggregate-read-contents-2
     read-contents-requires
     place-of-requires-2
-    array-read-t20
+    array-read-t19
     returns)

@@ -20,63 +20,50 @@ use Rattle.bodies.proofs.blocks.read_contents.Reads as read-contents-reads
 use Rattle.path_singles.proofs.blocks.rows_before.Reads as rows-before-reads
 use Rattle.path_singles.proofs.blocks.shown_by.Reads as shown-by-reads
 
--- src/blocks.rt:92:9
 block-of-requires : tie.Need-block-of-requires
 block-of-requires c κs = search needs
 
--- src/blocks.rt:94:69
 slice-aggregate-read-flags : tie.Need-slice-aggregate-read-flags
 slice-aggregate-read-flags c = search needs
 
--- src/blocks.rt:94:9
 read-flags-requires : tie.Need-read-flags-requires
 read-flags-requires c κs = search needs
 
--- src/blocks.rt:95:19
-enum-known-r : tie.Need-enum-known-r
-enum-known-r c = search needs
+enum-known-run : tie.Need-enum-known-run
+enum-known-run c = search needs
 
--- src/blocks.rt:96:9
 enum-told : tie.Need-enum-told
 enum-told c = search needs
 
--- src/blocks.rt:96:9
 returns : tie.Need-returns
 returns c = before-stopped (c .before .before .before .before .before .block-of .ensures) (now (c .before .before .before .before .before .before .before .args .body)) (c .before .before .before .before .before .before .before .pre .0)
     (ended-is _ 0 (run high (now (c .before .before .before .before .before .before .before .args .body)) (allFlags (rowsFrom (c .before .before .before .before .before .block-of .result .rows) 0 (c .before .before .before .before .before .block-of .result .count))) 0) (ap (runLeaves _) (sym (c .enum-told .given .1)) ∙ c .before .before .before .read-flags .ensures))
 
--- src/blocks.rt:98:9
 rows-before-requires : tie.Need-rows-before-requires
 rows-before-requires c κs = search needs
 
--- src/blocks.rt:100:59
 slice-aggregate-read-contents : tie.Need-slice-aggregate-read-contents
 slice-aggregate-read-contents c = search needs
 
--- src/blocks.rt:100:79
 array-borrow-prefix-none : tie.Need-array-borrow-prefix-none
 array-borrow-prefix-none c = search needs
 
--- src/blocks.rt:100:79
 slice-aggregate-read-contents-2 : tie.Need-slice-aggregate-read-contents-2
 slice-aggregate-read-contents-2 c = search needs
 
--- src/blocks.rt:100:14
 read-contents-requires : tie.Need-read-contents-requires
 read-contents-requires c κs = (
   before-few (c .before .before .before .before .before .before .before .before .before .block-of .ensures) (now (c .before .before .before .before .before .before .before .before .before .before .before .args .body)) (c .before .before .before .before .before .before .before .before .before .before .before .pre .0) (c .before .before .rows-before .result) (c .before .before .rows-before .ensures),
-  omega (arith, c .before .before .before .before .before .before .before .read-flags .kept .1 .1 .1 .1 .0),
-  flags-fit high (now (c .before .before .before .before .before .before .before .before .before .before .before .args .body)) (rowsFrom (c .before .before .before .before .before .before .before .before .before .block-of .result .rows) 0 (c .before .before .before .before .before .before .before .before .before .block-of .result .count)) (flags-read high (c .before .before .before .before .before .before .before .before .before .block-of .result .rows) (c .before .before .before .before .before .before .before .before .before .block-of .result .count) (now (c .before .before .before .before .before .before .before .before .before .before .before .args .body)) _ 0 (c .before .before .before .before .before .before .before .before .before .block-of .ensures .few) (ap (runLeaves _) (sym (c .before .before .before .before .r .given .1)) ∙ c .before .before .before .before .before .before .before .read-flags .ensures)) ((omega arith, c .before .before .before .before .before .before .before .before .before .before .before .pre .1), omega arith),
+  omega (arith, c .before .before .before .before .before .before .before .read-flags .kept .1 .1 .1 .0),
+  flags-fit high (now (c .before .before .before .before .before .before .before .before .before .before .before .args .body)) (rowsFrom (c .before .before .before .before .before .before .before .before .before .block-of .result .rows) 0 (c .before .before .before .before .before .before .before .before .before .block-of .result .count)) (flags-read high (c .before .before .before .before .before .before .before .before .before .block-of .result .rows) (c .before .before .before .before .before .before .before .before .before .block-of .result .count) (now (c .before .before .before .before .before .before .before .before .before .before .before .args .body)) _ 0 (c .before .before .before .before .before .before .before .before .before .block-of .ensures .few) (ap (runLeaves _) (sym (c .before .before .before .before .run .given .1)) ∙ c .before .before .before .before .before .before .before .read-flags .ensures)) ((omega arith, c .before .before .before .before .before .before .before .before .before .before .before .pre .1), omega arith),
 )
 
--- src/blocks.rt:100:5
 shown-by-requires : tie.Need-shown-by-requires
 shown-by-requires c κs = search needs
 
--- src/blocks.rt:87:1
 returns-2 : tie.Need-returns-2
 returns-2 c = c .shown-by .ensures ∙ before-read (c .before .before .before .before .before .before .before .before .before .before .before .before .block-of .ensures) (now (c .before .before .before .before .before .before .before .before .before .before .before .before .before .before .args .body)) (c .before .before .before .before .before .before .before .before .before .before .before .before .before .before .pre .0) (c .before .before .before .before .before .rows-before .result) _ _ _ (c .before .before .read-contents .result) (c .before .before .before .before .before .rows-before .ensures)
-    (flags-read high (c .before .before .before .before .before .before .before .before .before .before .before .before .block-of .result .rows) (c .before .before .before .before .before .before .before .before .before .before .before .before .block-of .result .count) (now (c .before .before .before .before .before .before .before .before .before .before .before .before .before .before .args .body)) _ 0 (c .before .before .before .before .before .before .before .before .before .before .before .before .block-of .ensures .few) (ap (runLeaves _) (sym (c .before .before .before .before .before .before .before .r .given .1)) ∙ c .before .before .before .before .before .before .before .before .before .before .read-flags .ensures)) (c .before .before .read-contents .ensures)
+    (flags-read high (c .before .before .before .before .before .before .before .before .before .before .before .before .block-of .result .rows) (c .before .before .before .before .before .before .before .before .before .before .before .before .block-of .result .count) (now (c .before .before .before .before .before .before .before .before .before .before .before .before .before .before .args .body)) _ 0 (c .before .before .before .before .before .before .before .before .before .before .before .before .block-of .ensures .few) (ap (runLeaves _) (sym (c .before .before .before .before .before .before .before .run .given .1)) ∙ c .before .before .before .before .before .before .before .before .before .before .read-flags .ensures)) (c .before .before .read-contents .ensures)
 
 pub numbers-before-spec : {M : Type 1} → statement M
 numbers-before-spec =
@@ -85,7 +72,7 @@ numbers-before-spec =
     block-of-requires
     slice-aggregate-read-flags
     read-flags-requires
-    enum-known-r
+    enum-known-run
     enum-told
     returns
     rows-before-requires

@@ -56,8 +56,8 @@ part-spell-text-end c = search needs
 spell-text-requires : tie.Need-spell-text-requires
 spell-text-requires c κs = let a = c .before .before .before .before .before .before .before .before .before .before .before .before .args in (skip-place (orderOf (a .order)) (at (now (a .out)) (a .sink)) (c .before .before .before .before .before .before .before .before .before .before .before .before .pre .1) (c .before .before .before .before .align .ensures), (let n = getD (now (a .values)) (a .from) 0 in let f = a .from + 1 in let e = length-slice f (f + n) (now (a .values)) (omega (arith, c .before .before .before .before .before .before .if3 .left, c .before .before .before .before .before .before .before .before .before .if1 .left)) in omega (arith, e, c .before .before .before .before .before .before .before .if2 .left)))
 
-enum-known-r : tie.Need-enum-known-r
-enum-known-r c = search needs
+enum-known-spelt : tie.Need-enum-known-spelt
+enum-known-spelt c = search needs
 
 ended-requires : tie.Need-ended-requires
 ended-requires c κs = search needs
@@ -70,7 +70,7 @@ same-length c = search needs
 
 returns-4 : tie.Need-returns-4
 returns-4 c = let a = c .before .before .before .before .before .before .before .before .before .before .before .before .before .before .before .before .before .before .before .args in let u = c .before .before .before .before .before .before .spell-text .last .0 in
-    ap (seen u) (c .ended .ensures) ∙ finish-ends u (c .before .before .r .given .0 .0) (a .from + 1 + getD (now (a .values)) (a .from) 0) ∙ sym (string-in (orderOf (a .order)) (now (a .values)) (at (now (a .out)) (a .sink)) (a .from) (c .before .before .before .before .before .before .before .before .before .before .before .before .before .before .before .before .if1 .left) (a .from + 1) (a .from + 1 + getD (now (a .values)) (a .from) 0) refl refl (c .before .before .before .before .before .before .before .before .before .before .before .before .before .if3 .left) (c .before .before .before .before .before .before .before .before .before .before .before .align .ensures) u (c .before .before .before .before .before .before .spell-text .result) (c .before .before .before .before .before .before .spell-text .ensures (orderOf (a .order))) (c .before .before .r .given .0 .0) (c .before .before .r .given .1))
+    ap (seen u) (c .ended .ensures) ∙ finish-ends u (c .before .before .spelt .given .0 .0) (a .from + 1 + getD (now (a .values)) (a .from) 0) ∙ sym (string-in (orderOf (a .order)) (now (a .values)) (at (now (a .out)) (a .sink)) (a .from) (c .before .before .before .before .before .before .before .before .before .before .before .before .before .before .before .before .if1 .left) (a .from + 1) (a .from + 1 + getD (now (a .values)) (a .from) 0) refl refl (c .before .before .before .before .before .before .before .before .before .before .before .before .before .if3 .left) (c .before .before .before .before .before .before .before .before .before .before .before .align .ensures) u (c .before .before .before .before .before .before .spell-text .result) (c .before .before .before .before .before .before .spell-text .ensures (orderOf (a .order))) (c .before .before .spelt .given .0 .0) (c .before .before .spelt .given .1))
 
 same-length-2 : tie.Need-same-length-2
 same-length-2 c = search needs
@@ -96,7 +96,7 @@ write-string-spec =
     part-spell-text-start
     part-spell-text-end
     spell-text-requires
-    enum-known-r
+    enum-known-spelt
     ended-requires
     enum-told
     same-length

@@ -1,28 +1,25 @@
--- `table::fields::read_run` meets its contract: the one signed kind is Coordinate.
-use denote.Ref.{now}
+-- `table::fields::read_run` meets its contract, by whether the fields show whatever their bits are.
 use mathlib.Core.Path.{sym, _∙_}
-use Rattle.bits.specs.Places.{orderOf}
-use Rattle.table.proofs.FieldLaws.{signed-run}
 use borrow.Author.Needs.{needs}
 use Rattle.table.proofs.fields.read_run.Statement.{statement}
 use Rattle.table.proofs.fields.read_run.Tie as tie
 use Rattle.table.proofs.fields.read_run.Reads as reads
 use Rattle.table.proofs.fields.read_run.Lts as lts
-use Rattle.table.proofs.fields.is_signed.Reads as is-signed-reads
+use Rattle.table.proofs.fields.read_all.Reads as read-all-reads
 use Rattle.table.proofs.fields.read_fields.Reads as read-fields-reads
-use Rattle.table.proofs.fields.read_signed.Reads as read-signed-reads
+use Rattle.table.proofs.fields.shows_all.Reads as shows-all-reads
 
-is-signed-requires : tie.Need-is-signed-requires
-is-signed-requires c κs = search needs
+shows-all-requires : tie.Need-shows-all-requires
+shows-all-requires c κs = search needs
 
-read-signed-requires : tie.Need-read-signed-requires
-read-signed-requires c κs = search needs
+read-all-requires : tie.Need-read-all-requires
+read-all-requires c κs = let h = c .before .before .before .before .before .pre in (h .0, h .1, h .2, h .3, sym (c .before .before .shows-all .ensures) ∙ c .before .if1 .taken)
 
 same-length : tie.Need-same-length
 same-length c = search needs
 
 returns : tie.Need-returns
-returns c = let a = c .before .before .before .before .before .before .before .before .args in signed-run (orderOf (a .order)) (a .kind) (a .width) (a .count) (now (a .body)) (now (a .table)) (a .from) (a .at .0) (sym (c .before .before .before .before .before .is-signed .ensures) ∙ c .before .before .before .before .if1 .taken) (c .before .before .read-signed .ensures)
+returns c = search needs
 
 read-fields-requires : tie.Need-read-fields-requires
 read-fields-requires c κs = search needs
@@ -37,8 +34,8 @@ pub read-run-spec : {M : Type 1} → statement M
 read-run-spec =
     tie.close
     (tie.spec
-    is-signed-requires
-    read-signed-requires
+    shows-all-requires
+    read-all-requires
     same-length
     returns
     read-fields-requires

@@ -17,8 +17,8 @@ use Rattle.table.proofs.put.Reads as put-reads
 read-width-requires : tie.Need-read-width-requires
 read-width-requires c κs = search needs
 
-enum-known-r : tie.Need-enum-known-r
-enum-known-r c = search needs
+enum-known-got : tie.Need-enum-known-got
+enum-known-got c = search needs
 
 put-requires : tie.Need-put-requires
 put-requires c κs = search needs
@@ -27,34 +27,38 @@ add-read-run : tie.Need-add-read-run
 add-read-run c = search needs
 
 read-run-requires : tie.Need-read-run-requires
-read-run-requires c κs = let a = c .before .before .before .before .before .before .before .before .before .before .before .args in let f = width-fits (orderOf (a .order)) (now (a .body)) (a .at .0) (c .before .before .before .before .before .before .before .before .read-width .ensures) (c .before .before .before .before .before .before .r .given .1) (c .before .before .before .before .before .before .before .before .before .before .before .pre .0) in (f .0, f .1, f .2, c .before .before .before .before .before .before .before .before .before .before .before .pre .1)
+read-run-requires c κs = let a = c .before .before .before .before .before .before .before .before .before .before .before .args in let f = width-fits (orderOf (a .order)) (now (a .body)) (a .at .0) (c .before .before .before .before .before .before .before .before .read-width .ensures) (c .before .before .before .before .before .before .got .given .1) (c .before .before .before .before .before .before .before .before .before .before .before .pre .0) in (f .0, f .1, f .2, c .before .before .before .before .before .before .before .before .before .before .before .pre .1)
 
-enum-known-r-2 : tie.Need-enum-known-r-2
-enum-known-r-2 c = search needs
+again-requires : tie.Need-again-requires
+again-requires c κs = search needs
+
+enum-known-got-2 : tie.Need-enum-known-got-2
+enum-known-got-2 c = search needs
 
 same-length : tie.Need-same-length
 same-length c = search needs
 
 returns : tie.Need-returns
-returns c = let a = c .before .before .before .before .before .before .before .before .before .before .before .before .before .before .args in
-    then-one (orderOf (a .order)) (now (a .body)) (now (a .table)) (a .from) (item Item.width) (λ w. times (a .count) (fieldOf (a .kind) (the w))) (a .at .0)
-    (width-one (orderOf (a .order)) (now (a .body)) (a .at .0) (c .before .before .before .before .before .before .before .before .before .before .before .read-width .ensures) (c .before .before .before .before .before .before .before .before .before .r .given .1)) (c .before .before .before .before .before .before .put .ensures) (c .before .before .read-run .ensures)
+returns c = let a = c .before .before .before .before .before .before .before .before .before .before .before .before .before .before .before .args in
+    rw (c .again .ensures) (then-one (orderOf (a .order)) (now (a .body)) (now (a .table)) (a .from) (item Item.width) (λ w. times (a .count) (fieldOf (a .kind) (the w))) (a .at .0)
+    (width-one (orderOf (a .order)) (now (a .body)) (a .at .0) (c .before .before .before .before .before .before .before .before .before .before .before .before .read-width .ensures) (c .before .before .before .before .before .before .before .before .before .before .got .given .1)) (c .before .before .before .before .before .before .before .put .ensures) (c .before .before .before .read-run .ensures))
 
 returns-2 : tie.Need-returns-2
 returns-2 c = let a = c .before .before .before .before .before .before .args in
     then-never (orderOf (a .order)) (now (a .body)) (now (a .table)) (a .from) (item Item.width) (λ w. times (a .count) (fieldOf (a .kind) (the w))) (a .at .0)
-    (width-stop (orderOf (a .order)) (now (a .body)) (a .at .0) (c .before .before .before .read-width .ensures) (c .before .r2 .given .1))
+    (width-stop (orderOf (a .order)) (now (a .body)) (a .at .0) (c .before .before .before .read-width .ensures) (c .before .got2 .given .1))
 
 pub read-scaled-spec : {M : Type 1} → statement M
 read-scaled-spec =
     tie.close
     (tie.spec
     read-width-requires
-    enum-known-r
+    enum-known-got
     put-requires
     add-read-run
     read-run-requires
-    enum-known-r-2
+    again-requires
+    enum-known-got-2
     same-length
     returns
     returns-2)

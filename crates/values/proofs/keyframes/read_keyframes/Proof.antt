@@ -22,8 +22,8 @@ use Rattle.values.proofs.keyframes.read_interpolations.Reads as read-in
 read-interpolations-requires : tie.Need-read-interpolations-requires
 read-interpolations-requires c κs = search needs
 
-enum-known-r : tie.Need-enum-known-r
-enum-known-r c = search needs
+enum-known-run : tie.Need-enum-known-run
+enum-known-run c = search needs
 
 enum-told : tie.Need-enum-told
 enum-told c = search needs
@@ -41,13 +41,13 @@ mul-easing : tie.Need-mul-easing
 mul-easing c = let a = c .before .before .before .before .before .before .before .before .before .before .args in omega (arith, easing-small (a .frames) (c .before .before .before .before .before .before .read-interpolations .ensures .1 .1) (c .curves .ensures .1) (c .before .before .before .before .before .before .before .before .before .before .pre .1))
 
 read-frames-requires : tie.Need-read-frames-requires
-read-frames-requires c κs = let a = c .before .before .before .before .before .before .before .before .before .before .before .args in (run-fits (orderOf (a .order)) (now (a .body)) (now (a .table)) (a .from) (aligned ▸ interpolations (kindOf (a .kind)) (a .frames)) (a .at .0) (c .before .before .before .before .before .before .before .read-interpolations .ensures .0) (c .before .before .before .r .given .1) (fair-frames (orderOf (a .order)) (kindOf (a .kind)) (a .frames)) (c .before .before .before .before .before .before .before .before .before .before .before .pre .0), c .before .before .before .before .before .before .before .before .before .before .before .pre .1, omega (arith, easing-small (a .frames) (c .before .before .before .before .before .before .before .read-interpolations .ensures .1 .1) (c .before .curves .ensures .1) (c .before .before .before .before .before .before .before .before .before .before .before .pre .1)))
+read-frames-requires c κs = let a = c .before .before .before .before .before .before .before .before .before .before .before .args in (run-fits (orderOf (a .order)) (now (a .body)) (now (a .table)) (a .from) (aligned ▸ interpolations (kindOf (a .kind)) (a .frames)) (a .at .0) (c .before .before .before .before .before .before .before .read-interpolations .ensures .0) (c .before .before .before .run .given .1) (fair-frames (orderOf (a .order)) (kindOf (a .kind)) (a .frames)) (c .before .before .before .before .before .before .before .before .before .before .before .pre .0), c .before .before .before .before .before .before .before .before .before .before .before .pre .1, omega (arith, easing-small (a .frames) (c .before .before .before .before .before .before .before .read-interpolations .ensures .1 .1) (c .before .curves .ensures .1) (c .before .before .before .before .before .before .before .before .before .before .before .pre .1)))
 
 same-length-2 : tie.Need-same-length-2
 same-length-2 c = search needs
 
 returns-2 : tie.Need-returns-2
-returns-2 c = let a = c .before .before .before .before .before .before .before .before .before .before .before .before .before .before .args in run-done (orderOf (a .order)) (now (a .body)) (now (a .table)) (a .from) (aligned ▸ interpolations (kindOf (a .kind)) (a .frames)) (a .at .0) (c .before .before .before .before .before .before .before .before .before .before .read-interpolations .ensures .0) (λ kinds. framesOf (kindOf (a .kind)) (typeOf (a .what)) (a .flag) (a .frames) (howMany 2 kinds * 4 * curves (kindOf (a .kind)) (typeOf (a .what)))) (c .before .before .before .before .before .before .r .given .1)
+returns-2 c = let a = c .before .before .before .before .before .before .before .before .before .before .before .before .before .before .args in run-done (orderOf (a .order)) (now (a .body)) (now (a .table)) (a .from) (aligned ▸ interpolations (kindOf (a .kind)) (a .frames)) (a .at .0) (c .before .before .before .before .before .before .before .before .before .before .read-interpolations .ensures .0) (λ kinds. framesOf (kindOf (a .kind)) (typeOf (a .what)) (a .flag) (a .frames) (howMany 2 kinds * 4 * curves (kindOf (a .kind)) (typeOf (a .what)))) (c .before .before .before .before .before .before .run .given .1)
     (easing-of (orderOf (a .order)) (kindOf (a .kind)) (typeOf (a .what)) (a .flag) (now (a .body)) _ _ (a .frames) _ (c .before .before .before .before .before .before .before .before .before .before .read-interpolations .ensures .1 .0) (c .before .before .before .before .curves .ensures .0) refl (c .before .before .read-frames .ensures))
 
 pub read-keyframes-spec : {M : Type 1} → statement M
@@ -55,7 +55,7 @@ read-keyframes-spec =
     tie.close
     (tie.spec
     read-interpolations-requires
-    enum-known-r
+    enum-known-run
     enum-told
     same-length
     returns

@@ -1,59 +1,20 @@
--- `write_values::keyframes::write_keyframed` meets its contract.
-use denote.Ref.{now}
-use Rattle.bits.specs.Places.{orderOf}
-use Rattle.sink.specs.Laying.{at}
-use Rattle.values.specs.Parts.{keyframesOf}
-use Rattle.attributes.specs.Rows.{kindOf, typeOf}
-use native.Mathlib.Omega.{arith}
-use Rattle.items.specs.Kinds.{formatOf}
-use Rattle.items.specs.declared.Item.the-variants.{Count}
-use Rattle.spelling.proofs.RunLaws.{ran-fine}
-use Rattle.spelling.proofs.NumberLaws.{counted-stop, counted-inside, counted-most, counted-on}
+-- `write_values::keyframes::write_keyframed` meets its contract: the answer is that of the function that it calls.
 use borrow.Author.Needs.{needs}
 use Rattle.write_values.proofs.keyframes.write_keyframed.Statement.{statement}
 use Rattle.write_values.proofs.keyframes.write_keyframed.Tie as tie
 
-write-one-requires : tie.Need-write-one-requires
-write-one-requires c κs = search needs
+write-counted-requires : tie.Need-write-counted-requires
+write-counted-requires c κs = search needs
 
-enum-known-r : tie.Need-enum-known-r
-enum-known-r c = search needs
-
-enum-told : tie.Need-enum-told
-enum-told c = search needs
+again-requires : tie.Need-again-requires
+again-requires c κs = search needs
 
 same-length : tie.Need-same-length
 same-length c = search needs
 
 returns : tie.Need-returns
-returns c = let a = c .before .before .before .before .before .before .before .before .args in counted-stop (orderOf (a .order)) 1 (keyframesOf (kindOf (a .kind)) (typeOf (a .what)) (a .flag)) (now (a .values)) (at (now (a .out)) (a .sink)) (a .from) (c .before .before .before .before .write-one .last .1 .1 .0) (c .before .before .before .before .write-one .result) (c .before .before .before .before .write-one .ensures) (c .enum-told .given .1)
-
-mul-write-keyframes : tie.Need-mul-write-keyframes
-mul-write-keyframes c = let a = c .before .before .before .before .before .before .before .before .before .args in let h = counted-inside (orderOf (a .order)) 1 (keyframesOf (kindOf (a .kind)) (typeOf (a .what)) (a .flag)) (now (a .values)) (at (now (a .out)) (a .sink)) (a .from) (c .before .before .before .before .before .write-one .last .1 .1 .0) (c .before .before .before .before .before .write-one .result) (c .before .before .before .before .before .write-one .ensures) (c .before .r .given .0 .0) (c .before .r .given .0 .1 .0) (c .before .r .given .1) in omega (arith, h)
-
-shared-slice-read-write-keyframes : tie.Need-shared-slice-read-write-keyframes
-shared-slice-read-write-keyframes c = let a = c .before .before .before .before .before .before .before .before .before .before .args in counted-inside (orderOf (a .order)) 1 (keyframesOf (kindOf (a .kind)) (typeOf (a .what)) (a .flag)) (now (a .values)) (at (now (a .out)) (a .sink)) (a .from) (c .before .before .before .before .before .before .write-one .last .1 .1 .0) (c .before .before .before .before .before .before .write-one .result) (c .before .before .before .before .before .before .write-one .ensures) (c .before .before .r .given .0 .0) (c .before .before .r .given .0 .1 .0) (c .before .before .r .given .1)
-
-write-keyframes-requires : tie.Need-write-keyframes-requires
-write-keyframes-requires c κs = let a = c .before .before .before .before .before .before .before .before .before .before .before .args in (ran-fine (orderOf (a .order)) (now (a .values)) (now (a .out)) (a .sink) (a .from) (formatOf (Count 1)) (c .before .before .before .before .before .before .before .write-one .last .1 .1 .0) (c .before .before .before .before .before .before .before .write-one .result) (c .before .before .before .before .before .before .before .before .before .before .before .pre) (c .before .before .before .before .before .before .before .write-one .ensures) (c .before .before .before .r .given .0 .0) (c .before .before .before .r .given .0 .1 .0) (c .before .before .before .r .given .1), counted-most (orderOf (a .order)) 1 (keyframesOf (kindOf (a .kind)) (typeOf (a .what)) (a .flag)) (now (a .values)) (at (now (a .out)) (a .sink)) (a .from) (c .before .before .before .before .before .before .before .write-one .last .1 .1 .0) (c .before .before .before .before .before .before .before .write-one .result) (c .before .before .before .before .before .before .before .write-one .ensures) (c .before .before .before .r .given .0 .0) (c .before .before .before .r .given .0 .1 .0) (c .before .before .before .r .given .1))
-
-same-length-2 : tie.Need-same-length-2
-same-length-2 c = search needs
-
-returns-2 : tie.Need-returns-2
-returns-2 c = let a = c .before .before .before .before .before .before .before .before .before .before .before .before .before .before .args in counted-on (orderOf (a .order)) 1 (keyframesOf (kindOf (a .kind)) (typeOf (a .what)) (a .flag)) (now (a .values)) (at (now (a .out)) (a .sink)) (a .from) (c .before .before .before .before .before .before .before .before .before .before .write-one .last .1 .1 .0) (c .before .before .before .before .before .before .before .before .before .before .write-one .result) (c .before .before .before .before .before .before .before .before .before .before .write-one .ensures) (c .before .before .before .before .before .before .r .given .0 .0) (c .before .before .before .before .before .before .r .given .0 .1 .0) (c .before .before .before .before .before .before .r .given .1) (c .before .before .write-keyframes .ensures)
+returns c = rw (c .again .ensures) (c .before .before .before .write-counted .ensures)
 
 pub write-keyframed-spec : {M : Type 1} → statement M
 write-keyframed-spec =
-    tie.close
-    (tie.spec
-    write-one-requires
-    enum-known-r
-    enum-told
-    same-length
-    returns
-    mul-write-keyframes
-    shared-slice-read-write-keyframes
-    write-keyframes-requires
-    same-length-2
-    returns-2)
+    tie.close (tie.spec write-counted-requires again-requires same-length returns)
