@@ -1,7 +1,7 @@
 // Runs of bit fields: verbs, coordinates, interpolations, keyframed Bools and bytes, easing.
 ghost use mathlib.Core.Path.{_≡_};
 ghost use mathlib.Core.Bool.{false};
-ghost use Prim.Native.Nat.{_-_, _≤_, _<_, _^_};
+ghost use Prim.Native.Nat.{_-_, _/_, _≤_, _<_, _^_};
 ghost use lib.ListN.{length, take, drop};
 ghost use Rattle.format.specs.Formats.{item, Item, times, the, _▹_};
 ghost use Rattle.bits.specs.Places.{orderOf};
@@ -14,6 +14,7 @@ ghost use Rattle.spelling.specs.Fields.{allFields, Judges, digAll};
 use crate::Put;
 use crate::ended;
 use bits::BitPlace;
+use bits::BytePlace;
 use bits::Order;
 use sink::Sink;
 use table::fields::Field;
@@ -90,7 +91,41 @@ fn judge(kind: Field, width: usize, count: usize, values: &[u64], from: usize) -
     judge_unsigned(kind, width, count, values, from)
 }
 
-// The lowest w bits of n numbers. Places only grow, so the last one alone is judged, by the caller.
+// The lowest w bits of n numbers, where there is a byte to put them to: bits are gathered, and 32 of them put at once.
+fn gather_fields(
+    order: Order,
+    width: usize,
+    count: usize,
+    out: &mut [u8],
+    sink: Sink,
+    values: &[u64],
+    from: usize,
+) -> Sink
+    requires { ⌜ Fine sink × (1 ≤ width) × (width ≤ 32) × (count < 2 ^ 32) × (count ≤ length (now values) - from) × (sink .place .0 / 8 < length (now out)) ⌝ }
+    ensures { λ r. ⌜ under (now (out .exit)) r ≡ lay (orderOf order) (under (now (out .entry)) sink) (digAll (orderOf order) width (take count (drop from (now (values .entry))))) ⌝ }
+{
+    let size = sink::power(width);
+    let mut byte = sink.place.0 / 8;
+    let mut held = sink.place.0 % 8;
+    let mut waiting = sink.part;
+    let mut i = 0;
+    while i < count {
+        waiting = sink::glue(order, waiting, held, values[from + i] % size, width);
+        held += width;
+        i += 1;
+        if 32 <= held {
+            held -= 32;
+            let parts = sink::split(order, waiting, 32, held);
+            sink::put_word(order, out, byte, parts.first);
+            waiting = parts.last;
+            byte += 4;
+        }
+    }
+    let place = bits::first_bit(BytePlace(byte));
+    sink::put_bits(order, out, Sink { place, part: 0 }, waiting, held)
+}
+
+// The same for any output. Places only grow, so the last one alone is judged, by the caller.
 fn put_fields(
     order: Order,
     width: usize,
@@ -113,14 +148,7 @@ fn put_fields(
         let place = BitPlace(at + count * width);
         return Sink { place, part: 0 };
     }
-    let size = sink::power(width);
-    let mut cur = sink;
-    let mut i = 0;
-    while i < count {
-        cur = sink::put_bits(order, out, cur, values[from + i] % size, width);
-        i += 1;
-    }
-    cur
+    gather_fields(order, width, count, out, sink, values, from)
 }
 
 // n fields of w bits: all are judged, and then put.
