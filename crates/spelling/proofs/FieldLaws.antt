@@ -31,7 +31,7 @@ use Rattle.spelling.specs.declared.Put.{Put}
 use Rattle.spelling.specs.declared.Put.the-variants.{Done, Impossible}
 use Rattle.spelling.specs.Writing.{seen, ends, ran, limit, Fine, finish}
 use Rattle.spelling.specs.Spellings.{Announces}
-use Rattle.spelling.specs.Fields.{unsignedIn, signedIn, isField, allFields, Judges, digAll}
+use Rattle.spelling.specs.Fields.{unsignedIn, signedIn, isField, bare, allFields, Judges, digAll}
 use Rattle.spelling.proofs.RunLaws.{then-done, then-stop, finish-ends, times-end, times-one, times-bad, times-few, one-done, OneDone, the-one}
 use Rattle.spelling.proofs.NumberLaws.{passing-single}
 
@@ -85,7 +85,7 @@ module _ (w v m h u : ℕ) (low : 1 ≤ w) (few : w ≤ 32) (is : m ≡ 2 ^ w) (
       let p : 2 ^ w ≡ 2 ^ (w - 1) * 2 = ap (λ (n : ℕ). 2 ^ n) e ∙ pow-suc 2 (w - 1) in
       omega arith
 
-  pub signed-in : u < m → isField Coordinate w v ≡ true
+  signed-in : u < m → isField Coordinate w v ≡ true
   unfolding isField
   signed-in l = go (ltb v h) refl
     where
@@ -104,7 +104,7 @@ module _ (w v m h u : ℕ) (low : 1 ≤ w) (few : w ≤ 32) (is : m ≡ 2 ^ w) (
           let f : ltb d (2 ^ w) ≡ true = lt-ltb d (2 ^ w) (omega (arith, m-small, even)) in
           rw (a, b, eq-eqb _ _ e, f)
 
-  pub signed-out : m ≤ u → isField Coordinate w v ≡ false
+  signed-out : m ≤ u → isField Coordinate w v ≡ false
   unfolding isField
   signed-out l = go (ltb ((v - (2 ^ 64 - 2 ^ w)) * 2) (2 ^ w)) refl
     where
@@ -119,6 +119,38 @@ module _ (w v m h u : ℕ) (low : 1 ≤ w) (few : w ≤ 32) (is : m ≡ 2 ^ w) (
             q,
             ne-eqb (v - (2 ^ 64 - 2 ^ w) + (2 ^ 64 - 2 ^ w)) v (λ z. omega (arith, m-small, even, ltb-false ((v - (2 ^ 64 - 2 ^ w)) * 2) (2 ^ w) q)),
           )
+
+-- of a bare kind; m is 2 ^ w, and h how many of m numbers are negative
+module _ (f : Field) (w v m h u : ℕ) (free : bare f ≡ true) (low : 1 ≤ w) (few : w ≤ 32) (is : m ≡ 2 ^ w) (half : h ≡ pick (signed f) (m / 2) 0) (small : v < 2 ^ 64) (sum : u ≡ (v + h) % 2 ^ 64) where
+  same : signed f ≡ false → u ≡ v
+  same e =
+      let z : h ≡ 0 = half ∙ rw e in
+      let y : (v + h) % 2 ^ 64 ≡ v % 2 ^ 64 = ap (λ (x : ℕ). x % 2 ^ 64) (ap (λ (x : ℕ). v + x) z ∙ add-zero v) in
+      sum ∙ y ∙ mod-eq-of-lt small
+
+  pub bare-in : u < m → isField f w v ≡ true
+  unfolding isField
+  bare-in l = go f free half refl
+    where
+      go : (g : Field) → bare g ≡ true → h ≡ pick (signed g) (m / 2) 0 → g ≡ f → isField g w v ≡ true
+      go Verb b e q = clash cc
+      go Interpolation b e q = clash cc
+      go SpatialFlag b e q = clash cc
+      go Plain b e q = lt-ltb v (2 ^ w) (let z : u ≡ v = same (ap signed (sym q)) in omega arith)
+      go ByteValue b e q = clash cc
+      go Coordinate b e q = signed-in w v m h u low few is e small sum l
+
+  pub bare-out : m ≤ u → isField f w v ≡ false
+  unfolding isField
+  bare-out l = go f free half refl
+    where
+      go : (g : Field) → bare g ≡ true → h ≡ pick (signed g) (m / 2) 0 → g ≡ f → isField g w v ≡ false
+      go Verb b e q = clash cc
+      go Interpolation b e q = clash cc
+      go SpatialFlag b e q = clash cc
+      go Plain b e q = rw (le-ltb v (2 ^ w) (let z : u ≡ v = same (ap signed (sym q)) in omega arith))
+      go ByteValue b e q = clash cc
+      go Coordinate b e q = signed-out w v m h u low few is e small sum l
 
 -- ---- one field by its kind
 abbrev fieldSpelling : Order → Field → ℕ → ℕ → Possible (List Bool)
@@ -238,22 +270,38 @@ counted-next f t k i a l e =
     let b : i < length (drop k t) = rw length-drop (omega arith) in
     rw (add-one i, announced-one f (drop k t) i (getD t (k + i) 0) b (sym (getD-drop k t i 0)), e, a)
 
--- SB fields announce none
-none-announced : (vs : List ℕ) → 0 ≡ announced Coordinate vs
-none-announced [] = refl
-none-announced (v ∷ vs) = let e : 0 ≡ announced Coordinate vs = none-announced vs in rw (← e) refl
+-- bare fields announce none
+module _ (f : Field) (free : bare f ≡ true) where
+  no-more : (v : ℕ) → 0 ≡ announces f v
+  no-more v = go f free
+    where
+      go : (g : Field) → bare g ≡ true → 0 ≡ announces g v
+      go Verb b = clash cc
+      go Interpolation b = clash cc
+      go SpatialFlag b = clash cc
+      go Plain b = refl
+      go ByteValue b = refl
+      go Coordinate b = refl
 
-pub signed-judges : (f : Field) (w : ℕ) (vs : List ℕ) (good : Bool) → signed f ≡ true → good ≡ allFields Coordinate w vs → Judges f w vs good 0
-signed-judges Verb w vs good h e = clash cc
-signed-judges Interpolation w vs good h e = clash cc
-signed-judges SpatialFlag w vs good h e = clash cc
-signed-judges Plain w vs good h e = clash cc
-signed-judges ByteValue w vs good h e = clash cc
-signed-judges Coordinate w vs good h e = record { judged = e; counted = go good }
-  where
-    go : (c : Bool) → 0 ≡ pick c (announced Coordinate vs) 0
-    go true = none-announced vs
-    go false = refl
+  none-announced : (vs : List ℕ) → 0 ≡ announced f vs
+  none-announced [] = refl
+  none-announced (v ∷ vs) = rw (← no-more v, ← none-announced vs) refl
+
+  pub bare-judges : (w : ℕ) (vs : List ℕ) (good : Bool) → good ≡ allFields f w vs → Judges f w vs good 0
+  bare-judges w vs good e = record { judged = e; counted = go good }
+    where
+      go : (c : Bool) → 0 ≡ pick c (announced f vs) 0
+      go true = none-announced vs
+      go false = refl
+
+-- what is not bare is not signed
+pub not-bare : (f : Field) → bare f ≡ false → signed f ≡ false
+not-bare Verb b = refl
+not-bare Interpolation b = refl
+not-bare SpatialFlag b = refl
+not-bare Plain b = refl
+not-bare ByteValue b = refl
+not-bare Coordinate b = clash cc
 
 -- ---- n fields are put: of the first i the bits are laid or wait, `held` of them from a whole byte on, and no place was judged
 abbrev pub waits : Order → List ℕ → ℕ → ℕ → ℕ → State

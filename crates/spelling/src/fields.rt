@@ -1,16 +1,15 @@
 // Runs of bit fields: verbs, coordinates, interpolations, keyframed Bools and bytes, easing.
 ghost use mathlib.Core.Path.{_≡_};
-ghost use mathlib.Core.Bool.{false};
+ghost use mathlib.Core.Bool.{true, false};
 ghost use Prim.Native.Nat.{_-_, _/_, _≤_, _<_, _^_};
 ghost use lib.ListN.{length, take, drop};
 ghost use Rattle.format.specs.Formats.{item, Item, times, the, _▹_};
 ghost use Rattle.bits.specs.Places.{orderOf};
 ghost use Rattle.table.specs.Fields.{fieldOf, signed};
-ghost use Rattle.table.specs.declared.fields.Field.the-variants.{Coordinate};
 ghost use Rattle.sink.specs.Laying.{at as under, lay};
 ghost use Rattle.spelling.specs.Writing.{seen, ran, Fine};
 ghost use Rattle.spelling.specs.Spellings.{Announces, WritesLessOne};
-ghost use Rattle.spelling.specs.Fields.{allFields, Judges, digAll};
+ghost use Rattle.spelling.specs.Fields.{bare, allFields, Judges, digAll};
 use crate::Put;
 use crate::ended;
 use bits::BitPlace;
@@ -31,17 +30,31 @@ struct Judged {
     count: usize,
 }
 
-// Are n numbers SB fields of w bits? The sum wraps a negative number back: v is one from -half up to half.
-fn all_signed(width: usize, count: usize, values: &[u64], from: usize) -> bool
-    requires { ⌜ (1 ≤ width) × (width ≤ 32) × (count ≤ length (now values) - from) ⌝ }
-    ensures { λ r. ⌜ r ≡ allFields Coordinate width (take count (drop from (now (values .entry)))) ⌝ }
+// Nothing is asked of the number of a bare field but that its bits can have it, and it announces nothing: a plain one and a coordinate.
+fn is_bare(kind: Field) -> bool
+    ensures { λ r. ⌜ r ≡ bare kind ⌝ }
+{
+    match kind {
+        Field::Verb => false,
+        Field::Interpolation => false,
+        Field::SpatialFlag => false,
+        Field::Plain => true,
+        Field::ByteValue => false,
+        Field::Coordinate => true,
+    }
+}
+
+// Are n numbers bare fields of w bits? The sum wraps negative ones back, so that they are the least: 0 up to `size`.
+fn all_bare(kind: Field, width: usize, count: usize, values: &[u64], from: usize) -> bool
+    requires { ⌜ (1 ≤ width) × (width ≤ 32) × (count ≤ length (now values) - from) × (bare kind ≡ true) ⌝ }
+    ensures { λ r. ⌜ r ≡ allFields kind width (take count (drop from (now (values .entry)))) ⌝ }
 {
     let size = sink::power(width);
-    let half = size / 2;
+    let negatives = table::fields::negatives_of(kind, size);
     let mut i = 0;
     while i < count {
         let value = values[from + i];
-        if size <= std::num::wrapping_add_u64(value, half) {
+        if size <= std::num::wrapping_add_u64(value, negatives) {
             return false;
         }
         i += 1;
@@ -79,13 +92,13 @@ fn judge_unsigned(kind: Field, width: usize, count: usize, values: &[u64], from:
     }
 }
 
-// The same of fields of any kind: SB fields announce none.
+// The same of fields of any kind.
 fn judge(kind: Field, width: usize, count: usize, values: &[u64], from: usize) -> Judged
     requires { ⌜ (1 ≤ width) × (width ≤ 32) × (count < 2 ^ 32) × (count ≤ length (now values) - from) ⌝ }
     ensures { λ r. ⌜ Judges kind width (take count (drop from (now (values .entry)))) (r .good) (r .count) ⌝ }
 {
-    if table::fields::is_signed(kind) {
-        let good = all_signed(width, count, values, from);
+    if is_bare(kind) {
+        let good = all_bare(kind, width, count, values, from);
         return Judged { good, count: 0 };
     }
     judge_unsigned(kind, width, count, values, from)

@@ -88,7 +88,7 @@ pub fn is_signed(kind: Field) -> bool
 }
 
 // How many of the numbers below `size` are negative ones in a field of this kind: half of them if it is signed, else none.
-fn negatives_of(kind: Field, size: u64) -> u64
+pub fn negatives_of(kind: Field, size: u64) -> u64
     ensures { λ r. ⌜ r ≡ pick (signed kind) (size / 2) 0 ⌝ }
 {
     if is_signed(kind) { size / 2 } else { 0 }
