@@ -30,21 +30,7 @@ struct Judged {
     count: usize,
 }
 
-// Nothing is asked of the number of a bare field but that its bits can have it, and it announces nothing: a plain one and a coordinate.
-fn is_bare(kind: Field) -> bool
-    ensures { λ r. ⌜ r ≡ bare kind ⌝ }
-{
-    match kind {
-        Field::Verb => false,
-        Field::Interpolation => false,
-        Field::SpatialFlag => false,
-        Field::Plain => true,
-        Field::ByteValue => false,
-        Field::Coordinate => true,
-    }
-}
-
-// Are n numbers bare fields of w bits? The sum wraps negative ones back, so that they are the least: 0 up to `size`.
+// Are n numbers bare fields of w bits: plain ones, or coordinates? Nothing is asked of them but that their bits can have them. The sum wraps negative ones back, so that they are the least: 0 up to `size`.
 fn all_bare(kind: Field, width: usize, count: usize, values: &[u64], from: usize) -> bool
     requires { ⌜ (1 ≤ width) × (width ≤ 32) × (count ≤ length (now values) - from) × (bare kind ≡ true) ⌝ }
     ensures { λ r. ⌜ r ≡ allFields kind width (take count (drop from (now (values .entry)))) ⌝ }
@@ -60,6 +46,15 @@ fn all_bare(kind: Field, width: usize, count: usize, values: &[u64], from: usize
         i += 1;
     }
     true
+}
+
+// The same, and that they announce nothing.
+fn judge_bare(kind: Field, width: usize, count: usize, values: &[u64], from: usize) -> Judged
+    requires { ⌜ (1 ≤ width) × (width ≤ 32) × (count ≤ length (now values) - from) × (bare kind ≡ true) ⌝ }
+    ensures { λ r. ⌜ Judges kind width (take count (drop from (now (values .entry)))) (r .good) (r .count) ⌝ }
+{
+    let good = all_bare(kind, width, count, values, from);
+    Judged { good, count: 0 }
 }
 
 // Are n numbers UB fields of w bits and a kind, and how many signed fields do they announce?
@@ -97,11 +92,14 @@ fn judge(kind: Field, width: usize, count: usize, values: &[u64], from: usize) -
     requires { ⌜ (1 ≤ width) × (width ≤ 32) × (count < 2 ^ 32) × (count ≤ length (now values) - from) ⌝ }
     ensures { λ r. ⌜ Judges kind width (take count (drop from (now (values .entry)))) (r .good) (r .count) ⌝ }
 {
-    if is_bare(kind) {
-        let good = all_bare(kind, width, count, values, from);
-        return Judged { good, count: 0 };
+    match kind {
+        Field::Plain => judge_bare(kind, width, count, values, from),
+        Field::Coordinate => judge_bare(kind, width, count, values, from),
+        Field::Verb => judge_unsigned(kind, width, count, values, from),
+        Field::Interpolation => judge_unsigned(kind, width, count, values, from),
+        Field::SpatialFlag => judge_unsigned(kind, width, count, values, from),
+        Field::ByteValue => judge_unsigned(kind, width, count, values, from),
     }
-    judge_unsigned(kind, width, count, values, from)
 }
 
 // The lowest w bits of n numbers, where there is a byte to put them to: bits are gathered, and 32 of them put at once.
