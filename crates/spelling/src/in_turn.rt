@@ -1,5 +1,6 @@
 // Items of one kind in turn.
 ghost use mathlib.Core.Path.{_≡_};
+ghost use Prim.Native.Nat.{_<_};
 ghost use Rattle.format.specs.Formats.{times};
 ghost use Rattle.items.specs.Kinds.{formatOf};
 ghost use Rattle.items.specs.declared.Item.the-variants.{Time};
@@ -47,7 +48,7 @@ pub fn write_items(
     Put::Done(Sink { place, part: 0 }, index)
 }
 
-// n times. Each number has a spelling, so that of each only the place behind it is judged: no file is longer.
+// n times, one at least. Each number has a spelling, so that of each only the place behind it is judged: no file is longer.
 pub fn write_times(
     order: Order,
     count: usize,
@@ -56,12 +57,9 @@ pub fn write_times(
     values: &[u64],
     from: usize,
 ) -> Put
-    requires { ⌜ Fine sink ⌝ }
+    requires { ⌜ Fine sink × (0 < count) ⌝ }
     ensures { λ r. ⌜ seen (now (out .exit)) r ≡ ran (orderOf order) (now (values .entry)) (under (now (out .entry)) sink) from (times count (formatOf Time)) ⌝ }
 {
-    if count == 0 {
-        return Put::Done(sink, from);
-    }
     if table::room_for(values.len(), from, count) < count {
         return Put::Impossible;
     }

@@ -12,7 +12,7 @@ use Rattle.items.specs.declared.Item.the-variants.{Time}
 use Rattle.bits.specs.Places.{orderOf}
 use Rattle.sink.specs.Laying.{at, mk}
 use Rattle.spelling.specs.Writing.{here, ran}
-use Rattle.spelling.proofs.RunLaws.{ran-nothing, skip-place, times-over}
+use Rattle.spelling.proofs.RunLaws.{skip-place}
 use Rattle.spelling.proofs.NumberLaws.{time-put}
 use Rattle.spelling.proofs.ByteLaws.{next-late, next-to, turn-fell, turn-on, items-few, times-aligned, turns-start, turns-over}
 use borrow.Author.Needs.{needs}
@@ -31,29 +31,26 @@ Inv-loop count out₀ values from byte₀ i₀ out byte i = (byte ≤ 16777216) 
 abbrev μ-loop : tie.MeasureT-loop
 μ-loop count out₀ values from byte₀ i₀ out byte i = count - i
 
-returns : tie.Need-returns Inv-loop μ-loop
-returns c = let a = c .before .before .before .args in let o = orderOf (a .order) in sym (ap (ran o (now (a .values)) (at (now (a .out)) (a .sink)) (a .from)) (times-over (formatOf Time) (a .count) (c .if1 .taken)) ∙ ran-nothing o (now (a .values)) (at (now (a .out)) (a .sink)) (a .from) (c .before .before .before .pre .1))
-
 room-for-requires : tie.Need-room-for-requires Inv-loop μ-loop
 room-for-requires c κs = search needs
 
-returns-2 : tie.Need-returns-2 Inv-loop μ-loop
-returns-2 c = let a = c .before .before .before .before .before .args in items-few (orderOf (a .order)) Time (now (a .values)) (at (now (a .out)) (a .sink)) (a .from) (a .count) (c .before .room-for .ensures) (c .if2 .taken)
+returns : tie.Need-returns Inv-loop μ-loop
+returns c = let a = c .before .before .before .before .args in items-few (orderOf (a .order)) Time (now (a .values)) (at (now (a .out)) (a .sink)) (a .from) (a .count) (c .before .room-for .ensures) (c .if1 .taken)
 
 align-requires : tie.Need-align-requires Inv-loop μ-loop
 align-requires c κs = search needs
 
 loop-holds : tie.Need-loop-holds Inv-loop μ-loop
-loop-holds c = let a = c .before .before .before .before .before .before .before .before .before .args in let s = skip-place (orderOf (a .order)) (at (now (a .out)) (a .sink)) (c .before .before .before .before .before .before .before .before .before .pre .1) (c .before .before .align .ensures) in (omega (arith, s .0, s .1), refl, omega arith, λ o. turns-start o Time (now (a .values)) _ (a .from) (a .count))
+loop-holds c = let a = c .before .before .before .before .before .before .before .before .args in let s = skip-place (orderOf (a .order)) (at (now (a .out)) (a .sink)) (c .before .before .before .before .before .before .before .before .pre .0 .1) (c .before .before .align .ensures) in (omega (arith, s .0, s .1), refl, omega arith, λ o. turns-start o Time (now (a .values)) _ (a .from) (a .count))
 
 add-spell-var : tie.Need-add-spell-var Inv-loop μ-loop
-add-spell-var c = omega (arith, c .before .loop-test .taken, c .before .before .before .before .before .before .before .before .room-for .ensures, c .before .before .before .before .before .before .before .if2 .left)
+add-spell-var c = omega (arith, c .before .loop-test .taken, c .before .before .before .before .before .before .before .before .room-for .ensures, c .before .before .before .before .before .before .before .if1 .left)
 
 mul-spell-var : tie.Need-mul-spell-var Inv-loop μ-loop
-mul-spell-var c = omega (arith, c .before .loop-test .taken, c .before .before .before .before .before .before .before .before .room-for .ensures, c .before .before .before .before .before .before .before .if2 .left)
+mul-spell-var c = omega (arith, c .before .loop-test .taken, c .before .before .before .before .before .before .before .before .room-for .ensures, c .before .before .before .before .before .before .before .if1 .left)
 
 shared-slice-read-spell-var : tie.Need-shared-slice-read-spell-var Inv-loop μ-loop
-shared-slice-read-spell-var c = omega (arith, c .before .before .loop-test .taken, c .before .before .before .before .before .before .before .before .before .room-for .ensures, c .before .before .before .before .before .before .before .before .if2 .left)
+shared-slice-read-spell-var c = omega (arith, c .before .before .loop-test .taken, c .before .before .before .before .before .before .before .before .before .room-for .ensures, c .before .before .before .before .before .before .before .before .if1 .left)
 
 spell-var-requires : tie.Need-spell-var-requires Inv-loop μ-loop
 spell-var-requires c κs = (c .before .before .before .loop .inv .0, omega arith, omega arith)
@@ -61,11 +58,11 @@ spell-var-requires c κs = (c .before .before .before .loop .inv .0, omega arith
 same-length : tie.Need-same-length Inv-loop μ-loop
 same-length c = c .before .before .before .spell-var .kept .0 ∙ c .before .before .before .before .before .before .before .loop .inv .1 ∙ c .before .before .before .before .before .before .before .before .before .before .align .kept .1 .0
 
-returns-3 : tie.Need-returns-3 Inv-loop μ-loop
+returns-2 : tie.Need-returns-2 Inv-loop μ-loop
 unfolding rangeFault
-returns-3 c = let a = c .before .before .before .before .before .before .before .before .before .before .before .before .before .before .before .before .before .args in let l = c .before .before .before .before .before .before .before .loop in let v = c .before .before .before .spell-var in let o = orderOf (a .order) in
-    turn-fell o Time (now (a .values)) (l .out) (l .byte) (a .from) (a .count) (l .i) (c .before .before .before .before .before .before .loop-test .taken) (next-late o Time (now (a .values)) (l .out) (l .byte) (a .from + l .i) (omega (arith, c .before .before .before .before .before .before .loop-test .taken, c .before .before .before .before .before .before .before .before .before .before .before .before .before .room-for .ensures, c .before .before .before .before .before .before .before .before .before .before .before .before .if2 .left)) refl refl (v .last .0) (v .result) (v .ensures o) (c .if3 .taken))
-    ∙ sym (times-aligned o Time (now (a .values)) (at (now (a .out)) (a .sink)) (a .from) (c .before .before .before .before .before .before .before .before .before .before .align .ensures) (a .count) (omega (arith, c .before .before .before .before .before .before .before .before .before .before .before .before .before .before .if1 .left)) ∙ l .inv .3 o)
+returns-2 c = let a = c .before .before .before .before .before .before .before .before .before .before .before .before .before .before .before .before .args in let l = c .before .before .before .before .before .before .before .loop in let v = c .before .before .before .spell-var in let o = orderOf (a .order) in
+    turn-fell o Time (now (a .values)) (l .out) (l .byte) (a .from) (a .count) (l .i) (c .before .before .before .before .before .before .loop-test .taken) (next-late o Time (now (a .values)) (l .out) (l .byte) (a .from + l .i) (omega (arith, c .before .before .before .before .before .before .loop-test .taken, c .before .before .before .before .before .before .before .before .before .before .before .before .before .room-for .ensures, c .before .before .before .before .before .before .before .before .before .before .before .before .if1 .left)) refl refl (v .last .0) (v .result) (v .ensures o) (c .if2 .taken))
+    ∙ sym (times-aligned o Time (now (a .values)) (at (now (a .out)) (a .sink)) (a .from) (c .before .before .before .before .before .before .before .before .before .before .align .ensures) (a .count) (c .before .before .before .before .before .before .before .before .before .before .before .before .before .before .before .before .pre .1) ∙ l .inv .3 o)
 
 add-i : tie.Need-add-i Inv-loop μ-loop
 add-i c = omega (arith, c .before .before .before .before .before .before .loop-test .taken)
@@ -75,29 +72,29 @@ loop-less c = omega (arith, c .before .before .before .before .before .before .l
 
 loop-again : tie.Need-loop-again Inv-loop μ-loop
 unfolding rangeFault
-loop-again c = let a = c .before .before .before .before .before .before .before .before .before .before .before .before .before .before .before .before .before .args in let l = c .before .before .before .before .before .before .before .loop in let v = c .before .before .before .spell-var in (
-  c .if3 .left,
+loop-again c = let a = c .before .before .before .before .before .before .before .before .before .before .before .before .before .before .before .before .args in let l = c .before .before .before .before .before .before .before .loop in let v = c .before .before .before .spell-var in (
+  c .if2 .left,
   v .kept .0 ∙ l .inv .1,
   omega (arith, c .before .before .before .before .before .before .loop-test .taken),
-  λ o. l .inv .3 o ∙ turn-on o Time (now (a .values)) (l .out) (l .byte) (a .from) (a .count) (l .i) (c .before .before .before .before .before .before .loop-test .taken) (v .last .0) (v .result) (next-to o Time (now (a .values)) (l .out) (l .byte) (a .from + l .i) (omega (arith, c .before .before .before .before .before .before .loop-test .taken, c .before .before .before .before .before .before .before .before .before .before .before .before .before .room-for .ensures, c .before .before .before .before .before .before .before .before .before .before .before .before .if2 .left)) refl refl (v .last .0) (v .result) (v .ensures o) (c .if3 .left)) (time-put o (mk (l .out) (8 * l .byte) 0) (v .last .0) (v .result) (getD (now (a .values)) (a .from + l .i) 0) (omega (arith, c .before .before .before .before .shared-slice-known2 .given (a .from + l .i))) (v .ensures o)),
+  λ o. l .inv .3 o ∙ turn-on o Time (now (a .values)) (l .out) (l .byte) (a .from) (a .count) (l .i) (c .before .before .before .before .before .before .loop-test .taken) (v .last .0) (v .result) (next-to o Time (now (a .values)) (l .out) (l .byte) (a .from + l .i) (omega (arith, c .before .before .before .before .before .before .loop-test .taken, c .before .before .before .before .before .before .before .before .before .before .before .before .before .room-for .ensures, c .before .before .before .before .before .before .before .before .before .before .before .before .if1 .left)) refl refl (v .last .0) (v .result) (v .ensures o) (c .if2 .left)) (time-put o (mk (l .out) (8 * l .byte) 0) (v .last .0) (v .result) (getD (now (a .values)) (a .from + l .i) 0) (omega (arith, c .before .before .before .before .shared-slice-known2 .given (a .from + l .i))) (v .ensures o)),
 )
 
 first-bit-requires : tie.Need-first-bit-requires Inv-loop μ-loop
 first-bit-requires c κs = omega (arith, c .before .loop .inv .0)
 
-add-t13 : tie.Need-add-t13 Inv-loop μ-loop
-add-t13 c = omega (arith, c .before .before .before .before .before .before .before .before .room-for .ensures, c .before .before .before .before .before .before .before .if2 .left)
+add-t12 : tie.Need-add-t12 Inv-loop μ-loop
+add-t12 c = omega (arith, c .before .before .before .before .before .before .before .before .room-for .ensures, c .before .before .before .before .before .before .before .if1 .left)
 
 same-length-2 : tie.Need-same-length-2 Inv-loop μ-loop
 same-length-2 c = c .before .before .loop .inv .1 ∙ c .before .before .before .before .before .align .kept .1 .0
 
-returns-4 : tie.Need-returns-4 Inv-loop μ-loop
-returns-4 c = let a = c .before .before .before .before .before .before .before .before .before .before .before .before .args in let l = c .before .before .loop in let o = orderOf (a .order) in
+returns-3 : tie.Need-returns-3 Inv-loop μ-loop
+returns-3 c = let a = c .before .before .before .before .before .before .before .before .before .before .before .args in let l = c .before .before .loop in let o = orderOf (a .order) in
     ap (λ (n : ℕ). this (here (mk (l .out) n 0) (a .from + a .count))) (c .first-bit .ensures)
-    ∙ sym (times-aligned o Time (now (a .values)) (at (now (a .out)) (a .sink)) (a .from) (c .before .before .before .before .before .align .ensures) (a .count) (omega (arith, c .before .before .before .before .before .before .before .before .before .if1 .left))
+    ∙ sym (times-aligned o Time (now (a .values)) (at (now (a .out)) (a .sink)) (a .from) (c .before .before .before .before .before .align .ensures) (a .count) (c .before .before .before .before .before .before .before .before .before .before .before .pre .1)
     ∙ l .inv .3 o ∙ turns-over o Time (now (a .values)) (l .out) (l .byte) (a .from) (a .count) (l .i) (l .inv .2) (c .before .loop-test .left) (l .inv .0))
 
 pub write-times-spec : {M : Type 1} → statement M
 write-times-spec =
     tie.close
-    (tie.spec Inv-loop μ-loop returns room-for-requires returns-2 align-requires loop-holds add-spell-var mul-spell-var shared-slice-read-spell-var spell-var-requires same-length returns-3 add-i loop-less loop-again first-bit-requires add-t13 same-length-2 returns-4)
+    (tie.spec Inv-loop μ-loop room-for-requires returns align-requires loop-holds add-spell-var mul-spell-var shared-slice-read-spell-var spell-var-requires same-length returns-2 add-i loop-less loop-again first-bit-requires add-t12 same-length-2 returns-3)
