@@ -76,7 +76,7 @@ pub fn allowed(kind: Field, value: u64) -> bool
 }
 
 // A coordinate is signed, and nothing else is.
-pub fn is_signed(kind: Field) -> bool
+fn is_signed(kind: Field) -> bool
     ensures { λ r. ⌜ r ≡ signed kind ⌝ }
 {
     match kind {
