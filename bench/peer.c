@@ -909,7 +909,7 @@ struct numbers {
     size_t left;
 };
 
-/* Bytes under way: whole bytes, and the bits of a byte begun, the lowest bits of `begun`. Without memory they are only counted. */
+/* Bytes under way: whole bytes, and the bits behind them, fewer than 32, the lowest bits of `begun`. Without memory they are only counted. */
 struct output {
     uint8_t *bytes;
     size_t len;
