@@ -474,8 +474,10 @@ static int read_gradient(struct body *b)
 
 static int read_flag_bit(struct body *b, unsigned *bit)
 {
-    if (fitting(b, 1, 1) < 1) return PAG_ITEM_PAST_THE_BODY;
-    *bit = (unsigned)next_field(b, 1);
+    if (b->at / 8 >= b->len) return PAG_ITEM_PAST_THE_BODY;
+    unsigned byte = b->bytes[b->at / 8], used = b->at % 8;
+    *bit = (b->low ? byte >> used : byte >> (7 - used)) & 1;
+    b->at++;
     return 0;
 }
 
@@ -907,7 +909,7 @@ struct numbers {
     size_t left;
 };
 
-/* Bytes under way: whole bytes, and the bits of a byte begun, the lowest bits of `begun`. Without memory they are only counted. */
+/* Bytes under way: whole bytes, and the bits behind them, fewer than 32, the lowest bits of `begun`. Without memory they are only counted. */
 struct output {
     uint8_t *bytes;
     size_t len;
@@ -934,43 +936,54 @@ static void put_byte(struct output *o, uint64_t byte)
     o->len++;
 }
 
-static void put_high(struct output *o, unsigned width, uint64_t value)
+/* Of the bits that wait there are fewer than 32; four bytes at once are stored when there are as many. */
+static inline void put_bits_in(struct output *o, unsigned width, uint64_t value, int low)
 {
-    o->begun = o->begun << width | value;
+    uint32_t word;
+    if (low) o->begun |= value << o->begun_bits;
+    else o->begun = o->begun << width | value;
     o->begun_bits += width;
-    while (o->begun_bits >= 8) {
-        o->begun_bits -= 8;
-        o->bytes[o->len++] = (uint8_t)(o->begun >> o->begun_bits);
-    }
+    if (o->begun_bits < 32) return;
+    o->begun_bits -= 32;
+    word = low ? (uint32_t)o->begun : __builtin_bswap32((uint32_t)(o->begun >> o->begun_bits));
+    memcpy(o->bytes + o->len, &word, 4);
+    if (low) o->begun >>= 32;
+    o->len += 4;
 }
 
-static void put_low(struct output *o, unsigned width, uint64_t value)
+static void count_bits(struct output *o, size_t bits)
 {
-    o->begun |= value << o->begun_bits;
-    o->begun_bits += width;
-    while (o->begun_bits >= 8) {
-        o->begun_bits -= 8;
-        o->bytes[o->len++] = (uint8_t)o->begun;
-        o->begun >>= 8;
-    }
+    bits += o->begun_bits;
+    o->len += bits / 8;
+    o->begun_bits = bits % 8;
 }
 
 static void put_bits(struct output *o, unsigned width, uint64_t value)
 {
-    if (o->bytes) {
-        if (o->low) put_low(o, width, value);
-        else put_high(o, width, value);
-    } else {
-        o->begun_bits += width;
-        o->len += o->begun_bits / 8;
-        o->begun_bits %= 8;
-    }
+    if (!o->bytes) count_bits(o, width);
+    else if (o->low) put_bits_in(o, width, value, 1);
+    else put_bits_in(o, width, value, 0);
+}
+
+/* The lowest bits of n numbers. On a copy of the output, which no byte that is stored can lie in. */
+static void put_fields(struct output *o, unsigned width, const uint64_t *values, size_t n)
+{
+    struct output copy = *o;
+    uint64_t mask = ((uint64_t)1 << width) - 1;
+    if (!o->bytes) count_bits(&copy, width * n);
+    else if (o->low)
+        for (size_t i = 0; i < n; i++) put_bits_in(&copy, width, values[i] & mask, 1);
+    else
+        for (size_t i = 0; i < n; i++) put_bits_in(&copy, width, values[i] & mask, 0);
+    *o = copy;
 }
 
 /* Most items stand on a whole byte already, so this is kept out of their way. */
 __attribute__((noinline)) static void end_byte(struct output *o)
 {
-    put_byte(o, o->low ? o->begun : o->begun << (8 - o->begun_bits));
+    if (!o->low) o->begun <<= -o->begun_bits % 8;
+    unsigned bytes = (o->begun_bits + 7) / 8;
+    for (unsigned i = 0; i < bytes; i++) put_byte(o, o->begun >> 8 * (o->low ? i : bytes - 1 - i));
     o->begun = 0;
     o->begun_bits = 0;
 }
@@ -1071,11 +1084,9 @@ static int write_scaled(struct numbers *from, struct output *o, size_t n, int is
     unsigned width = 0;
     if (!write_width(from, o, &width) || n > from->left) return 0;
     uint64_t mask = ((uint64_t)1 << width) - 1, half = is_signed ? (uint64_t)1 << (width - 1) : 0;
-    for (size_t i = 0; i < n; i++) {
-        uint64_t value = from->next[i];
-        if (value + half > mask) return 0;
-        put_bits(o, width, value & mask);
-    }
+    for (size_t i = 0; i < n; i++)
+        if (from->next[i] + half > mask) return 0;
+    put_fields(o, width, from->next, n);
     from->next += n;
     from->left -= n;
     return 1;
@@ -1083,25 +1094,24 @@ static int write_scaled(struct numbers *from, struct output *o, size_t n, int is
 
 static int write_fields(struct numbers *from, struct output *o, unsigned width, size_t n, uint64_t most)
 {
-    uint64_t top = ((uint64_t)1 << width) - 1, value = 0;
+    uint64_t top = ((uint64_t)1 << width) - 1;
     if (most < top) top = most;
-    for (size_t i = 0; i < n; i++) {
-        if (!take(from, 0, top, &value)) return 0;
-        put_bits(o, width, value);
-    }
+    if (n > from->left) return 0;
+    for (size_t i = 0; i < n; i++)
+        if (from->next[i] > top) return 0;
+    put_fields(o, width, from->next, n);
+    from->next += n;
+    from->left -= n;
     return 1;
 }
 
 static int write_path(struct numbers *from, struct output *o)
 {
     size_t verbs = 0, coordinates = 0;
-    uint64_t verb = 0;
     if (!write_count(from, o, 0, &verbs)) return 0;
-    for (size_t i = 0; i < verbs; i++) {
-        if (!take(from, 0, 7, &verb)) return 0;
-        put_bits(o, 3, verb);
-        coordinates += COORDINATES[verb];
-    }
+    const uint64_t *verb = from->next;
+    if (!write_fields(from, o, 3, verbs, 7)) return 0;
+    for (size_t i = 0; i < verbs; i++) coordinates += COORDINATES[verb[i]];
     return write_scaled(from, o, coordinates, SIGNED);
 }
 
@@ -1195,24 +1205,21 @@ static int write_frame_values(struct numbers *from, struct output *o, enum attri
 
 static int write_interpolations(struct numbers *from, struct output *o, size_t frames, size_t *beziers)
 {
-    uint64_t interpolation = 0;
+    if (frames > from->left) return 0;
     for (size_t i = 0; i < frames; i++) {
-        if (!take(from, LINEAR, HOLD, &interpolation)) return 0;
-        put_bits(o, 2, interpolation);
+        uint64_t interpolation = from->next[i];
+        if (interpolation < LINEAR || interpolation > HOLD) return 0;
         *beziers += interpolation == BEZIER;
     }
-    return 1;
+    return write_fields(from, o, 2, frames, HOLD);
 }
 
 static int write_spatial(struct numbers *from, struct output *o, size_t frames)
 {
     size_t there = 0;
-    uint64_t flag = 0;
-    for (size_t i = 0; i < 2 * frames; i++) {
-        if (!take(from, 0, 1, &flag)) return 0;
-        put_bits(o, 1, flag);
-        there += flag;
-    }
+    const uint64_t *flag = from->next;
+    if (!write_fields(from, o, 1, 2 * frames, 1)) return 0;
+    for (size_t i = 0; i < 2 * frames; i++) there += flag[i];
     return write_scaled(from, o, 2 * there, SIGNED);
 }
 

@@ -26,9 +26,6 @@ pub animatable-frames : (φ : ℕ) → (φ ≡ 0 → ⊥) → (φ ≡ 1 → ⊥)
 animatable-frames φ n m = rw (ne-eqb φ 0 n, ne-eqb φ 1 m)
 
 -- (of a Custom one, too)
-pub value-none : (φ : ℕ) → φ ≡ 0 → Nothing ≡ contentBy bodies.Value φ
-value-none φ e = rw (eq-eqb φ 0 e)
-
 pub value-one : (φ : ℕ) → (φ ≡ 0 → ⊥) → One ≡ contentBy bodies.Value φ
 value-one φ n = rw (ne-eqb φ 0 n)
 

@@ -182,27 +182,38 @@ fn animatable(flag: u64) -> Content
     Content::Frames
 }
 
+// Where no flag is set, or could be: of a Fixed one there is a value.
+fn content_without(kind: Kind) -> Content
+    ensures { λ r. ⌜ r ≡ contentBy (kindOf kind) 0 ⌝ }
+{
+    match kind {
+        Kind::Value => Content::Nothing,
+        Kind::Fixed => Content::One,
+        Kind::BitFlag => Content::Nothing,
+        Kind::Simple => Content::Nothing,
+        Kind::Discrete => Content::Nothing,
+        Kind::MultiDimension => Content::Nothing,
+        Kind::Spatial => Content::Nothing,
+        Kind::Custom => Content::Nothing,
+    }
+}
+
 // By its flag number: a Value or a Custom one has one if its bit is set, a Fixed always, a BitFlag never.
 pub fn content_of(kind: Kind, flag: u64) -> Content
     ensures { λ r. ⌜ r ≡ contentBy (kindOf kind) flag ⌝ }
 {
+    if flag == 0 {
+        return content_without(kind);
+    }
     match kind {
-        Kind::Value => if flag == 0 {
-            Content::Nothing
-        } else {
-            Content::One
-        },
+        Kind::Value => Content::One,
         Kind::Fixed => Content::One,
         Kind::BitFlag => Content::Nothing,
         Kind::Simple => animatable(flag),
         Kind::Discrete => animatable(flag),
         Kind::MultiDimension => animatable(flag),
         Kind::Spatial => animatable(flag),
-        Kind::Custom => if flag == 0 {
-            Content::Nothing
-        } else {
-            Content::One
-        },
+        Kind::Custom => Content::One,
     }
 }
 

@@ -166,7 +166,7 @@ pub fn with_sign(value: u64, size: u64, negatives: u64) -> u64
 }
 
 // A field of n bits as a signed number: of the numbers that n bits have, the upper half are negative ones.
-pub fn extend(value: u64, width: u64) -> u64
+fn extend(value: u64, width: u64) -> u64
     requires { ⌜ (1 ≤ width) × (width ≤ 32) × (value < 2 ^ width) ⌝ }
     ensures { λ r. ⌜ r ≡ signExtend width value ⌝ }
 {

@@ -135,16 +135,11 @@ flow-start o u p a w v r h l =
     rw (dig-append o (p % 8) w a v h l, lay-append, lay-few o u (p % 8) (p / 8 * 8) 0 a m k h)
     (ap (λ (st : State). lay o st (dig o w v)) (mk-eq refl (omega arith) (sym (rw z (glue-alone o (p % 8) a)))))
 
--- a whole byte x of them is stored, and the others are the field y
-flow-byte : (o : Order) (u : List ℕ) (i n v x y : ℕ) → Split o 8 n v x y → lay o (mk u (i * 8) 0) (dig o (8 + n) v) ≡ lay o (mk (set u i x) ((i + 1) * 8) 0) (dig o n y)
-flow-byte o u i n v x y s =
-    let z : i * 8 % 8 ≡ 0 = omega arith in
-    ap (λ (k : ℕ). lay o (mk u (i * 8) 0) (dig o (8 + n) k)) (s .glued)
-    ∙ ap (lay o (mk u (i * 8) 0)) (dig-append o 8 n x y (s .first) (s .last))
-    ∙ lay-append o (mk u (i * 8) 0) (dig o 8 x) (dig o n y)
-    ∙ ap (λ (st : State). lay o st (dig o n y))
-    (lay-full o u 7 (i * 8) 0 x (omega arith) (s .first)
-    ∙ mk-eq (ap₂ (set u) (omega arith) (rw z (glue-alone o 8 x))) (omega arith) refl)
+-- the first m bits of them are the field x, after which the state is st′, and the others the field y
+pub flow-on : (o : Order) (st : State) (m n v x y : ℕ) {st′ : State} → Split o m n v x y → lay o st (dig o m x) ≡ st′ → lay o st (dig o (m + n) v) ≡ lay o st′ (dig o n y)
+flow-on o st m n v x y s e =
+    ap (λ (k : ℕ). lay o st (dig o (m + n) k)) (s .glued) ∙ ap (lay o st) (dig-append o m n x y (s .first) (s .last)) ∙ lay-append o st (dig o m x) (dig o n y)
+    ∙ ap (λ (z : State). lay o z (dig o n y)) e
 
 pub flow-few : (o : Order) (u : List ℕ) (i n x : ℕ) {q : ℕ} → i < length u → n < 8 → x < 2 ^ n → i * 8 + n ≡ q → lay o (mk u (i * 8) 0) (dig o n x) ≡ mk u q x
 flow-few o u i n x r h l e =
@@ -186,6 +181,24 @@ unfolding lay
 lay-ok o st [] h = h
 lay-ok o st (b ∷ bs) h = lay-ok o (push o st b) bs (push-ok o (st .bytes) (st .place) (st .part) b h)
 
+-- ---- whole bytes, from a whole byte on
+pub lay-byte : (o : Order) (u : List ℕ) (i v : ℕ) {w : List ℕ} {p : ℕ} → v < 256 → p ≡ 8 * i → w ≡ set u i v → lay o (mk u p 0) (dig o 8 v) ≡ mk w (p + 8) 0
+lay-byte o u i v h e d =
+    let z : 8 * i % 8 ≡ 0 = omega arith in
+    rw (e, d)
+    (lay-full o u 7 (8 * i) 0 v (omega arith) h ∙ mk-eq (ap₂ (set u) (omega arith) (rw z (glue-alone o 8 v))) refl refl)
+
+pub lay-bytes-of : (o : Order) (u : List ℕ) (i k : ℕ) (bs : List Bool) → length bs ≡ 8 * k → lay o (mk u (8 * i) 0) bs ≡ mk (sets u i (bytesOf o k bs)) (8 * (i + k)) 0
+unfolding bytesOf
+lay-bytes-of o u i zero bs h = let e : bs ≡ [] = drop-of-length-le bs {i = 0} (omega arith) in rw (e, lay-none, add-zero)
+lay-bytes-of o u i (suc k) bs h =
+    let v : ℕ = val o 8 bs in
+    let s : bs ≡ dig o 8 v ++ drop 8 bs = sym (take-append-drop 8 bs) ∙ ap (λ (x : List Bool). x ++ drop 8 bs) (sym (dig-val o 8 bs (omega arith))) in
+    ap (lay o (mk u (8 * i) 0)) s ∙ lay-append o (mk u (8 * i) 0) (dig o 8 v) (drop 8 bs)
+    ∙ ap (λ (st : State). lay o st (drop 8 bs)) (lay-byte o u i v (val-lt o 8 bs) refl refl ∙ mk-eq refl (omega arith) refl)
+    ∙ lay-bytes-of o (set u i v) (suc i) k (drop 8 bs) (rw length-drop (omega arith))
+    ∙ mk-eq refl (omega arith) refl
+
 -- ---- the same as the code has it: each number that it computes is known by an equation
 pub glued-high : (m n x y s : ℕ) → m + n < 64 → x < 2 ^ m → y < 2 ^ n → s ≡ 2 ^ n → (x * s + y < 2 ^ (m + n)) × (x * s + y < 2 ^ 64)
 glued-high m n x y s h hx hy e = rw e (let g : x * 2 ^ n + y < 2 ^ (m + n) = glue-lt high m n x y hx hy in (g, omega (arith, g, pow-lt h)))
@@ -205,10 +218,32 @@ pub flow-next : (o : Order) (u : List ℕ) (i n v x y : ℕ) {w : List ℕ} → 
     → lay o (mk u (i * 8) 0) (dig o n v) ≡ lay o (mk w ((i + 1) * 8) 0) (dig o (n - 8) y)
 flow-next o u i n v x y h s d =
     let c : n ≡ 8 + (n - 8) = omega arith in
-    rw d (ap (λ (j : ℕ). lay o (mk u (i * 8) 0) (dig o j v)) c ∙ flow-byte o u i (n - 8) v x y s)
+    ap (λ (j : ℕ). lay o (mk u (i * 8) 0) (dig o j v)) c
+    ∙ flow-on o (mk u (i * 8) 0) 8 (n - 8) v x y s (lay-byte o u i x (s .first) (mul-comm i 8) d ∙ mk-eq refl (omega arith) refl)
 
 pub flow-done : (o : Order) (u : List ℕ) (p a w v x : ℕ) {st : State} → p / 8 < length u → Holds p a → v < 2 ^ w → x ≡ glue o (p % 8) w a v → lay o (mk u (p / 8 * 8) 0) (dig o (p % 8 + w) x) ≡ st → st ≡ lay o (mk u p a) (dig o w v)
 flow-done o u p a w v x r h l e d = sym (flow-start o u p a w v r h l ∙ rw (← e) d)
+
+-- four bytes: a to d, by themselves; or as one field
+pub word-stored : (o : Order) (u : List ℕ) (i v : ℕ) {a b c d x y : ℕ} → Split o 8 24 v a x → Split o 8 16 x b y → Split o 8 8 y c d
+    → mk (set (set (set (set u i a) (i + 1) b) (i + 2) c) (i + 3) d) (8 * i + 32) 0 ≡ lay o (mk u (8 * i) 0) (dig o 32 v)
+word-stored o u i v {a} {b} {c} {d} {x} {y} s t r =
+    let p : ℕ = 8 * i in
+    let u1 : List ℕ = set u i a in
+    let u2 : List ℕ = set u1 (i + 1) b in
+    let u3 : List ℕ = set u2 (i + 2) c in
+    sym
+    (flow-on o (mk u p 0) 8 24 v a x s (lay-byte o u i a (s .first) refl refl)
+    ∙ flow-on o (mk u1 (p + 8) 0) 8 16 x b y t (lay-byte o u1 (i + 1) b (t .first) (omega arith) refl)
+    ∙ flow-on o (mk u2 (p + 8 + 8) 0) 8 8 y c d r (lay-byte o u2 (i + 2) c (r .first) (omega arith) refl)
+    ∙ lay-byte o u3 (i + 3) d (r .last) (omega arith) refl
+    ∙ mk-eq refl (omega arith) refl)
+
+pub word-laid : (o : Order) (u w : List ℕ) (i v p q a : ℕ) → p ≡ 8 * i → mk w q a ≡ lay o (mk u p 0) (dig o 32 v) → mk w (8 * i + 32) 0 ≡ lay o (mk u (8 * i) 0) (dig o 32 v)
+word-laid o u w i v p q a e d =
+    let whole : lay o (mk u (8 * i) 0) (dig o 32 v) ≡ mk (sets u i (bytesOf o 4 (dig o 32 v))) (8 * (i + 4)) 0 = lay-bytes-of o u i 4 (dig o 32 v) (length-dig o 32 v) in
+    let there : mk w q a ≡ lay o (mk u (8 * i) 0) (dig o 32 v) = d ∙ ap (λ (j : ℕ). lay o (mk u j 0) (dig o 32 v)) e in
+    mk-eq (ap (λ (z : State). z .bytes) (there ∙ whole)) (omega arith) refl ∙ sym whole
 
 -- ---- the skip to a whole byte: none is skipped; or some are
 module _ (o : Order) (u : List ℕ) (p a : ℕ) {i q : ℕ} (h : Holds p a) (at : q ≡ p + skipped p) (whole : q ≡ 8 * i) where
@@ -229,24 +264,6 @@ module _ (o : Order) (u : List ℕ) (p a : ℕ) {i q : ℕ} (h : Holds p a) (at 
         whole = whole;
         laid = rw (d, e, k, v, t) (sym (lay-full o u (7 - p % 8) p a 0 (omega arith) (pow-pos (suc (7 - p % 8)))));
       }
-
--- ---- whole bytes, from a whole byte on
-pub lay-byte : (o : Order) (u : List ℕ) (i v : ℕ) {w : List ℕ} {p : ℕ} → v < 256 → p ≡ 8 * i → w ≡ set u i v → lay o (mk u p 0) (dig o 8 v) ≡ mk w (p + 8) 0
-lay-byte o u i v h e d =
-    let z : 8 * i % 8 ≡ 0 = omega arith in
-    rw (e, d)
-    (lay-full o u 7 (8 * i) 0 v (omega arith) h ∙ mk-eq (ap₂ (set u) (omega arith) (rw z (glue-alone o 8 v))) refl refl)
-
-pub lay-bytes-of : (o : Order) (u : List ℕ) (i k : ℕ) (bs : List Bool) → length bs ≡ 8 * k → lay o (mk u (8 * i) 0) bs ≡ mk (sets u i (bytesOf o k bs)) (8 * (i + k)) 0
-unfolding bytesOf
-lay-bytes-of o u i zero bs h = let e : bs ≡ [] = drop-of-length-le bs {i = 0} (omega arith) in rw (e, lay-none, add-zero)
-lay-bytes-of o u i (suc k) bs h =
-    let v : ℕ = val o 8 bs in
-    let s : bs ≡ dig o 8 v ++ drop 8 bs = sym (take-append-drop 8 bs) ∙ ap (λ (x : List Bool). x ++ drop 8 bs) (sym (dig-val o 8 bs (omega arith))) in
-    ap (lay o (mk u (8 * i) 0)) s ∙ lay-append o (mk u (8 * i) 0) (dig o 8 v) (drop 8 bs)
-    ∙ ap (λ (st : State). lay o st (drop 8 bs)) (lay-byte o u i v (val-lt o 8 bs) refl refl ∙ mk-eq refl (omega arith) refl)
-    ∙ lay-bytes-of o (set u i v) (suc i) k (drop 8 bs) (rw length-drop (omega arith))
-    ∙ mk-eq refl (omega arith) refl
 
 -- ---- a field past the end of the output; and one of no bits
 pub field-past : (o : Order) (u : List ℕ) (p a w v : ℕ) {q : ℕ} → length u ≤ p / 8 → (w ≡ 0 → ⊥) → p + w ≡ q → mk u q 0 ≡ lay o (mk u p a) (dig o w v)

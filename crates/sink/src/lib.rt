@@ -4,7 +4,7 @@ ghost use Prim.Native.Nat.{_+_, _*_, _^_, _<_, _≤_};
 ghost use lib.ListN.{set};
 ghost use Rattle.format.specs.WritingItems.{dig, glue as oneField};
 ghost use Rattle.bits.specs.Places.{orderOf};
-ghost use Rattle.sink.specs.Laying.{at as under, lay, Holds, Skipped, Split};
+ghost use Rattle.sink.specs.Laying.{at as under, mk, lay, Holds, Skipped, Split};
 use bits::BitPlace;
 use bits::BytePlace;
 use bits::Order;
@@ -17,9 +17,9 @@ pub struct Sink {
 }
 
 // A field taken apart.
-struct TwoFields {
-    first: u64,
-    last: u64,
+pub struct TwoFields {
+    pub first: u64,
+    pub last: u64,
 }
 
 // A body was written up to a byte place; or no file has it.
@@ -58,7 +58,7 @@ pub fn glue(order: Order, first: u64, before: usize, last: u64, behind: usize) -
 }
 
 // One field as two, so glued.
-fn split(order: Order, value: u64, before: usize, behind: usize) -> TwoFields
+pub fn split(order: Order, value: u64, before: usize, behind: usize) -> TwoFields
     requires { ⌜ (before + behind < 64) × (value < 2 ^ (before + behind)) ⌝ }
     ensures { λ r. ⌜ Split (orderOf order) before behind value (r .first) (r .last) ⌝ }
 {
@@ -113,6 +113,26 @@ pub fn put_bits(order: Order, out: &mut [u8], sink: Sink, value: u64, width: usi
         place,
         part: waiting,
     }
+}
+
+// A field of 32 bits from a whole byte on: its four bytes.
+pub fn put_word(order: Order, out: &mut [u8], byte: usize, value: u64)
+    requires { ⌜ (8 * byte ≤ 2 ^ 60) × (value < 2 ^ 32) ⌝ }
+    ensures { λ _. ⌜ mk (now (out .exit)) (8 * byte + 32) 0 ≡ lay (orderOf order) (mk (now (out .entry)) (8 * byte) 0) (dig (orderOf order) 32 value) ⌝ }
+{
+    // Near the end of the output byte by byte, else by one store.
+    if out.len() < byte + 4 {
+        let place = bits::first_bit(BytePlace(byte));
+        put_bits(order, out, Sink { place, part: 0 }, value, 32);
+        return;
+    }
+    let first = split(order, value, 8, 24);
+    let second = split(order, first.last, 8, 16);
+    let third = split(order, second.last, 8, 8);
+    out[byte] = first.first as u8;
+    out[byte + 1] = second.first as u8;
+    out[byte + 2] = third.first as u8;
+    out[byte + 3] = third.last as u8;
 }
 
 // The next whole byte: zero bits up to it.

@@ -1,8 +1,8 @@
 -- Numbers and items from a whole byte on, by the byte place behind them: 0 where there is none.
-use Prim.Native.Nat.{ℕ, _+_, _-_, _*_, _%_, _≤_, _<_}
+use Prim.Native.Nat.{ℕ, _+_, _-_, _*_, _%_, _≤_, _<_, min}
 use mathlib.Core.Bool.{Bool, true, false}
 use mathlib.Core.List.{List}
-use mathlib.Core.Path.{_≡_, refl, sym, ap, _∙_}
+use mathlib.Core.Path.{_≡_, refl, sym, ap, ap₂, _∙_}
 use native.Mathlib.Omega.{arith}
 use lib.Dec.{ltb, eqb}
 use lib.ListN.{length, getD}
@@ -21,7 +21,7 @@ use Rattle.sink.specs.Laying.{State, mk, Skipped}
 use Rattle.sink.proofs.LayingLaws.{mk-eq, skip-none, field-none}
 use Rattle.spelling.specs.Writing.{bitsOver, Seen, here, ran}
 use Rattle.spelling.specs.Spellings.{spellingOf, spelledTo, writtenTo}
-use Rattle.spelling.proofs.RunLaws.{ends-in, ends-out, resume, ran-then, bitsEnd, one-none, one-bad, one-bits, laid-before, times-more}
+use Rattle.spelling.proofs.RunLaws.{ends-in, ends-out, resume, ran-then, bitsEnd, one-none, one-bad, one-bits, laid-before, times-more, times-few, times-over, ran-nothing}
 use Rattle.spelling.proofs.NumberLaws.{bitsOf, item-is, item-out, item-in}
 
 -- ---- a number that was put
@@ -72,6 +72,38 @@ module _ (o : Order) (kind : Item) (t out : List ℕ) (at k : ℕ) where
 
     pub next-on : (rest : Format) → (p ≡ 0 → ⊥) → ran o t st k (formatOf kind ▸ rest) ≡ ran o t (mk u (8 * p) 0) (k + 1) rest
     next-on rest n = ran-then o t st k (formatOf kind) (λ xs. rest) ∙ ap (resume o t k (λ xs. rest)) (sym (rw (ne-eqb p 0 n) at told))
+
+-- ---- of n items from index k on the one behind i others: no file has it, and so none of the rest; or the rest goes on behind it
+module _ (o : Order) (kind : Item) (t out : List ℕ) (at k n i : ℕ) (more : i < n) where
+  abbrev rest : Format
+  rest = times (n - i - 1) (formatOf kind)
+
+  in-turn : ran o t (mk out (8 * at) 0) (k + i) (times (n - i) (formatOf kind)) ≡ ran o t (mk out (8 * at) 0) (k + i) (formatOf kind ▸ rest)
+  in-turn = ap (ran o t (mk out (8 * at) 0) (k + i)) (times-more (formatOf kind) (n - i) (omega arith))
+
+  pub turn-fell : cannot ≡ ran o t (mk out (8 * at) 0) (k + i) (formatOf kind) → cannot ≡ ran o t (mk out (8 * at) 0) (k + i) (times (n - i) (formatOf kind))
+  turn-fell e = sym (in-turn ∙ ran-then o t (mk out (8 * at) 0) (k + i) (formatOf kind) (λ xs. rest) ∙ ap (resume o t (k + i) (λ xs. rest)) (sym e))
+
+  pub turn-on : (u : List ℕ) (p : ℕ) → writtenTo u p (k + i + 1) ≡ ran o t (mk out (8 * at) 0) (k + i) (formatOf kind) → (p ≡ 0 → ⊥)
+      → ran o t (mk out (8 * at) 0) (k + i) (times (n - i) (formatOf kind)) ≡ ran o t (mk u (8 * p) 0) (k + (i + 1)) (times (n - (i + 1)) (formatOf kind))
+  turn-on u p told some =
+      let a : k + i + 1 ≡ k + (i + 1) = omega arith in
+      let b : n - i - 1 ≡ n - (i + 1) = omega arith in
+      in-turn ∙ next-on o kind t out at (k + i) u p told rest some
+      ∙ ap₂ (λ (j m : ℕ). ran o t (mk u (8 * p) 0) j (times m (formatOf kind))) a b
+
+-- none is behind, and all are
+pub turns-start : (o : Order) (kind : Item) (t : List ℕ) (st : State) (k n : ℕ) → ran o t st k (times n (formatOf kind)) ≡ ran o t st (k + 0) (times (n - 0) (formatOf kind))
+turns-start o kind t st k n = let a : k ≡ k + 0 = omega arith in let b : n ≡ n - 0 = omega arith in ap₂ (λ (j m : ℕ). ran o t st j (times m (formatOf kind))) a b
+
+pub turns-over : (o : Order) (kind : Item) (t out : List ℕ) (at k n i : ℕ) → i ≤ n → n ≤ i → at ≤ 16777216 → ran o t (mk out (8 * at) 0) (k + i) (times (n - i) (formatOf kind)) ≡ this (here (mk out (8 * at) 0) (k + n))
+turns-over o kind t out at k n i h l small =
+    let a : k + i ≡ k + n = omega arith in
+    ap (ran o t (mk out (8 * at) 0) (k + i)) (times-over (formatOf kind) (n - i) (omega arith)) ∙ ran-nothing o t (mk out (8 * at) 0) (k + i) (omega arith) ∙ ap (λ (j : ℕ). this (here (mk out (8 * at) 0) j)) a
+
+-- ---- n of them, and too few numbers are left
+pub items-few : (o : Order) (kind : Item) (t : List ℕ) (st : State) (k n : ℕ) {m : ℕ} → m ≡ min n (length t - k) → m < n → cannot ≡ ran o t st k (times n (formatOf kind))
+items-few o kind t st k n e h = sym (times-few o (formatOf kind) (bitsOf o kind) (item-is o kind) t st k n (omega arith))
 
 -- ---- and from anywhere: after the skip before it
 module _ (o : Order) (kind : Item) (t : List ℕ) (st : State) (k : ℕ) {u : List ℕ} {byte bit : ℕ} (skip : Skipped o st u byte bit) where

@@ -3,7 +3,7 @@ use Prim.Native.Nat.{ℕ, zero, suc, pred, _+_, _-_, _*_, _/_, _%_, _^_, _≤_, 
 use mathlib.Core.List.{List, [], _∷_, _++_}
 use mathlib.Core.Path.{_≡_, refl, sym, ap, ap₂, _∙_, subst}
 use mathlib.Core.Bool.{Bool, true, false, not}
-use native.Mathlib.Nat.{add-zero, pow-suc, mod-eq-of-lt, mod-lt, suc-mul, mul-pos}
+use native.Mathlib.Nat.{add-zero, pow-suc, mod-eq-of-lt, mod-lt, suc-mul, mul-pos, mul-comm}
 use native.Mathlib.Numerals.{add-one}
 use native.Mathlib.Omega.{arith}
 use lib.ListN.{length, getD, take, drop, length-append, length-take, length-drop}
@@ -16,7 +16,7 @@ use Rattle.format.specs.Bits.{Order}
 use Rattle.format.specs.Formats.{item, Item, _▹_, times, the}
 use Rattle.format.specs.Items.{signExtend}
 use Rattle.format.specs.Possible.{Possible, this, cannot}
-use Rattle.format.specs.WritingItems.{dig, single, writeItem, spellUB, undo, unextend}
+use Rattle.format.specs.WritingItems.{dig, glue, single, writeItem, spellUB, undo, unextend}
 use Rattle.format.specs.WritingFormats.{unrun}
 use Rattle.table.specs.Fields.{allows, fieldOf, signed, announces, announced}
 use Rattle.table.specs.declared.fields.Field.{Field}
@@ -24,14 +24,14 @@ use Rattle.table.specs.declared.fields.Field.the-variants.{Verb, Interpolation,
 use Rattle.table.proofs.FieldLaws.{weight-is}
 use Rattle.format.proofs.BitLaws.{length-dig}
 use Rattle.format.proofs.Absurd.{clash}
-use Rattle.sink.specs.Laying.{State, mk, at, lay, Holds}
+use Rattle.sink.specs.Laying.{State, mk, at, lay, Holds, Split}
 use Rattle.sink.specs.declared.Sink.{Sink}
-use Rattle.sink.proofs.LayingLaws.{mk-eq, lay-append, lay-none, lay-some-past, lay-ok, lay-place}
+use Rattle.sink.proofs.LayingLaws.{mk-eq, lay-append, lay-none, lay-some-past, flow-on, flow-few}
 use Rattle.spelling.specs.declared.Put.{Put}
 use Rattle.spelling.specs.declared.Put.the-variants.{Done, Impossible}
 use Rattle.spelling.specs.Writing.{seen, ends, ran, limit, Fine, finish}
 use Rattle.spelling.specs.Spellings.{Announces}
-use Rattle.spelling.specs.Fields.{unsignedIn, signedIn, isField, allFields, Judges, digAll}
+use Rattle.spelling.specs.Fields.{unsignedIn, signedIn, isField, bare, allFields, Judges, digAll}
 use Rattle.spelling.proofs.RunLaws.{then-done, then-stop, finish-ends, times-end, times-one, times-bad, times-few, one-done, OneDone, the-one}
 use Rattle.spelling.proofs.NumberLaws.{passing-single}
 
@@ -85,7 +85,7 @@ module _ (w v m h u : ℕ) (low : 1 ≤ w) (few : w ≤ 32) (is : m ≡ 2 ^ w) (
       let p : 2 ^ w ≡ 2 ^ (w - 1) * 2 = ap (λ (n : ℕ). 2 ^ n) e ∙ pow-suc 2 (w - 1) in
       omega arith
 
-  pub signed-in : u < m → isField Coordinate w v ≡ true
+  signed-in : u < m → isField Coordinate w v ≡ true
   unfolding isField
   signed-in l = go (ltb v h) refl
     where
@@ -104,7 +104,7 @@ module _ (w v m h u : ℕ) (low : 1 ≤ w) (few : w ≤ 32) (is : m ≡ 2 ^ w) (
           let f : ltb d (2 ^ w) ≡ true = lt-ltb d (2 ^ w) (omega (arith, m-small, even)) in
           rw (a, b, eq-eqb _ _ e, f)
 
-  pub signed-out : m ≤ u → isField Coordinate w v ≡ false
+  signed-out : m ≤ u → isField Coordinate w v ≡ false
   unfolding isField
   signed-out l = go (ltb ((v - (2 ^ 64 - 2 ^ w)) * 2) (2 ^ w)) refl
     where
@@ -119,6 +119,38 @@ module _ (w v m h u : ℕ) (low : 1 ≤ w) (few : w ≤ 32) (is : m ≡ 2 ^ w) (
             q,
             ne-eqb (v - (2 ^ 64 - 2 ^ w) + (2 ^ 64 - 2 ^ w)) v (λ z. omega (arith, m-small, even, ltb-false ((v - (2 ^ 64 - 2 ^ w)) * 2) (2 ^ w) q)),
           )
+
+-- of a bare kind; m is 2 ^ w, and h how many of m numbers are negative
+module _ (f : Field) (w v m h u : ℕ) (free : bare f ≡ true) (low : 1 ≤ w) (few : w ≤ 32) (is : m ≡ 2 ^ w) (half : h ≡ pick (signed f) (m / 2) 0) (small : v < 2 ^ 64) (sum : u ≡ (v + h) % 2 ^ 64) where
+  same : signed f ≡ false → u ≡ v
+  same e =
+      let z : h ≡ 0 = half ∙ rw e in
+      let y : (v + h) % 2 ^ 64 ≡ v % 2 ^ 64 = ap (λ (x : ℕ). x % 2 ^ 64) (ap (λ (x : ℕ). v + x) z ∙ add-zero v) in
+      sum ∙ y ∙ mod-eq-of-lt small
+
+  pub bare-in : u < m → isField f w v ≡ true
+  unfolding isField
+  bare-in l = go f free half refl
+    where
+      go : (g : Field) → bare g ≡ true → h ≡ pick (signed g) (m / 2) 0 → g ≡ f → isField g w v ≡ true
+      go Verb b e q = clash cc
+      go Interpolation b e q = clash cc
+      go SpatialFlag b e q = clash cc
+      go Plain b e q = lt-ltb v (2 ^ w) (let z : u ≡ v = same (ap signed (sym q)) in omega arith)
+      go ByteValue b e q = clash cc
+      go Coordinate b e q = signed-in w v m h u low few is e small sum l
+
+  pub bare-out : m ≤ u → isField f w v ≡ false
+  unfolding isField
+  bare-out l = go f free half refl
+    where
+      go : (g : Field) → bare g ≡ true → h ≡ pick (signed g) (m / 2) 0 → g ≡ f → isField g w v ≡ false
+      go Verb b e q = clash cc
+      go Interpolation b e q = clash cc
+      go SpatialFlag b e q = clash cc
+      go Plain b e q = rw (le-ltb v (2 ^ w) (let z : u ≡ v = same (ap signed (sym q)) in omega arith))
+      go ByteValue b e q = clash cc
+      go Coordinate b e q = signed-out w v m h u low few is e small sum l
 
 -- ---- one field by its kind
 abbrev fieldSpelling : Order → Field → ℕ → ℕ → Possible (List Bool)
@@ -238,66 +270,105 @@ counted-next f t k i a l e =
     let b : i < length (drop k t) = rw length-drop (omega arith) in
     rw (add-one i, announced-one f (drop k t) i (getD t (k + i) 0) b (sym (getD-drop k t i 0)), e, a)
 
--- SB fields announce none
-none-announced : (vs : List ℕ) → 0 ≡ announced Coordinate vs
-none-announced [] = refl
-none-announced (v ∷ vs) = let e : 0 ≡ announced Coordinate vs = none-announced vs in rw (← e) refl
+-- bare fields announce none
+module _ (f : Field) (free : bare f ≡ true) where
+  no-more : (v : ℕ) → 0 ≡ announces f v
+  no-more v = go f free
+    where
+      go : (g : Field) → bare g ≡ true → 0 ≡ announces g v
+      go Verb b = clash cc
+      go Interpolation b = clash cc
+      go SpatialFlag b = clash cc
+      go Plain b = refl
+      go ByteValue b = refl
+      go Coordinate b = refl
 
-pub signed-judges : (f : Field) (w : ℕ) (vs : List ℕ) (good : Bool) → signed f ≡ true → good ≡ allFields Coordinate w vs → Judges f w vs good 0
-signed-judges Verb w vs good h e = clash cc
-signed-judges Interpolation w vs good h e = clash cc
-signed-judges SpatialFlag w vs good h e = clash cc
-signed-judges Plain w vs good h e = clash cc
-signed-judges ByteValue w vs good h e = clash cc
-signed-judges Coordinate w vs good h e = record { judged = e; counted = go good }
-  where
-    go : (c : Bool) → 0 ≡ pick c (announced Coordinate vs) 0
-    go true = none-announced vs
-    go false = refl
+  none-announced : (vs : List ℕ) → 0 ≡ announced f vs
+  none-announced [] = refl
+  none-announced (v ∷ vs) = rw (← no-more v, ← none-announced vs) refl
 
--- ---- n fields are put: of the first i the bits are laid, and no place was judged
-pub record Putting (o : Order) (w : ℕ) (t out : List ℕ) (s : Sink) (k n : ℕ) (u : List ℕ) (cur : Sink) (i : ℕ) : Type 0 where
-  pub size : length u ≡ length out
+  pub bare-judges : (w : ℕ) (vs : List ℕ) (good : Bool) → good ≡ allFields f w vs → Judges f w vs good 0
+  bare-judges w vs good e = record { judged = e; counted = go good }
+    where
+      go : (c : Bool) → 0 ≡ pick c (announced f vs) 0
+      go true = none-announced vs
+      go false = refl
+
+-- what is not bare is not signed
+pub not-bare : (f : Field) → bare f ≡ false → signed f ≡ false
+not-bare Verb b = refl
+not-bare Interpolation b = refl
+not-bare SpatialFlag b = refl
+not-bare Plain b = refl
+not-bare ByteValue b = refl
+not-bare Coordinate b = clash cc
+
+-- ---- n fields are put: of the first i the bits are laid or wait, `held` of them from a whole byte on, and no place was judged
+abbrev pub waits : Order → List ℕ → ℕ → ℕ → ℕ → State
+waits o u byte held waiting = lay o (mk u (8 * byte) 0) (dig o held waiting)
+
+pub record Gathering (o : Order) (w : ℕ) (t : List ℕ) (st : State) (k n : ℕ) (u : List ℕ) (byte held waiting i : ℕ) : Type 0 where
   pub within : i ≤ n
-  pub holds : Holds (cur .place .0) (cur .part)
-  pub low : cur .place .0 ≤ limit + 32 * i
-  pub rest : lay o (at out s) (digAll o w (take n (drop k t))) ≡ lay o (at u cur) (digAll o w (behind t k n i))
+  pub small : waiting < 2 ^ held
+  pub low : 8 * byte + held ≤ limit + 32 * i
+  pub rest : lay o st (digAll o w (take n (drop k t))) ≡ lay o (waits o u byte held waiting) (digAll o w (behind t k n i))
 
-pub putting-start : (o : Order) (w : ℕ) (t out : List ℕ) (s : Sink) (k n : ℕ) → Fine s → Putting o w t out s k n out s 0
-putting-start o w t out s k n fine = record {
-  size = refl;
+pub gathering-start : (o : Order) (w : ℕ) (t u : List ℕ) (p a k n : ℕ) → Holds p a → p ≤ limit → Gathering o w t (waits o u (p / 8) (p % 8) a) k n u (p / 8) (p % 8) a 0
+gathering-start o w t u p a k n holds low = record {
   within = omega arith;
-  holds = fine .0;
-  low = omega (arith, fine .1);
-  rest = ap (λ (vs : List ℕ). lay o (at out s) (digAll o w vs)) (behind-none t k n);
+  small = holds;
+  low = omega arith;
+  rest = ap (λ (vs : List ℕ). lay o (waits o u (p / 8) (p % 8) a) (digAll o w vs)) (behind-none t k n);
 }
 
-module _ {o : Order} {w : ℕ} {t out : List ℕ} {s : Sink} {k n : ℕ} {u : List ℕ} {cur : Sink} {i : ℕ} (g : Putting o w t out s k n u cur i) where
-  -- m is 2 ^ w
-  pub putting-next : {m : ℕ} {u′ : List ℕ} {s′ : Sink} → i < n → n ≤ length t - k → w ≤ 32 → m ≡ 2 ^ w → length u′ ≡ length u → at u′ s′ ≡ lay o (at u cur) (dig o w (getD t (k + i) 0 % m))
-      → Putting o w t out s k n u′ s′ (i + 1)
+module _ {o : Order} {w : ℕ} {t : List ℕ} {st : State} {k n : ℕ} {u : List ℕ} {byte held x i : ℕ} (g : Gathering o w t st k n u byte held x i) where
+  -- a field more waits; m is 2 ^ w
+  pub gathering-next : {m y : ℕ} → i < n → n ≤ length t - k → w ≤ 32 → m ≡ 2 ^ w → y ≡ glue o held w x (getD t (k + i) 0 % m) → y < 2 ^ (held + w) → Gathering o w t st k n u byte (held + w) y (i + 1)
   unfolding digAll
-  putting-next {m} {u′} {s′} more inside few is size d = record {
-    size = size ∙ g .size;
+  gathering-next {m} {y} more inside few is glued below = record {
     within = omega arith;
-    holds = subst (λ (z : State). Holds (z .place) (z .part)) (sym d) (lay-ok o (at u cur) bits (g .holds));
-    low =
-        let p : s′ .place .0 ≡ cur .place .0 + length bits = ap (λ (z : State). z .place) d ∙ lay-place o (at u cur) bits in
-        omega (arith, g .low, length-dig o w (getD t (k + i) 0 % m));
+    small = below;
+    low = omega (arith, g .low);
     rest =
         g .rest
-        ∙ ap (λ (vs : List ℕ). lay o (at u cur) (digAll o w vs)) (behind-more t k n i more inside)
-        ∙ ap (λ (x : ℕ). lay o (at u cur) (dig o w (getD t (k + i) 0 % x) ++ digAll o w (behind t k n (i + 1)))) (sym is)
-        ∙ lay-append o (at u cur) bits (digAll o w (behind t k n (i + 1)))
-        ∙ ap (λ (z : State). lay o z (digAll o w (behind t k n (i + 1)))) (sym d);
+        ∙ ap (λ (vs : List ℕ). lay o (waits o u byte held x) (digAll o w vs)) (behind-more t k n i more inside)
+        ∙ ap (λ (z : ℕ). lay o (waits o u byte held x) (dig o w (getD t (k + i) 0 % z) ++ digAll o w (behind t k n (i + 1)))) (sym is)
+        ∙ lay-append o (waits o u byte held x) (dig o w field) (digAll o w (behind t k n (i + 1)))
+        ∙ ap (λ (z : State). lay o z (digAll o w (behind t k n (i + 1)))) (sym (flow-on o (mk u (8 * byte) 0) held w y x field apart refl));
   }
     where
-      bits : List Bool
-      bits = dig o w (getD t (k + i) 0 % m)
+      field : ℕ
+      field = getD t (k + i) 0 % m
 
-  pub putting-over : n ≤ i → at u cur ≡ lay o (at out s) (digAll o w (take n (drop k t)))
+      apart : Split o held w y x field
+      apart = record { glued = glued; first = g .small; last = rest-small w (getD t (k + i) 0) m is }
+
+  -- the first 32 bits are put as a field
+  pub gathering-put : {a b : ℕ} {u′ : List ℕ} → 32 ≤ held → Split o 32 (held - 32) x a b → mk u′ (8 * byte + 32) 0 ≡ lay o (mk u (8 * byte) 0) (dig o 32 a)
+      → Gathering o w t st k n u′ (byte + 4) (held - 32) b i
+  gathering-put {a} {b} {u′} full apart d = record {
+    within = g .within;
+    small = apart .last;
+    low = omega (arith, g .low);
+    rest = g .rest ∙ ap (λ (z : State). lay o z (digAll o w (behind t k n i))) put;
+  }
+    where
+      put : waits o u byte held x ≡ waits o u′ (byte + 4) (held - 32) b
+      put =
+          let c : held ≡ 32 + (held - 32) = omega arith in
+          ap (λ (j : ℕ). lay o (mk u (8 * byte) 0) (dig o j x)) c
+          ∙ flow-on o (mk u (8 * byte) 0) 32 (held - 32) x a b apart (sym d ∙ mk-eq refl (omega arith) refl)
+
+  pub gathering-over : n ≤ i → waits o u byte held x ≡ lay o st (digAll o w (take n (drop k t)))
   unfolding digAll
-  putting-over h = sym (g .rest ∙ ap (λ (vs : List ℕ). lay o (at u cur) (digAll o w vs)) (behind-all t k n i h) ∙ lay-none o (at u cur))
+  gathering-over h = sym (g .rest ∙ ap (λ (vs : List ℕ). lay o (waits o u byte held x) (digAll o w vs)) (behind-all t k n i h) ∙ lay-none o (waits o u byte held x))
+
+-- all of them: from a place p of the output that was there to where the bits that waited at the end were put
+pub gathered : (o : Order) (w : ℕ) (t out : List ℕ) (p a k n : ℕ) {u : List ℕ} {byte held x i q : ℕ} {z : State} → Gathering o w t (waits o out (p / 8) (p % 8) a) k n u byte held x i → n ≤ i → p / 8 < length out → Holds p a
+    → q ≡ 8 * byte → z ≡ lay o (mk u q 0) (dig o held x) → z ≡ lay o (mk out p a) (digAll o w (take n (drop k t)))
+gathered o w t out p a k n {u} {byte} {held} {x} g over there holds e d =
+    d ∙ ap (λ (j : ℕ). lay o (mk u j 0) (dig o held x)) e ∙ gathering-over g over
+    ∙ ap (λ (st : State). lay o st (digAll o w (take n (drop k t)))) (ap (λ (j : ℕ). lay o (mk out j 0) (dig o (p % 8) a)) (mul-comm 8 (p / 8)) ∙ flow-few o out (p / 8) (p % 8) a there (omega arith) holds (omega arith))
 
 pub put-none : (o : Order) (w : ℕ) (t out : List ℕ) (s : Sink) (k n : ℕ) → n ≡ 0 → at out s ≡ lay o (at out s) (digAll o w (take n (drop k t)))
 unfolding digAll

@@ -1,8 +1,9 @@
 -- The spellings of one number as the code has them, and the items of one number.
 use Prim.Native.Nat.{ℕ, zero, suc, _+_, _-_, _*_, _/_, _%_, _^_, _≤_, _<_}
 use mathlib.Core.List.{List, [], _∷_}
-use mathlib.Core.Path.{_≡_, refl, sym, ap, _∙_}
+use mathlib.Core.Path.{_≡_, refl, sym, ap, _∙_, subst}
 use mathlib.Core.Bool.{Bool, true, false}
+use native.Mathlib.Nat.{mul-assoc, pow-zero, pow-suc}
 use native.Mathlib.Omega.{arith}
 use lib.ListN.{length, getD, set}
 use lib.Seq.{set-out}
@@ -18,13 +19,14 @@ use Rattle.format.specs.WritingFormats.{passing, adjoin, unrun}
 use Rattle.items.specs.Kinds.{formatOf, rangeFault}
 use Rattle.items.specs.declared.Item.{Item}
 use Rattle.items.specs.declared.Item.the-variants.{U32, I32, Time, Float, Uint16, Byte, Enum, BlendMode, Count}
-use Rattle.sink.specs.Laying.{State, mk, at, Skipped}
+use Rattle.format.proofs.Absurd.{clash}
+use Rattle.sink.specs.Laying.{State, mk, at, lay, Skipped}
 use Rattle.sink.specs.declared.Sink.{Sink}
 use Rattle.sink.proofs.LayingLaws.{lay-byte, lay-none}
 use Rattle.spelling.specs.declared.Put.{Put}
 use Rattle.spelling.specs.declared.Put.the-variants.{Done, Impossible}
 use Rattle.spelling.specs.Writing.{bitsOver, Seen, here, seen, ran}
-use Rattle.spelling.specs.Spellings.{spellingOf, fourBytes}
+use Rattle.spelling.specs.Spellings.{spellingOf, spelledTo, fourBytes}
 use Rattle.spelling.proofs.RunLaws.{then-stop, then-done, laid-before, laid-in, laid-no, one-done, OneDone, the-one}
 
 -- ---- a byte
@@ -37,6 +39,31 @@ byte-no o st v h = laid-no o st (spellUB o 8 v) (rw (le-ltb v (2 ^ 8) (omega ari
 -- one byte, and what follows it
 pub byte-then : (o : Order) (out : List ℕ) (i p v : ℕ) {u : List ℕ} (b : Possible (List Bool)) → v < 256 → p ≡ 8 * i → u ≡ set out i v → bitsOver o (mk out p 0) (before (dig o 8 v) b) ≡ bitsOver o (mk u (p + 8) 0) b
 byte-then o out i p v b h e d = laid-before o (mk out p 0) (dig o 8 v) b ∙ ap (λ (st : State). bitsOver o st b) (lay-byte o out i v h e d)
+
+-- ---- seven bits a byte: a number below (c + 1) * 128 ^ k has a spelling
+var-spelt : (o : Order) (c k v : ℕ) → v < (c + 1) * 128 ^ k → spellVar o c v k ≡ cannot → ⊥
+unfolding spellVar
+var-spelt o c zero v h e = let m : this (dig o 8 v) ≡ cannot = rw (le-leb v c (omega (arith, rw pow-zero at h))) at e in clash cc
+var-spelt o c (suc k) v h e = go (ltb v 128) e (var-spelt o c k (v / 128) less)
+  where
+    less : v / 128 < (c + 1) * 128 ^ k
+    less = let m : v < (c + 1) * 128 ^ k * 128 = subst (λ (x : ℕ). v < x) (ap (λ (x : ℕ). (c + 1) * x) (pow-suc 128 k) ∙ sym (mul-assoc (c + 1) (128 ^ k) 128)) h in omega arith
+
+    step : (x : Possible (List Bool)) → before (dig o 8 (128 + v % 128)) x ≡ cannot → x ≡ cannot
+    step (this bs) q = clash cc
+    step cannot q = refl
+
+    go : (b : Bool) → pick b (this (dig o 8 v)) (before (dig o 8 (128 + v % 128)) (spellVar o c (v / 128) k)) ≡ cannot → (spellVar o c (v / 128) k ≡ cannot → ⊥) → ⊥
+    go true q less-so = clash cc
+    go false q less-so = less-so (step (spellVar o c (v / 128) k) q)
+
+-- so has every time
+pub time-put : (o : Order) (st : State) (u : List ℕ) (p v : ℕ) → v < 2 ^ 64 → spelledTo u p ≡ bitsOver o st (spellVar o 1 v 9) → p ≡ 0 → ⊥
+time-put o st u p v h e z = go (spellVar o 1 v 9) refl
+  where
+    go : (x : Possible (List Bool)) → spellVar o 1 v 9 ≡ x → ⊥
+    go (this bs) q = let m : cannot ≡ this (lay o st bs) = sym (rw (eq-eqb p 0 z)) ∙ e ∙ ap (bitsOver o st) q in clash cc
+    go cannot q = var-spelt o 1 9 v (omega arith) q
 
 -- ---- a Float
 pub float-in : (o : Order) (out : List ℕ) (i p v : ℕ) {u₀ u₁ u₂ u₃ : List ℕ} → p ≡ 8 * i → v ≤ 4294967295

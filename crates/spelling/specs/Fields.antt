@@ -10,6 +10,7 @@ use Rattle.format.specs.Items.{signExtend}
 use Rattle.format.specs.WritingItems.{dig, unextend}
 use Rattle.table.specs.Fields.{allows, signed, announced}
 use Rattle.table.specs.declared.fields.Field.{Field}
+use Rattle.table.specs.declared.fields.Field.the-variants.{Verb, Interpolation, SpatialFlag, Plain, ByteValue, Coordinate}
 
 -- v is a number of UB[w]; and of SB[w]: its field shows it
 abbrev pub unsignedIn : ℕ → ℕ → Bool
@@ -21,6 +22,15 @@ signedIn w v = pick (eqb (signExtend w (unextend w v)) v) (ltb (unextend w v) (2
 -- a field of this kind and w bits may have the number v
 unfoldable pub isField : Field → ℕ → ℕ → Bool
 isField f w v = pick (allows f v) (pick (signed f) (signedIn w v) (unsignedIn w v)) false
+
+-- nothing is asked of its number but that its bits can have it, and it announces nothing
+abbrev pub bare : Field → Bool
+bare Verb = false
+bare Interpolation = false
+bare SpatialFlag = false
+bare Plain = true
+bare ByteValue = false
+bare Coordinate = true
 
 unfoldable pub allFields : Field → ℕ → List ℕ → Bool
 allFields f w [] = true

@@ -1,19 +1,19 @@
 // Runs of bit fields: verbs, coordinates, interpolations, keyframed Bools and bytes, easing.
 ghost use mathlib.Core.Path.{_≡_};
-ghost use mathlib.Core.Bool.{false};
-ghost use Prim.Native.Nat.{_-_, _≤_, _<_, _^_};
+ghost use mathlib.Core.Bool.{true, false};
+ghost use Prim.Native.Nat.{_-_, _/_, _≤_, _<_, _^_};
 ghost use lib.ListN.{length, take, drop};
 ghost use Rattle.format.specs.Formats.{item, Item, times, the, _▹_};
 ghost use Rattle.bits.specs.Places.{orderOf};
 ghost use Rattle.table.specs.Fields.{fieldOf, signed};
-ghost use Rattle.table.specs.declared.fields.Field.the-variants.{Coordinate};
 ghost use Rattle.sink.specs.Laying.{at as under, lay};
 ghost use Rattle.spelling.specs.Writing.{seen, ran, Fine};
 ghost use Rattle.spelling.specs.Spellings.{Announces, WritesLessOne};
-ghost use Rattle.spelling.specs.Fields.{allFields, Judges, digAll};
+ghost use Rattle.spelling.specs.Fields.{bare, allFields, Judges, digAll};
 use crate::Put;
 use crate::ended;
 use bits::BitPlace;
+use bits::BytePlace;
 use bits::Order;
 use sink::Sink;
 use table::fields::Field;
@@ -30,22 +30,31 @@ struct Judged {
     count: usize,
 }
 
-// Are n numbers SB fields of w bits? The sum wraps a negative number back: v is one from -half up to half.
-fn all_signed(width: usize, count: usize, values: &[u64], from: usize) -> bool
-    requires { ⌜ (1 ≤ width) × (width ≤ 32) × (count ≤ length (now values) - from) ⌝ }
-    ensures { λ r. ⌜ r ≡ allFields Coordinate width (take count (drop from (now (values .entry)))) ⌝ }
+// Are n numbers bare fields of w bits: plain ones, or coordinates? Nothing is asked of them but that their bits can have them. The sum wraps negative ones back, so that they are the least: 0 up to `size`.
+fn all_bare(kind: Field, width: usize, count: usize, values: &[u64], from: usize) -> bool
+    requires { ⌜ (1 ≤ width) × (width ≤ 32) × (count ≤ length (now values) - from) × (bare kind ≡ true) ⌝ }
+    ensures { λ r. ⌜ r ≡ allFields kind width (take count (drop from (now (values .entry)))) ⌝ }
 {
     let size = sink::power(width);
-    let half = size / 2;
+    let negatives = table::fields::negatives_of(kind, size);
     let mut i = 0;
     while i < count {
         let value = values[from + i];
-        if size <= std::num::wrapping_add_u64(value, half) {
+        if size <= std::num::wrapping_add_u64(value, negatives) {
             return false;
         }
         i += 1;
     }
     true
+}
+
+// The same, and that they announce nothing.
+fn judge_bare(kind: Field, width: usize, count: usize, values: &[u64], from: usize) -> Judged
+    requires { ⌜ (1 ≤ width) × (width ≤ 32) × (count ≤ length (now values) - from) × (bare kind ≡ true) ⌝ }
+    ensures { λ r. ⌜ Judges kind width (take count (drop from (now (values .entry)))) (r .good) (r .count) ⌝ }
+{
+    let good = all_bare(kind, width, count, values, from);
+    Judged { good, count: 0 }
 }
 
 // Are n numbers UB fields of w bits and a kind, and how many signed fields do they announce?
@@ -78,19 +87,56 @@ fn judge_unsigned(kind: Field, width: usize, count: usize, values: &[u64], from:
     }
 }
 
-// The same of fields of any kind: SB fields announce none.
+// The same of fields of any kind.
 fn judge(kind: Field, width: usize, count: usize, values: &[u64], from: usize) -> Judged
     requires { ⌜ (1 ≤ width) × (width ≤ 32) × (count < 2 ^ 32) × (count ≤ length (now values) - from) ⌝ }
     ensures { λ r. ⌜ Judges kind width (take count (drop from (now (values .entry)))) (r .good) (r .count) ⌝ }
 {
-    if table::fields::is_signed(kind) {
-        let good = all_signed(width, count, values, from);
-        return Judged { good, count: 0 };
+    match kind {
+        Field::Plain => judge_bare(kind, width, count, values, from),
+        Field::Coordinate => judge_bare(kind, width, count, values, from),
+        Field::Verb => judge_unsigned(kind, width, count, values, from),
+        Field::Interpolation => judge_unsigned(kind, width, count, values, from),
+        Field::SpatialFlag => judge_unsigned(kind, width, count, values, from),
+        Field::ByteValue => judge_unsigned(kind, width, count, values, from),
     }
-    judge_unsigned(kind, width, count, values, from)
 }
 
-// The lowest w bits of n numbers. Places only grow, so the last one alone is judged, by the caller.
+// The lowest w bits of n numbers, where there is a byte to put them to: bits are gathered, and 32 of them put at once.
+fn gather_fields(
+    order: Order,
+    width: usize,
+    count: usize,
+    out: &mut [u8],
+    sink: Sink,
+    values: &[u64],
+    from: usize,
+) -> Sink
+    requires { ⌜ Fine sink × (1 ≤ width) × (width ≤ 32) × (count < 2 ^ 32) × (count ≤ length (now values) - from) × (sink .place .0 / 8 < length (now out)) ⌝ }
+    ensures { λ r. ⌜ under (now (out .exit)) r ≡ lay (orderOf order) (under (now (out .entry)) sink) (digAll (orderOf order) width (take count (drop from (now (values .entry))))) ⌝ }
+{
+    let size = sink::power(width);
+    let mut byte = sink.place.0 / 8;
+    let mut held = sink.place.0 % 8;
+    let mut waiting = sink.part;
+    let mut i = 0;
+    while i < count {
+        waiting = sink::glue(order, waiting, held, values[from + i] % size, width);
+        held += width;
+        i += 1;
+        if 32 <= held {
+            held -= 32;
+            let parts = sink::split(order, waiting, 32, held);
+            sink::put_word(order, out, byte, parts.first);
+            waiting = parts.last;
+            byte += 4;
+        }
+    }
+    let place = bits::first_bit(BytePlace(byte));
+    sink::put_bits(order, out, Sink { place, part: 0 }, waiting, held)
+}
+
+// The same for any output. Places only grow, so the last one alone is judged, by the caller.
 fn put_fields(
     order: Order,
     width: usize,
@@ -113,14 +159,7 @@ fn put_fields(
         let place = BitPlace(at + count * width);
         return Sink { place, part: 0 };
     }
-    let size = sink::power(width);
-    let mut cur = sink;
-    let mut i = 0;
-    while i < count {
-        cur = sink::put_bits(order, out, cur, values[from + i] % size, width);
-        i += 1;
-    }
-    cur
+    gather_fields(order, width, count, out, sink, values, from)
 }
 
 // n fields of w bits: all are judged, and then put.

@@ -70,7 +70,7 @@ fn spell_uint16(out: &mut [u8], at: usize, value: u64) -> usize
 }
 
 // Seven bits a byte, lowest first: at most `most` bytes with the top bit set, and a last one, which is at most `top` after so many.
-fn spell_var(out: &mut [u8], at: usize, value: u64, most: u64, top: u64) -> usize
+pub(crate) fn spell_var(out: &mut [u8], at: usize, value: u64, most: u64, top: u64) -> usize
     requires { ⌜ (at ≤ 16777216) × (most ≤ 9) × (top < 128) ⌝ }
     ensures { λ r. ⌜ InEither (λ o. spelledTo (now (out .exit)) r ≡ bitsOver o (mk (now (out .entry)) (8 * at) 0) (spellVar o top value most)) ⌝ }
 {

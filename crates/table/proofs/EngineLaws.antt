@@ -100,11 +100,7 @@ module _ (o : Order) (b : List ℕ) (t : List ℕ) (k : ℕ) where
   pub then-never : {e : ℕ} (f : Format) (g : List ℕ → Format) (p : ℕ) → run o b f p ≡ stop e → state t k (Fault e) ≡ shownOver t k (run o b (f ▹ g) p)
   then-never {e} f g p h = then-stop f g p (sym (after-stop t k e) ∙ ap (shownOver t k) (sym h))
 
-  -- ---- times: none; and one more, after a reading that left u, j and q
-  pub times-none : {n : ℕ} (f : Format) (p : ℕ) → n ≡ 0 → shownOver t k (run o b (times n f) p) ≡ state t k (At p)
-  unfolding run times
-  times-none f p e = rw e (after-none t k p)
-
+  -- ---- times: one and the rest, after a reading that left u, j and q
   pub times-next : {u : List ℕ} {j q : ℕ} (n : ℕ) (f : Format) (p : ℕ) → 0 < n
       → state u j (At q) ≡ shownOver t k (run o b f p) → shownOver t k (run o b (times n f) p) ≡ shownOver u j (run o b (times (n - 1) f) q)
   unfolding times

@@ -5,32 +5,34 @@ use mathlib.Core.Path.{_≡_, refl, ap, sym, subst, _∙_}
 use mathlib.Core.Bool.{Bool, true, false}
 use lib.ListN.{length, length-set, set, getD}
 use lib.Seq.{sets}
-use native.Mathlib.Nat.{add-zero, add-mul, one-mul, suc-mul, mul-le-mul, mul-le-mul-right}
-use lib.Dec.{eqb}
-use borrow.Author.Tests.{ne-eqb, le-leb, leb-true}
+use native.Mathlib.Nat.{add-zero, zero-add, suc-add, add-mul, one-mul, suc-mul, mul-le-mul, mul-le-mul-right, le-div-iff-mul-le, div-lt-iff-lt-mul}
+use lib.Dec.{eqb, ltb}
+use borrow.Author.Tests.{ne-eqb, le-leb, leb-true, ltb-true, ltb-false}
 use native.Mathlib.Omega.{arith}
 use lib.Pow.{pow-mono}
 use Rattle.format.specs.Tests.{pick}
 use Rattle.format.specs.Bits.{Order, ub}
-use Rattle.format.specs.Reading.{At, Fault, Reading, shows, stop}
+use Rattle.format.specs.Reading.{At, Fault, Reading, shows, stop, follow}
 use Rattle.format.specs.Formats.{Item, item, only, times, the}
 use Rattle.format.specs.Items.{Num, num, bad, mapNum, showNum, readUB, readWidth, readItem, signExtend, judge, run, coordinatesOf, coordinates}
 use Rattle.format.specs.Bodies.{howMany}
 use Rattle.format.proofs.Absurd.{clash}
 use Rattle.format.proofs.BitLaws.{ub-lt}
-use Rattle.format.proofs.SizeLaws.{Fair, FairReading, fair-item, fair-only}
-use Rattle.format.proofs.WalkLaws.{run-le}
+use Rattle.format.proofs.SizeLaws.{Fair, fair-item, fair-only}
 use Rattle.bits.proofs.FieldLaws.{IsField, map-got, ub-in, ub-past, extended, unsigned}
 use Rattle.bits.specs.Places.{numOf, withSign}
 use Rattle.bits.specs.declared.BitPlace.{BitPlace}
 use Rattle.bits.specs.declared.Got.{Got}
 use Rattle.bits.specs.declared.Got.the-variants.{Value, Fault as GotFault}
 use Rattle.table.specs.State.{State, shownOver}
+use Rattle.table.specs.Run.{runLeaves}
 use Rattle.table.specs.Fields.{Fits, allows, judgeNum, fieldOf, signed, showsAll, announces, announced, weights}
+use Rattle.table.specs.declared.Run.{Run}
+use Rattle.table.specs.declared.Run.the-variants.{Done, Stop}
 use Rattle.table.specs.declared.fields.Field.{Field}
 use Rattle.table.specs.declared.fields.Field.the-variants.{Verb, Interpolation, SpatialFlag, Plain, ByteValue, Coordinate}
 use Rattle.table.proofs.StoringLaws.{Storing, storing-start, storing-next, storing-done}
-use Rattle.table.proofs.EngineLaws.{state, state-eq, after-one, after-stop, times-none, times-next, times-stop}
+use Rattle.table.proofs.EngineLaws.{state, after-none, after-one, after-stop, after-follow, times-next, times-stop}
 
 -- ---- one field
 
@@ -108,6 +110,19 @@ module _ (o : Order) (b : List ℕ) (p : ℕ) {r : Got} (read : numOf r ≡ read
   width-fits e f =
       let i : IsField o suc b p 5 _ _ = map-got o suc b p 5 (ap numOf (sym e) ∙ read) in
       (((i .inside, f .0 .1), omega (arith, i .next, f .1)), omega (arith, i .value), omega (arith, i .value, i .below))
+
+-- the bits of a kind that is not signed show as they are
+pub unsigned-shown : (kind : Field) (w x : ℕ) → signed kind ≡ false → x ≡ pick (signed kind) (signExtend w x) x
+unsigned-shown kind w x h = ap (λ (c : Bool). pick c (signExtend w x) x) (sym h)
+
+-- a kind that does not show whatever its bits are is not signed
+pub judged-unsigned : (kind : Field) (w : ℕ) → showsAll kind w ≡ false → signed kind ≡ false
+judged-unsigned Verb w h = refl
+judged-unsigned Interpolation w h = refl
+judged-unsigned SpatialFlag w h = refl
+judged-unsigned Plain w h = refl
+judged-unsigned ByteValue w h = refl
+judged-unsigned Coordinate w h = clash cc
 
 -- ---- what a field announces
 
@@ -203,48 +218,121 @@ unfolding run times
 shown-stop o kind w s p zero e h q = absurd (omega arith)
 shown-stop o kind w s p (suc m) e h q = rw (← q)
 
-module _ (o : Order) (kind : Field) (w : ℕ) (s t₀ : List ℕ) (k n p₀ : ℕ) where
-  abbrev fieldsFrom : ℕ → ℕ → Reading
-  fieldsFrom m p = run o s (times m (fieldOf kind w)) p
+-- ---- fields of which so many stand in the bytes, and the next does not
 
-  -- the whole from the start is what is left from here
-  pub record Going (t : List ℕ) (p j left count : ℕ) : Type 0 where
-    pub size : length t ≡ length t₀
-    pub rest : shownOver t₀ k (fieldsFrom n p₀) ≡ shownOver t j (fieldsFrom left p)
-    pub counts : announced kind (fieldsFrom n p₀ .shown) ≡ count + announced kind (fieldsFrom left p .shown)
-    pub fits : Fits s p j
-    pub few : count + 6 * left ≤ 6 * n
+-- all of the n, or as many whole ones as there are bits z for
+module _ (n w z : ℕ) (wide : 1 ≤ w) where
+  pub fits-all : n * w ≤ z → n ≡ min n (z / w)
+  fits-all h = let l : n ≤ z / w = le-div-iff-mul-le wide .1 h in omega arith
 
-  module _ {t : List ℕ} {p j left count : ℕ} (wide : 1 ≤ w) (some : 0 < left) (g : Going t p j left count) where
-    pub fields-next : {v q c : ℕ} {u : List ℕ} → showNum (num v q) ≡ run o s (fieldOf kind w) p → u ≡ set t j v → (c ≡ announces kind v) × (c ≤ 6)
-        → Going u q (j + 1) (left - 1) (count + c)
-    fields-next {v} {q} {c} {u} e d h =
-        let f : FairReading 0 (8 * length s) p (shows (v ∷ []) q) = subst (λ (r : Reading). FairReading 0 (8 * length s) p r) (sym e) (fair-field o kind w wide s p (g .fits .0 .0)) in
-        let l : (p ≤ q) × (q ≤ 8 * length s) = run-le o s (fieldOf kind w) p q (g .fits .0 .0) (ap (λ (r : Reading). r .ended) (sym e)) in
+  pub fits-some : {b : ℕ} → b ≡ z → z < n * w → b / w ≡ min n (z / w)
+  fits-some {b} e h = let l : z / w < n = div-lt-iff-lt-mul wide .1 h in rw e (omega arith)
+
+-- of n fields of w bits from p on, m stand in s
+pub record Stand (w : ℕ) (s : List ℕ) (p n m : ℕ) : Type 0 where
+  pub upto : m ≤ n
+  pub inside : p + m * w ≤ 8 * length s
+  pub past : m < n → 8 * length s < p + m * w + w
+
+pub stand : {w : ℕ} {s : List ℕ} {p n m : ℕ} → 1 ≤ w → p ≤ 8 * length s → m ≡ min n ((8 * length s - p) / w) → Stand w s p n m
+stand {w} {s} {p} {n} {m} wide l e =
+    let z : ℕ = 8 * length s - p in
+    let h : m * w ≤ z = le-div-iff-mul-le wide .0 (omega (arith, e)) in
+    let j : m < n → z < m * w + w = λ i. subst (λ (x : ℕ). z < x) (suc-mul m w) (div-lt-iff-lt-mul wide .0 (omega (arith, e, i))) in
+    record { upto = omega (arith, e); inside = omega (arith, h, l); past = λ i. omega (arith, j i, l) }
+
+-- one field more is w bits more
+step-more : (i w : ℕ) → (i + 1) * w ≡ i * w + w
+step-more i w = add-mul i 1 w ∙ ap (λ (y : ℕ). i * w + y) (one-mul w)
+
+-- one of m fields ends where the m fields end, or before
+step-in : (i m w : ℕ) → i < m → i * w + w ≤ m * w
+step-in i m w h = subst (λ (x : ℕ). x ≤ m * w) (suc-mul i w) (mul-le-mul-right w h)
+
+module _ (o : Order) (kind : Field) {w : ℕ} {s : List ℕ} {p n m q : ℕ} (st : Stand w s p n m) (place : q ≡ p + m * w) where
+  -- what is left after them is 13, where something is left
+  rest-is : run o s (times (n - m) (fieldOf kind w)) q ≡ pick (ltb m n) (stop 13) (shows [] q)
+  unfolding run times
+  rest-is = go (n - m) refl (ltb m n) refl
+    where
+      go : (left : ℕ) → n - m ≡ left → (t : Bool) → ltb m n ≡ t → run o s (times left (fieldOf kind w)) q ≡ pick t (stop 13) (shows [] q)
+      go zero e true h = absurd (omega (arith, e, ltb-true m n h))
+      go zero e false h = refl
+      go (suc left) e true h = rw (← field-past o kind s q w (omega (arith, place, st .past (ltb-true m n h))))
+      go (suc left) e false h = absurd (omega (arith, e, ltb-false m n h))
+
+  rest-announced : announced kind (run o s (times (n - m) (fieldOf kind w)) q .shown) ≡ 0
+  rest-announced = rw rest-is (go (ltb m n))
+    where
+      go : (t : Bool) → announced kind (pick t (stop 13) (shows [] q) .shown) ≡ 0
+      go true = refl
+      go false = refl
+
+  -- the code's answer is what is left, laid over the table
+  rest-left : (k : ℕ) {t : List ℕ} {R : Run} → R ≡ pick (ltb m n) (Stop 13 (k + m)) (Done (record { 0 = q }) (k + n)) → runLeaves t R ≡ shownOver t (k + m) (run o s (times (n - m) (fieldOf kind w)) q)
+  rest-left k {t} {R} e = ap (runLeaves t) e ∙ go (ltb m n) refl ∙ ap (shownOver t (k + m)) (sym rest-is)
+    where
+      go : (c : Bool) → ltb m n ≡ c → runLeaves t (pick c (Stop 13 (k + m)) (Done (record { 0 = q }) (k + n))) ≡ shownOver t (k + m) (pick c (stop 13) (shows [] q))
+      go true h = sym (after-stop t (k + m) 13)
+      go false h = let x : k + n ≡ k + m = omega (arith, ltb-false m n h, st .upto) in rw x (sym (after-none t (k + m) q))
+
+-- ---- a run of fields that may be refused, step by step: m of its n fields stand in the bytes
+
+abbrev fieldsFrom : Order → Field → ℕ → List ℕ → ℕ → ℕ → Reading
+fieldsFrom o kind w s left p = run o s (times left (fieldOf kind w)) p
+
+-- after i fields: the whole from the start is what is left from here
+pub record Going (o : Order) (kind : Field) (w : ℕ) (s t₀ : List ℕ) (k n p₀ m : ℕ) (t : List ℕ) (p i count : ℕ) : Type 0 where
+  pub size : length t ≡ length t₀
+  pub rest : shownOver t₀ k (fieldsFrom o kind w s n p₀) ≡ shownOver t (k + i) (fieldsFrom o kind w s (n - i) p)
+  pub counts : announced kind (fieldsFrom o kind w s n p₀ .shown) ≡ count + announced kind (fieldsFrom o kind w s (n - i) p .shown)
+  pub upto : i ≤ m
+  pub place : p ≡ p₀ + i * w
+  pub few : count ≤ 6 * i
+
+pub going-start : {o : Order} {kind : Field} {w : ℕ} {s t₀ : List ℕ} {k n p₀ m : ℕ} → Going o kind w s t₀ k n p₀ m t₀ p₀ 0 0
+going-start {k = k} {n} = let z : n - 0 ≡ n = omega arith in record { size = refl; rest = rw (add-zero k, z); counts = rw z (sym (zero-add _)); upto = omega arith; place = omega arith; few = omega arith }
+
+module _ {o : Order} {kind : Field} {w : ℕ} {s t₀ : List ℕ} {k n p₀ m : ℕ} {t : List ℕ} {p i count : ℕ} (st : Stand w s p₀ n m) (g : Going o kind w s t₀ k n p₀ m t p i count) where
+  module _ (some : i < m) where
+    pub fields-in : p + w ≤ 8 * length s
+    fields-in = omega (arith, g .place, step-in i m w some, st .inside)
+
+    pub fields-next : {v c : ℕ} {u : List ℕ} → showNum (num v (p + w)) ≡ run o s (fieldOf kind w) p → u ≡ set t (k + i) v → (c ≡ announces kind v) × (c ≤ 6)
+        → Going o kind w s t₀ k n p₀ m u (p + w) (i + 1) (count + c)
+    fields-next {v} {c} {u} e d h =
+        let more : 0 < n - i = omega (arith, st .upto) in
+        let j : k + i + 1 ≡ k + (i + 1) = omega arith in
+        let l : n - i - 1 ≡ n - (i + 1) = omega arith in
+        let r : shownOver t (k + i) (fieldsFrom o kind w s (n - i) p) ≡ shownOver u (k + i + 1) (fieldsFrom o kind w s (n - i - 1) (p + w)) = times-next o s t (k + i) (n - i) (fieldOf kind w) p more (rw d (sym (after-one t (k + i) v (p + w)) ∙ ap (shownOver t (k + i)) e)) in
         record {
-          size = ap length d ∙ length-set t j v ∙ g .size;
-          rest = g .rest ∙ times-next o s t j left (fieldOf kind w) p some (rw d (sym (after-one t j v q) ∙ ap (shownOver t j) e));
-          counts = g .counts ∙ ap (λ (m : ℕ). count + m) (shown-next o kind w s p left v q some e) ∙ rw (h .0) (omega arith);
-          fits = ((l .1, g .fits .0 .1), omega (arith, f, g .fits .1));
+          size = ap length d ∙ length-set t (k + i) v ∙ g .size;
+          rest = g .rest ∙ (rw (j, l) at r);
+          counts = g .counts ∙ ap (λ (y : ℕ). count + y) (shown-next o kind w s p (n - i) v (p + w) more e) ∙ rw (l, h .0) (omega arith);
+          upto = omega arith;
+          place = omega (arith, g .place, step-more i w);
           few = omega (arith, h .1, g .few);
         }
 
     pub fields-stop : {e : ℕ} → showNum (bad e) ≡ run o s (fieldOf kind w) p
-        → (state t j (Fault e) ≡ shownOver t₀ k (fieldsFrom n p₀)) × ((count ≡ announced kind (fieldsFrom n p₀ .shown)) × (count ≤ 6 * n))
-    fields-stop {e} h = (
-      sym (g .rest ∙ times-stop o s t j left (fieldOf kind w) p some (sym (after-stop t j e) ∙ ap (shownOver t j) h)),
-      (sym (g .counts ∙ ap (λ (m : ℕ). count + m) (shown-stop o kind w s p left e some h) ∙ add-zero count), omega (arith, g .few)),
-    )
+        → (state t (k + i) (Fault e) ≡ shownOver t₀ k (fieldsFrom o kind w s n p₀)) × ((count ≡ announced kind (fieldsFrom o kind w s n p₀ .shown)) × (count ≤ 6 * n))
+    fields-stop {e} h =
+        let more : 0 < n - i = omega (arith, st .upto) in (
+          sym (g .rest ∙ times-stop o s t (k + i) (n - i) (fieldOf kind w) p more (sym (after-stop t (k + i) e) ∙ ap (shownOver t (k + i)) h)),
+          (sym (g .counts ∙ ap (λ (y : ℕ). count + y) (shown-stop o kind w s p (n - i) e more h) ∙ add-zero count), omega (arith, g .few, st .upto)),
+        )
 
-  pub fields-done : {t : List ℕ} {p j left count : ℕ} → left ≡ 0 → Going t p j left count
-      → (state t j (At p) ≡ shownOver t₀ k (fieldsFrom n p₀)) × ((count ≡ announced kind (fieldsFrom n p₀ .shown)) × (count ≤ 6 * n))
-  unfolding run times
-  fields-done {t} {p} {j} {left} {count} e g = (
-    sym (g .rest ∙ times-none o s t j (fieldOf kind w) p e),
-    (sym (g .counts ∙ rw e (add-zero count)), omega (arith, g .few)),
-  )
+  -- those that stand there are all read
+  pub fields-end : {R : Run} → m ≤ i → R ≡ pick (ltb m n) (Stop 13 (k + m)) (Done (record { 0 = p }) (k + n))
+      → (runLeaves t R ≡ shownOver t₀ k (fieldsFrom o kind w s n p₀)) × ((count ≡ announced kind (fieldsFrom o kind w s n p₀ .shown)) × (count ≤ 6 * n))
+  fields-end {R} h e =
+      let d : i ≡ m = omega (arith, g .upto) in
+      let q : p ≡ p₀ + m * w = g .place ∙ ap (λ (y : ℕ). p₀ + y * w) d in (
+        rest-left o kind st q k e ∙ sym (g .rest ∙ ap (λ (y : ℕ). shownOver t (k + y) (fieldsFrom o kind w s (n - y) p)) d),
+        (sym (g .counts ∙ ap (λ (y : ℕ). count + announced kind (fieldsFrom o kind w s (n - y) p .shown)) d ∙ ap (λ (y : ℕ). count + y) (rest-announced o kind st q) ∙ add-zero count), omega (arith, g .few, d, st .upto)),
+      )
 
--- ---- a run of fields that all stand in the bytes, and show whatever their bits are
+-- ---- a run of fields that show whatever their bits are
 
 -- what the bits of a field show
 abbrev shownBy : Field → ℕ → ℕ → ℕ
@@ -282,21 +370,18 @@ all-allowed Coordinate w x h l = refl
 pub run-small : (n w : ℕ) → n < 2 ^ 32 → w ≤ 32 → n * w ≤ 2 ^ 37
 run-small n w h l = let m : n * w ≤ 2 ^ 32 * 32 = mul-le-mul {n₂ = 2 ^ 32} (omega arith) l in omega (arith, m)
 
--- one of n fields ends where the n fields end, or before
-step-in : (i n w : ℕ) → i < n → i * w + w ≤ n * w
-step-in i n w h = subst (λ (m : ℕ). m ≤ n * w) (suc-mul i w) (mul-le-mul-right w h)
-
-steps-run : (o : Order) (kind : Field) (f : ℕ → ℕ) (w : ℕ) (s : List ℕ) (n p : ℕ) → showsAll kind w ≡ true → ((x : ℕ) → x < 2 ^ w → f x ≡ shownBy kind w x) → p + n * w ≤ 8 * length s
-    → run o s (times n (fieldOf kind w)) p ≡ shows (steps o f w s n p) (p + n * w)
+-- those that stand in the bytes, and what is left after them
+steps-run : (o : Order) (kind : Field) (f : ℕ → ℕ) (w : ℕ) (s : List ℕ) (m left p : ℕ) → showsAll kind w ≡ true → ((x : ℕ) → x < 2 ^ w → f x ≡ shownBy kind w x) → p + m * w ≤ 8 * length s
+    → run o s (times (m + left) (fieldOf kind w)) p ≡ follow (steps o f w s m p) (At (p + m * w)) (λ xs q. run o s (times left (fieldOf kind w)) q)
 unfolding run times
-steps-run o kind f w s zero p a b h = let e : p + 0 * w ≡ p = omega arith in rw e
-steps-run o kind f w s (suc n) p a b h =
-    let m : suc n * w ≡ n * w + w = suc-mul n w in
-    let e : p + w + n * w ≡ p + suc n * w = omega (arith, m) in
+steps-run o kind f w s zero left p a b h = let e : p + 0 * w ≡ p = omega arith in rw (e, zero-add)
+steps-run o kind f w s (suc m) left p a b h =
+    let y : suc m * w ≡ m * w + w = suc-mul m w in
+    let e : p + w + m * w ≡ p + suc m * w = omega (arith, y) in
     let x : ℕ = ub o s p w in
     let l : x < 2 ^ w = ub-lt o s p w in
-    let one : shows (f x ∷ []) (p + w) ≡ run o s (fieldOf kind w) p = field-in o kind s p w (omega (arith, h, m)) refl (b x l) (rw (b x l) (all-allowed kind w x a l)) in
-    rw (← one, steps-run o kind f w s n (p + w) a b (omega (arith, h, m)), e)
+    let one : shows (f x ∷ []) (p + w) ≡ run o s (fieldOf kind w) p = field-in o kind s p w (omega (arith, h, y)) refl (b x l) (rw (b x l) (all-allowed kind w x a l)) in
+    rw (suc-add, ← one, steps-run o kind f w s m left (p + w) a b (omega (arith, h, y)), e)
 
 steps-length : (o : Order) (f : ℕ → ℕ) (w : ℕ) (s : List ℕ) (n p : ℕ) → length (steps o f w s n p) ≡ n
 steps-length o f w s zero p = refl
@@ -307,35 +392,41 @@ step-at o f w s zero p i h = absurd (omega arith)
 step-at o f w s (suc n) p zero h = let e : p + 0 * w ≡ p = omega arith in rw e
 step-at o f w s (suc n) p (suc i) h = let e : p + suc i * w ≡ p + w + i * w = omega (arith, suc-mul i w) in rw e (step-at o f w s n (p + w) i (omega arith))
 
-module _ (o : Order) (f : ℕ → ℕ) (w : ℕ) (s t₀ : List ℕ) (k n p₀ : ℕ) where
-  -- the first i numbers are stored, and the next field is at q
-  pub record Laying (t : List ℕ) (q i : ℕ) : Type 0 where
-    pub stored : Storing t₀ (steps o f w s n p₀) k t i
-    pub place : q ≡ p₀ + i * w
+-- of m fields the first i numbers are stored, and the next field is at q
+pub record Laying (o : Order) (f : ℕ → ℕ) (w : ℕ) (s t₀ : List ℕ) (k m p₀ : ℕ) (t : List ℕ) (q i : ℕ) : Type 0 where
+  pub stored : Storing t₀ (steps o f w s m p₀) k t i
+  pub place : q ≡ p₀ + i * w
 
-  pub laying-start : Laying t₀ p₀ 0
-  laying-start = record { stored = storing-start t₀ (steps o f w s n p₀) k; place = omega arith }
+pub laying-start : {o : Order} {f : ℕ → ℕ} {w : ℕ} {s t₀ : List ℕ} {k m p₀ : ℕ} → Laying o f w s t₀ k m p₀ t₀ p₀ 0
+laying-start {o} {f} {w} {s} {t₀} {k} {m} {p₀} = record { stored = storing-start t₀ (steps o f w s m p₀) k; place = omega arith }
 
-  module _ {t : List ℕ} {q i : ℕ} (g : Laying t q i) where
-    pub laying-upto : i ≤ n
-    laying-upto = omega (arith, g .stored .upto, steps-length o f w s n p₀)
+module _ {o : Order} {f : ℕ → ℕ} {w : ℕ} {s t₀ : List ℕ} {k m p₀ : ℕ} {t : List ℕ} {q i : ℕ} (g : Laying o f w s t₀ k m p₀ t q i) where
+  pub laying-upto : i ≤ m
+  laying-upto = omega (arith, g .stored .upto, steps-length o f w s m p₀)
 
-    pub laying-in : i < n → p₀ + n * w ≤ 8 * length s → q + w ≤ 8 * length s
-    laying-in h l = omega (arith, g .place, step-in i n w h, l)
+  pub laying-in : i < m → p₀ + m * w ≤ 8 * length s → q + w ≤ 8 * length s
+  laying-in h l = omega (arith, g .place, step-in i m w h, l)
 
-    pub laying-next : {x v : ℕ} → i < n → x ≡ ub o s q w → v ≡ f x → Laying (set t (k + i) v) (q + w) (i + 1)
-    laying-next {x} {v} h e d =
-        let m : (i + 1) * w ≡ i * w + w = add-mul i 1 w ∙ ap (λ (y : ℕ). i * w + y) (one-mul w) in
-        let z : v ≡ getD (steps o f w s n p₀) i 0 = d ∙ ap f (e ∙ ap (λ (y : ℕ). ub o s y w) (g .place)) ∙ sym (step-at o f w s n p₀ i h) in
-        record {
-          stored = storing-next t₀ (steps o f w s n p₀) k (g .stored) (omega (arith, h, steps-length o f w s n p₀)) z;
-          place = omega (arith, g .place, m);
-        }
+  pub laying-next : {x v : ℕ} → i < m → x ≡ ub o s q w → v ≡ f x → Laying o f w s t₀ k m p₀ (set t (k + i) v) (q + w) (i + 1)
+  laying-next {x} {v} h e d =
+      let z : v ≡ getD (steps o f w s m p₀) i 0 = d ∙ ap f (e ∙ ap (λ (y : ℕ). ub o s y w) (g .place)) ∙ sym (step-at o f w s m p₀ i h) in
+      record {
+        stored = storing-next t₀ (steps o f w s m p₀) k (g .stored) (omega (arith, h, steps-length o f w s m p₀)) z;
+        place = omega (arith, g .place, step-more i w);
+      }
 
-    -- all are stored, or there is no more room
-    pub laying-done : {m e : ℕ} (kind : Field) → showsAll kind w ≡ true → ((x : ℕ) → x < 2 ^ w → f x ≡ shownBy kind w x) → m ≡ min n (length t - k) → m ≤ i → e ≡ p₀ + n * w → e ≤ 8 * length s
-        → state t (k + n) (At e) ≡ shownOver t₀ k (run o s (times n (fieldOf kind w)) p₀)
-    unfolding shownOver
-    laying-done {m} {e} kind a b h l d inside =
-        let full : t ≡ sets t₀ k (steps o f w s n p₀) = storing-done t₀ (steps o f w s n p₀) k (g .stored) (h ∙ ap (λ (y : ℕ). min y (length t - k)) (sym (steps-length o f w s n p₀))) l in
-        rw (steps-run o kind f w s n p₀ a b (omega (arith, d, inside))) (state-eq full (ap (λ (c : ℕ). k + c) (sym (steps-length o f w s n p₀))) (ap At d))
+  -- all are stored, or there is no more room
+  pub laying-end : {n r : ℕ} {R : Run} (kind : Field) → Stand w s p₀ n m → showsAll kind w ≡ true → ((x : ℕ) → x < 2 ^ w → f x ≡ shownBy kind w x) → r ≡ min m (length t - k) → r ≤ i
+      → R ≡ pick (ltb m n) (Stop 13 (k + m)) (Done (record { 0 = p₀ + m * w }) (k + n)) → runLeaves t R ≡ shownOver t₀ k (run o s (times n (fieldOf kind w)) p₀)
+  laying-end {n} {r} {R} kind st a b h l e =
+      let xs : List ℕ = steps o f w s m p₀ in
+      let c : length xs ≡ m = steps-length o f w s m p₀ in
+      let full : t ≡ sets t₀ k xs = storing-done t₀ xs k (g .stored) (h ∙ ap (λ (y : ℕ). min y (length t - k)) (sym c)) l in
+      let all : n ≡ m + (n - m) = omega (arith, st .upto) in
+      let left : Reading = run o s (times (n - m) (fieldOf kind w)) (p₀ + m * w) in
+      rest-left o kind st refl k e
+      ∙ ap (λ (y : ℕ). shownOver t (k + y) left) (sym c)
+      ∙ ap (λ (u : List ℕ). shownOver u (k + length xs) left) full
+      ∙ sym (ap (λ (y : ℕ). shownOver t₀ k (run o s (times y (fieldOf kind w)) p₀)) all
+      ∙ ap (shownOver t₀ k) (steps-run o kind f w s m (n - m) p₀ a b (st .inside))
+      ∙ after-follow t₀ k xs (At (p₀ + m * w)) (λ ys q. run o s (times (n - m) (fieldOf kind w)) q))

@@ -1,13 +1,15 @@
 // Runs of bit fields: verbs, coordinates, interpolations, keyframed Bools, bytes and Points, easing, spatial flags.
-ghost use mathlib.Core.Bool.{true};
+ghost use mathlib.Core.Bool.{true, false};
 ghost use mathlib.Core.Path.{_≡_};
-ghost use Prim.Native.Nat.{_*_, _/_, _≤_, _<_, _^_};
+ghost use Prim.Native.Nat.{_+_, _-_, _*_, _/_, _≤_, _<_, _^_, min};
+ghost use lib.Dec.{ltb};
 ghost use lib.ListN.{getD};
 ghost use Rattle.format.specs.Formats.{item, Item as ItemOf, times, the, _▹_};
 ghost use Rattle.format.specs.Tests.{pick};
-ghost use Rattle.format.specs.Items.{coordinatesOf, run, signExtend};
+ghost use Rattle.format.specs.Items.{run};
 ghost use Rattle.table.specs.State.{shownOver};
 ghost use Rattle.table.specs.Run.{runLeaves};
+ghost use Rattle.table.specs.declared.Run.the-variants.{Done, Stop};
 ghost use Rattle.table.specs.Fields.{Fits, allows, signed, fieldOf, announces, announced, weights, showsAll};
 ghost use Rattle.bits.specs.Places.{orderOf};
 use crate::Run;
@@ -74,7 +76,7 @@ pub fn allowed(kind: Field, value: u64) -> bool
 }
 
 // A coordinate is signed, and nothing else is.
-pub fn is_signed(kind: Field) -> bool
+fn is_signed(kind: Field) -> bool
     ensures { λ r. ⌜ r ≡ signed kind ⌝ }
 {
     match kind {
@@ -88,25 +90,37 @@ pub fn is_signed(kind: Field) -> bool
 }
 
 // How many of the numbers below `size` are negative ones in a field of this kind: half of them if it is signed, else none.
-fn negatives_of(kind: Field, size: u64) -> u64
+pub fn negatives_of(kind: Field, size: u64) -> u64
     ensures { λ r. ⌜ r ≡ pick (signed kind) (size / 2) 0 ⌝ }
 {
     if is_signed(kind) { size / 2 } else { 0 }
 }
 
-// What the bits of a field show.
-fn shown(kind: Field, width: u64, raw: u64) -> u64
-    requires { ⌜ (1 ≤ width) × (width ≤ 32) × (raw < 2 ^ width) ⌝ }
-    ensures { λ r. ⌜ r ≡ pick (signed kind) (signExtend width raw) raw ⌝ }
+// How many of n fields of w bits stand in a body of this length, from a place on.
+fn fitting(len: usize, at: BitPlace, width: usize, count: usize) -> usize
+    requires { ⌜ (at .0 ≤ 8 * len) × (len < 2 ^ 60) × (1 ≤ width) × (width ≤ 32) × (count < 2 ^ 32) ⌝ }
+    ensures { λ r. ⌜ r ≡ min count ((8 * len - at .0) / width) ⌝ }
 {
-    if is_signed(kind) {
-        bits::fields::extend(raw, width)
+    let bits = len * 8 - at.0;
+    if count * width <= bits {
+        count
     } else {
-        raw
+        bits / width
     }
 }
 
-// n fields of w bits: the first that runs past the body is 13, the first that is not allowed 16.
+// After the fields that stand in the body: 13 where one does not.
+fn after_fields(place: usize, from: usize, there: usize, count: usize) -> Run
+    requires { ⌜ from + count < 2 ^ 64 ⌝ }
+    ensures { λ r. ⌜ r ≡ pick (ltb there count) (Stop 13 (from + there)) (Done (record { 0 = place }) (from + count)) ⌝ }
+{
+    if there < count {
+        return Run::Stop(13, from + there);
+    }
+    Run::Done(BitPlace(place), from + count)
+}
+
+// n fields of w bits that are not signed: the first that runs past the body is 13, the first that is not allowed 16.
 pub fn read_fields(
     order: Order,
     kind: Field,
@@ -117,36 +131,29 @@ pub fn read_fields(
     table: &mut [u64],
     from: usize,
 ) -> Announced
-    requires { ⌜ Fits (now body) (at .0) from × (1 ≤ width) × (width ≤ 32) × (count < 2 ^ 32) ⌝ }
+    requires { ⌜ Fits (now body) (at .0) from × (1 ≤ width) × (width ≤ 32) × (count < 2 ^ 32) × (signed kind ≡ false) ⌝ }
     ensures states { λ r. ⌜ runLeaves (now (table .exit)) (r .run) ≡ shownOver (now (table .entry)) from (run (orderOf order) (now (body .entry)) (times count (fieldOf kind width)) (at .0)) ⌝ }
     ensures counts { λ r. ⌜ r .count ≡ announced kind (run (orderOf order) (now (body .entry)) (times count (fieldOf kind width)) (at .0) .shown) ⌝ }
     ensures few { λ r. ⌜ r .count ≤ 6 * count ⌝ }
 {
     let weights = weights_of(kind);
-    let mut place = at;
-    let mut index = from;
-    let mut left = count;
+    let step = width as usize;
+    let there = fitting(body.len(), at, step, count);
+    let mut place = at.0;
     let mut sum = 0;
-    while 0 < left {
-        let next = place.0 + width as usize;
-        if body.len() * 8 < next {
-            let run = Run::Stop(13, index);
+    let mut i = 0;
+    while i < there {
+        let value = bits::fields::field(order, body, BitPlace(place), width);
+        if !allowed(kind, value) {
+            let run = Run::Stop(16, from + i);
             return Announced { run, count: sum };
         }
-        let raw = bits::fields::field(order, body, place, width);
-        let value = shown(kind, width, raw);
-        if allowed(kind, value) {
-            put(table, index, value);
-            sum += weight(&weights, value);
-            place = BitPlace(next);
-            index += 1;
-            left -= 1;
-        } else {
-            let run = Run::Stop(16, index);
-            return Announced { run, count: sum };
-        }
+        put(table, from + i, value);
+        sum += weight(&weights, value);
+        place += step;
+        i += 1;
     }
-    let run = Run::Done(place, index);
+    let run = after_fields(place, from, there, count);
     Announced { run, count: sum }
 }
 
@@ -164,7 +171,7 @@ fn shows_all(kind: Field, width: u64) -> bool
     }
 }
 
-// n fields of w bits that show whatever their bits are: so only those are read that there is room for. Whether they are signed is asked once.
+// n fields of w bits that show whatever their bits are: so only those are read that stand in the body and that there is room for. Whether they are signed is asked once.
 fn read_all(
     order: Order,
     kind: Field,
@@ -179,14 +186,10 @@ fn read_all(
     ensures { λ r. ⌜ runLeaves (now (table .exit)) r ≡ shownOver (now (table .entry)) from (run (orderOf order) (now (body .entry)) (times count (fieldOf kind width)) (at .0)) ⌝ }
 {
     let step = width as usize;
-    let end = at.0 + count * step;
-    if body.len() * 8 < end {
-        let fields = read_fields(order, kind, width, count, body, at, table, from);
-        return fields.run;
-    }
+    let there = fitting(body.len(), at, step, count);
     let size = 1u64 << width;
     let negatives = negatives_of(kind, size);
-    let room = room_for(table.len(), from, count);
+    let room = room_for(table.len(), from, there);
     let mut place = at.0;
     let mut i = 0;
     while i < room {
@@ -196,7 +199,7 @@ fn read_all(
         place += step;
         i += 1;
     }
-    Run::Done(BitPlace(end), from + count)
+    after_fields(at.0 + there * step, from, there, count)
 }
 
 // n fields of w bits, by their kind.

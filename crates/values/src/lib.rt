@@ -1,4 +1,5 @@
 // The values of attributes, by their data type: one, or several in turn.
+ghost use mathlib.Core.Bool.{false};
 ghost use mathlib.Core.Path.{_≡_};
 ghost use Prim.Native.Nat.{_≤_};
 ghost use Rattle.format.specs.Formats.{times, _▸_};
@@ -6,7 +7,7 @@ ghost use Rattle.format.specs.Items.{run, path, time, gradientColor};
 ghost use Rattle.format.specs.Bodies.{value as valueOf, values as valuesOf, dashes};
 ghost use Rattle.table.specs.State.{shownOver};
 ghost use Rattle.table.specs.Run.{runLeaves};
-ghost use Rattle.table.specs.Fields.{Fits};
+ghost use Rattle.table.specs.Fields.{Fits, signed};
 ghost use Rattle.items.specs.Kinds.{formatOf};
 ghost use Rattle.attributes.specs.Rows.{kindOf, typeOf};
 ghost use Rattle.values.specs.Parts.{announcing, stopOf, stopsOf, afterAlphas, offsetFlag};
@@ -56,7 +57,7 @@ fn read_announcing(
     table: &mut [u64],
     from: usize,
 ) -> Run
-    requires { ⌜ Fits (now body) (at .0) from × (1 ≤ width) × (width ≤ 32) × (count ≤ 8192) ⌝ }
+    requires { ⌜ Fits (now body) (at .0) from × (1 ≤ width) × (width ≤ 32) × (count ≤ 8192) × (signed kind ≡ false) ⌝ }
     ensures { λ r. ⌜ runLeaves (now (table .exit)) r ≡ shownOver (now (table .entry)) from (run (orderOf order) (now (body .entry)) (announcing kind width count) (at .0)) ⌝ }
 {
     let fields = table::fields::read_fields(order, kind, width, count, body, at, table, from);

@@ -20,7 +20,7 @@ use items::Item;
 use sink::Sink;
 use spelling::Put;
 use spelling::fields::Announced;
-use spelling::in_turn::write_items;
+use spelling::in_turn::write_times;
 use table::fields::Field;
 
 // The interpolations of n frames, UB[2] each, if the kind has them. A Bezier frame announces four easing numbers for each of its curves.
@@ -156,7 +156,7 @@ fn write_frames(
     requires { ⌜ Fine sink × (frames ≤ 4096) × (easing < 2 ^ 32) ⌝ }
     ensures { λ r. ⌜ seen (now (out .exit)) r ≡ ran (orderOf order) (now (values .entry)) (under (now (out .entry)) sink) from (framesOf (kindOf kind) (typeOf what) flag frames easing) ⌝ }
 {
-    let put = write_items(order, Item::Time, frames + 1, out, sink, values, from);
+    let put = write_times(order, frames + 1, out, sink, values, from);
     let Put::Done(timed, after_times) = put else {
         return put;
     };

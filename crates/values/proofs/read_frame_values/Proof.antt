@@ -1,4 +1,5 @@
 -- `values::read_frame_values` meets its contract, by the layout that the `match` tells.
+use mathlib.Core.Path.{refl}
 use denote.Ref.{now}
 use native.Mathlib.Omega.{arith}
 use lib.Dec.{lit≤}
@@ -29,7 +30,7 @@ enum-told-2 : tie.Need-enum-told-2
 enum-told-2 c = search needs
 
 read-fields-requires : tie.Need-read-fields-requires
-read-fields-requires c κs = (c .before .before .before .before .before .before .pre .0, lit≤ tt, lit≤ tt, omega (arith, c .before .before .before .before .before .before .pre .1))
+read-fields-requires c κs = (c .before .before .before .before .before .before .pre .0, lit≤ tt, lit≤ tt, omega (arith, c .before .before .before .before .before .before .pre .1), refl)
 
 enum-told-3 : tie.Need-enum-told-3
 enum-told-3 c = search needs

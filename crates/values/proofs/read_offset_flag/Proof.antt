@@ -1,3 +1,4 @@
+use mathlib.Core.Path.{refl}
 use denote.Ref.{now}
 use native.Mathlib.Omega.{arith}
 use lib.Dec.{lit≤}
@@ -27,7 +28,7 @@ add-read-fields : tie.Need-add-read-fields
 add-read-fields c = search needs
 
 read-fields-requires : tie.Need-read-fields-requires
-read-fields-requires c κs = let a = c .before .before .before .before .before .before .before .before .before .before .before .args in let f = ub-fits (orderOf (a .order)) (now (a .body)) (a .at .0) 1 (c .before .before .before .before .before .before .before .before .read-ub .ensures) (lit≤ tt) (c .before .before .before .before .before .before .got .given .1) (c .before .before .before .before .before .before .before .before .before .before .before .pre) in (f .0, lit≤ tt, lit≤ tt, omega (arith, f .1))
+read-fields-requires c κs = let a = c .before .before .before .before .before .before .before .before .before .before .before .args in let f = ub-fits (orderOf (a .order)) (now (a .body)) (a .at .0) 1 (c .before .before .before .before .before .before .before .before .read-ub .ensures) (lit≤ tt) (c .before .before .before .before .before .before .got .given .1) (c .before .before .before .before .before .before .before .before .before .before .before .pre) in (f .0, lit≤ tt, lit≤ tt, omega (arith, f .1), refl)
 
 enum-known-got-2 : tie.Need-enum-known-got-2
 enum-known-got-2 c = search needs

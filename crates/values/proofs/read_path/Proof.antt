@@ -1,3 +1,4 @@
+use mathlib.Core.Path.{refl}
 use denote.Ref.{now}
 use native.Mathlib.Omega.{arith}
 use lib.Dec.{lit≤}
@@ -31,7 +32,7 @@ add-read-announcing : tie.Need-add-read-announcing
 add-read-announcing c = search needs
 
 read-announcing-requires : tie.Need-read-announcing-requires
-read-announcing-requires c κs = let a = c .before .before .before .before .before .before .before .before .before .before .before .args in (one-fits (orderOf (a .order)) (Count _) (now (a .body)) (a .at .0) (got-value (c .before .before .before .before .before .before .before .before .read-item .ensures) (c .before .before .before .before .before .before .counted .given .1)) (c .before .before .before .before .before .before .before .before .before .before .before .pre), lit≤ tt, lit≤ tt, omega (arith, count-range (orderOf (a .order)) (now (a .body)) (a .at .0) _ (got-value (c .before .before .before .before .before .before .before .before .read-item .ensures) (c .before .before .before .before .before .before .counted .given .1)) .1))
+read-announcing-requires c κs = let a = c .before .before .before .before .before .before .before .before .before .before .before .args in (one-fits (orderOf (a .order)) (Count _) (now (a .body)) (a .at .0) (got-value (c .before .before .before .before .before .before .before .before .read-item .ensures) (c .before .before .before .before .before .before .counted .given .1)) (c .before .before .before .before .before .before .before .before .before .before .before .pre), lit≤ tt, lit≤ tt, omega (arith, count-range (orderOf (a .order)) (now (a .body)) (a .at .0) _ (got-value (c .before .before .before .before .before .before .before .before .read-item .ensures) (c .before .before .before .before .before .before .counted .given .1)) .1), refl)
 
 enum-known-counted-2 : tie.Need-enum-known-counted-2
 enum-known-counted-2 c = search needs

@@ -1,6 +1,7 @@
 -- `table::fields::read_run` meets its contract, by whether the fields show whatever their bits are.
 use mathlib.Core.Path.{sym, _∙_}
 use borrow.Author.Needs.{needs}
+use Rattle.table.proofs.FieldLaws.{judged-unsigned}
 use Rattle.table.proofs.fields.read_run.Statement.{statement}
 use Rattle.table.proofs.fields.read_run.Tie as tie
 use Rattle.table.proofs.fields.read_run.Reads as reads
@@ -22,7 +23,7 @@ returns : tie.Need-returns
 returns c = search needs
 
 read-fields-requires : tie.Need-read-fields-requires
-read-fields-requires c κs = search needs
+read-fields-requires c κs = let h = c .before .before .before .before .before .pre in let a = c .before .before .before .before .before .args in (h .0, h .1, h .2, h .3, judged-unsigned (a .kind) (a .width) (sym (c .before .before .shows-all .ensures) ∙ c .before .if1 .left))
 
 same-length-2 : tie.Need-same-length-2
 same-length-2 c = search needs

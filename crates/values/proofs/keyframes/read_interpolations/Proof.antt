@@ -1,6 +1,6 @@
 -- `values::keyframes::read_interpolations` meets its contract: fields of two bits, if the kind has them.
 use denote.Ref.{now}
-use mathlib.Core.Path.{sym, _∙_}
+use mathlib.Core.Path.{refl, sym, _∙_}
 use native.Mathlib.Omega.{arith}
 use lib.Dec.{lit≤}
 use Rattle.bits.specs.Places.{orderOf}
@@ -32,7 +32,7 @@ has-interpolations-requires : tie.Need-has-interpolations-requires
 has-interpolations-requires c κs = search needs
 
 read-fields-requires : tie.Need-read-fields-requires
-read-fields-requires c κs = let a = c .before .before .before .before .before .before .before .before .before .args in (align-fits (orderOf (a .order)) (now (a .body)) (a .at .0) (sym (c .before .before .before .before .before .before .align .ensures) ∙ c .before .before .before .before .aligned .given .1) (c .before .before .before .before .before .before .before .before .before .pre .0), lit≤ tt, lit≤ tt, omega (arith, c .before .before .before .before .before .before .before .before .before .pre .1))
+read-fields-requires c κs = let a = c .before .before .before .before .before .before .before .before .before .args in (align-fits (orderOf (a .order)) (now (a .body)) (a .at .0) (sym (c .before .before .before .before .before .before .align .ensures) ∙ c .before .before .before .before .aligned .given .1) (c .before .before .before .before .before .before .before .before .before .pre .0), lit≤ tt, lit≤ tt, omega (arith, c .before .before .before .before .before .before .before .before .before .pre .1), refl)
 
 same-length : tie.Need-same-length
 same-length c = search needs

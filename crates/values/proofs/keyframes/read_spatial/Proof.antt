@@ -1,7 +1,7 @@
 -- `values::keyframes::read_spatial` meets its contract: nothing, or flags that announce Points.
 use denote.Ref.{now}
 use Prim.Native.Nat.{_*_}
-use mathlib.Core.Path.{sym, _∙_}
+use mathlib.Core.Path.{refl, sym, _∙_}
 use native.Mathlib.Omega.{arith}
 use lib.Dec.{lit≤}
 use Rattle.bits.specs.Places.{orderOf}
@@ -38,7 +38,7 @@ mul-read-announcing : tie.Need-mul-read-announcing
 mul-read-announcing c = search needs
 
 read-announcing-requires : tie.Need-read-announcing-requires
-read-announcing-requires c κs = let a = c .before .before .before .before .before .before .before .before .args in (align-fits (orderOf (a .order)) (now (a .body)) (a .at .0) (sym (c .before .before .before .before .align .ensures) ∙ c .before .before .aligned .given .1) (c .before .before .before .before .before .before .before .before .pre .0), lit≤ tt, lit≤ tt, omega (arith, c .before .before .before .before .before .before .before .before .pre .1))
+read-announcing-requires c κs = let a = c .before .before .before .before .before .before .before .before .args in (align-fits (orderOf (a .order)) (now (a .body)) (a .at .0) (sym (c .before .before .before .before .align .ensures) ∙ c .before .before .aligned .given .1) (c .before .before .before .before .before .before .before .before .pre .0), lit≤ tt, lit≤ tt, omega (arith, c .before .before .before .before .before .before .before .before .pre .1), refl)
 
 same-length : tie.Need-same-length
 same-length c = search needs
