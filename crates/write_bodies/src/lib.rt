@@ -30,10 +30,10 @@ pub fn write_body(order: Order, code: u32, values: &[u64], out: &mut [u8], at: B
 {
     if bodies::is_block(code) {
         let block = attributes::blocks::block_of(code);
-        return write_blocks::write_block(order, block, values, out, at);
+        return write_blocks::write_block(order, block, &values[0..values.len()], out, at);
     }
     // The answer is made again, not handed on whole: see `write_blocks::write_contents`.
-    let written = write_items(order, code, values, out, at);
+    let written = write_items(order, code, &values[0..values.len()], out, at);
     match written {
         Body::To(end) => Body::To(end),
         Body::No => Body::No,
