@@ -283,7 +283,7 @@ pub fn write_value(
     requires { ⌜ Fine sink ⌝ }
     ensures { λ r. ⌜ seen (now (out .exit)) r ≡ ran (orderOf order) (now (values .entry)) (under (now (out .entry)) sink) from (valueOf (typeOf what)) ⌝ }
 {
-    spelling::again(write_by_type(order, what, out, sink, values, from))
+    spelling::again(write_by_type(order, what, out, sink, &values[0..values.len()], from))
 }
 
 // n values in turn, one by one.
