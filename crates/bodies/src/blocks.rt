@@ -84,6 +84,7 @@ pub fn read_contents(
 {
     let rows = block.rows;
     let count = block.count;
+    // Sliced again: see `items::read_item`.
     let bytes = &body[0..body.len()];
     let mut place = at;
     let mut index = from;

@@ -41,7 +41,7 @@ pub fn is_block(code: u32) -> bool
     }
 }
 
-// The items of a body, up to where they end: those of an attribute block, or of another body.
+// The items of a body, up to where they end: those of an attribute block, or of another body. It is sliced again for either: see `items::read_item`.
 fn read_part(
     order: Order,
     block: bool,

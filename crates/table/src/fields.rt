@@ -136,6 +136,7 @@ pub fn read_fields(
     ensures counts { λ r. ⌜ r .count ≡ announced kind (run (orderOf order) (now (body .entry)) (times count (fieldOf kind width)) (at .0) .shown) ⌝ }
     ensures few { λ r. ⌜ r .count ≤ 6 * count ⌝ }
 {
+    // Sliced again: see `items::read_item`.
     let bytes = &body[0..body.len()];
     let weights = weights_of(kind);
     let step = width as usize;
@@ -237,6 +238,7 @@ pub fn read_scaled(
     requires { ⌜ Fits (now body) (at .0) from × (count < 2 ^ 32) ⌝ }
     ensures { λ r. ⌜ runLeaves (now (table .exit)) r ≡ shownOver (now (table .entry)) from (run (orderOf order) (now (body .entry)) (item ItemOf.width ▹ λ width. times count (fieldOf kind (the width))) (at .0)) ⌝ }
 {
+    // Sliced again: see `items::read_item`.
     let bytes = &body[0..body.len()];
     let got = bits::fields::read_width(order, bytes, at);
     match got {

@@ -23,7 +23,7 @@ fn write_items(order: Order, code: u32, values: &[u64], out: &mut [u8], at: Byte
     spelling::conclude(order, items, values.len(), out)
 }
 
-// The body of a leaf tag, from a byte place on.
+// The body of a leaf tag, from a byte place on. Its values are sliced again: see `items::read_item`.
 pub fn write_body(order: Order, code: u32, values: &[u64], out: &mut [u8], at: BytePlace) -> Body
     requires { ⌜ at .0 ≤ 16777218 ⌝ }
     ensures { λ r. ⌜ lainAs (now (out .exit)) r ≡ lies (now (out .entry)) (at .0) (writeBody (orderOf order) (leafBody code) (now (values .entry))) ⌝ }

@@ -12,14 +12,14 @@ use Rattle.bits.proofs.WholeLaws.{as-whole}
 use Rattle.values.proofs.read_value.Statement.{statement}
 use Rattle.values.proofs.read_value.Tie as tie
 
-sub-read-by-type : tie.Need-sub-read-by-type
-sub-read-by-type c = search needs
+sub-bytes : tie.Need-sub-bytes
+sub-bytes c = search needs
 
-part-read-by-type-start : tie.Need-part-read-by-type-start
-part-read-by-type-start c = search needs
+part-bytes-start : tie.Need-part-bytes-start
+part-bytes-start c = search needs
 
-part-read-by-type-end : tie.Need-part-read-by-type-end
-part-read-by-type-end c = search needs
+part-bytes-end : tie.Need-part-bytes-end
+part-bytes-end c = search needs
 
 read-by-type-requires : tie.Need-read-by-type-requires
 read-by-type-requires c κs = search needs
@@ -38,9 +38,9 @@ pub read-value-spec : {M : Type 1} → statement M
 read-value-spec =
     tie.close
     (tie.spec
-    sub-read-by-type
-    part-read-by-type-start
-    part-read-by-type-end
+    sub-bytes
+    part-bytes-start
+    part-bytes-end
     read-by-type-requires
     again-requires
     same-length

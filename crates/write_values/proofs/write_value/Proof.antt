@@ -12,14 +12,14 @@ use Rattle.spelling.specs.Writing.{ran}
 use Rattle.write_values.proofs.write_value.Statement.{statement}
 use Rattle.write_values.proofs.write_value.Tie as tie
 
-sub-write-by-type : tie.Need-sub-write-by-type
-sub-write-by-type c = search needs
+sub-numbers : tie.Need-sub-numbers
+sub-numbers c = search needs
 
-part-write-by-type-start : tie.Need-part-write-by-type-start
-part-write-by-type-start c = search needs
+part-numbers-start : tie.Need-part-numbers-start
+part-numbers-start c = search needs
 
-part-write-by-type-end : tie.Need-part-write-by-type-end
-part-write-by-type-end c = search needs
+part-numbers-end : tie.Need-part-numbers-end
+part-numbers-end c = search needs
 
 write-by-type-requires : tie.Need-write-by-type-requires
 write-by-type-requires c κs = search needs
@@ -38,9 +38,9 @@ pub write-value-spec : {M : Type 1} → statement M
 write-value-spec =
     tie.close
     (tie.spec
-    sub-write-by-type
-    part-write-by-type-start
-    part-write-by-type-end
+    sub-numbers
+    part-numbers-start
+    part-numbers-end
     write-by-type-requires
     again-requires
     same-length
