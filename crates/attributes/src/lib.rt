@@ -143,8 +143,10 @@ pub fn read_flags(order: Order, block: Block, body: &[u8], flags: &mut [u64]) ->
 {
     let rows = block.rows;
     let count = block.count;
-    let first = bits::fields::first_bits(order, body);
-    let end = (body.len() * 8) as u64;
+    // Sliced again: see `items::read_item`.
+    let bytes = &body[0..body.len()];
+    let first = bits::fields::first_bits(order, bytes);
+    let end = (bytes.len() * 8) as u64;
     let mut place = 0;
     let mut index = 0;
     while index < count {

@@ -1,3 +1,4 @@
 -- What the proofs of this crate, and of those above it, cite.
 pub mod FieldLaws
 pub mod StoreLaws
+pub mod WholeLaws

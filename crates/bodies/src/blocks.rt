@@ -84,13 +84,15 @@ pub fn read_contents(
 {
     let rows = block.rows;
     let count = block.count;
+    // Sliced again: see `items::read_item`.
+    let bytes = &body[0..body.len()];
     let mut place = at;
     let mut index = from;
     let mut row = 0;
     while row < count {
         let flag = flags[row];
         let attribute = rows[row];
-        let run = table::again(read_attribute(order, attribute, flag, body, place, table, index));
+        let run = table::again(read_attribute(order, attribute, flag, bytes, place, table, index));
         let Run::Done(next, behind) = run else {
             return run;
         };

@@ -41,7 +41,7 @@ pub fn is_block(code: u32) -> bool
     }
 }
 
-// The items of a body, up to where they end: those of an attribute block, or of another body.
+// The items of a body, up to where they end: those of an attribute block, or of another body. It is sliced again for either: see `items::read_item`.
 fn read_part(
     order: Order,
     block: bool,
@@ -58,13 +58,13 @@ fn read_part(
         return table::again(blocks::read_block(
             order,
             attributes::blocks::block_of(code),
-            body,
+            &body[0..body.len()],
             &mut flags,
             table,
             from,
         ));
     }
-    table::again(fixed::read_fixed(order, code, body, BitPlace(0), table, from))
+    table::again(fixed::read_fixed(order, code, &body[0..body.len()], BitPlace(0), table, from))
 }
 
 // At a whole byte of a body of this size: its list follows; or nothing more may follow (18).

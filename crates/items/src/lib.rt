@@ -134,11 +134,13 @@ pub fn read_item(order: Order, kind: Item, body: &[u8], at: BitPlace) -> Got
     requires { ⌜ PlaceIn (now body) (at .0) ⌝ }
     ensures { λ r. ⌜ showNum (numOf r) ≡ run (orderOf order) (now (body .entry)) (formatOf kind) (at .0) ⌝ }
 {
-    let aligned = bits::align(order, body, at);
+    // The same bytes: sliced again they go from function to function in registers, and not through memory (docs/SPEED.md).
+    let bytes = &body[0..body.len()];
+    let aligned = bits::align(order, bytes, at);
     let Aligned::Clean(byte, bit) = aligned else {
         return Got::Fault(15);
     };
-    let got = read_spelling(kind, body, byte, bit);
+    let got = read_spelling(kind, bytes, byte, bit);
     let Got::Value(value, next) = got else {
         return got;
     };

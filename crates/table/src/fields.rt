@@ -136,14 +136,16 @@ pub fn read_fields(
     ensures counts { λ r. ⌜ r .count ≡ announced kind (run (orderOf order) (now (body .entry)) (times count (fieldOf kind width)) (at .0) .shown) ⌝ }
     ensures few { λ r. ⌜ r .count ≤ 6 * count ⌝ }
 {
+    // Sliced again: see `items::read_item`.
+    let bytes = &body[0..body.len()];
     let weights = weights_of(kind);
     let step = width as usize;
-    let there = fitting(body.len(), at, step, count);
+    let there = fitting(bytes.len(), at, step, count);
     let mut place = at.0;
     let mut sum = 0;
     let mut i = 0;
     while i < there {
-        let value = bits::fields::field(order, body, BitPlace(place), width);
+        let value = bits::fields::field(order, bytes, BitPlace(place), width);
         if !allowed(kind, value) {
             let run = Run::Stop(16, from + i);
             return Announced { run, count: sum };
@@ -236,11 +238,13 @@ pub fn read_scaled(
     requires { ⌜ Fits (now body) (at .0) from × (count < 2 ^ 32) ⌝ }
     ensures { λ r. ⌜ runLeaves (now (table .exit)) r ≡ shownOver (now (table .entry)) from (run (orderOf order) (now (body .entry)) (item ItemOf.width ▹ λ width. times count (fieldOf kind (the width))) (at .0)) ⌝ }
 {
-    let got = bits::fields::read_width(order, body, at);
+    // Sliced again: see `items::read_item`.
+    let bytes = &body[0..body.len()];
+    let got = bits::fields::read_width(order, bytes, at);
     match got {
         Got::Value(width, next) => {
             put(table, from, width);
-            again(read_run(order, kind, width, count, body, next, table, from + 1))
+            again(read_run(order, kind, width, count, bytes, next, table, from + 1))
         }
         Got::Fault(why) => Run::Stop(why, from),
     }

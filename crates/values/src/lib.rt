@@ -295,7 +295,9 @@ pub fn read_value(
     requires { ⌜ Fits (now body) (at .0) from ⌝ }
     ensures { λ r. ⌜ runLeaves (now (table .exit)) r ≡ shownOver (now (table .entry)) from (run (orderOf order) (now (body .entry)) (valueOf (typeOf what)) (at .0)) ⌝ }
 {
-    table::again(read_by_type(order, what, body, at, table, from))
+    // Sliced again: see `items::read_item`.
+    let bytes = &body[0..body.len()];
+    table::again(read_by_type(order, what, bytes, at, table, from))
 }
 
 // n values in turn, one by one.

@@ -23,17 +23,17 @@ fn write_items(order: Order, code: u32, values: &[u64], out: &mut [u8], at: Byte
     spelling::conclude(order, items, values.len(), out)
 }
 
-// The body of a leaf tag, from a byte place on.
+// The body of a leaf tag, from a byte place on. Its values are sliced again: see `items::read_item`.
 pub fn write_body(order: Order, code: u32, values: &[u64], out: &mut [u8], at: BytePlace) -> Body
     requires { ⌜ at .0 ≤ 16777218 ⌝ }
     ensures { λ r. ⌜ lainAs (now (out .exit)) r ≡ lies (now (out .entry)) (at .0) (writeBody (orderOf order) (leafBody code) (now (values .entry))) ⌝ }
 {
     if bodies::is_block(code) {
         let block = attributes::blocks::block_of(code);
-        return write_blocks::write_block(order, block, values, out, at);
+        return write_blocks::write_block(order, block, &values[0..values.len()], out, at);
     }
     // The answer is made again, not handed on whole: see `write_blocks::write_contents`.
-    let written = write_items(order, code, values, out, at);
+    let written = write_items(order, code, &values[0..values.len()], out, at);
     match written {
         Body::To(end) => Body::To(end),
         Body::No => Body::No,

@@ -283,7 +283,9 @@ pub fn write_value(
     requires { ⌜ Fine sink ⌝ }
     ensures { λ r. ⌜ seen (now (out .exit)) r ≡ ran (orderOf order) (now (values .entry)) (under (now (out .entry)) sink) from (valueOf (typeOf what)) ⌝ }
 {
-    spelling::again(write_by_type(order, what, out, sink, values, from))
+    // Sliced again: see `items::read_item`.
+    let numbers = &values[0..values.len()];
+    spelling::again(write_by_type(order, what, out, sink, numbers, from))
 }
 
 // n values in turn, one by one.

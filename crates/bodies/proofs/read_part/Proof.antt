@@ -1,5 +1,11 @@
 use denote.Ref.{now}
+use mathlib.Core.List.{List}
+use Prim.Native.Nat.{ℕ}
+use Rattle.format.specs.Bodies.{readPart}
+use Rattle.table.specs.State.{shownOver}
 use Rattle.bits.specs.Places.{orderOf}
+use Rattle.bits.proofs.WholeLaws.{again, as-whole}
+use Rattle.bodies.specs.Leaf.{bodyBy}
 use Rattle.bodies.proofs.BodyLaws.{part-block, part-fixed}
 use borrow.Author.Needs.{needs}
 use Rattle.bodies.proofs.read_part.Statement.{statement}
@@ -13,6 +19,15 @@ use Rattle.fixed.proofs.read_fixed.Reads as read-fixed-reads
 -- src/lib.rt:60:13
 block-of-requires : tie.Need-block-of-requires
 block-of-requires c κs = search needs
+
+sub-read-block : tie.Need-sub-read-block
+sub-read-block c = search needs
+
+part-read-block-start : tie.Need-part-read-block-start
+part-read-block-start c = search needs
+
+part-read-block-end : tie.Need-part-read-block-end
+part-read-block-end c = search needs
 
 -- src/lib.rt:63:13
 slice-aggregate-read-block : tie.Need-slice-aggregate-read-block
@@ -31,7 +46,17 @@ same-length c = search needs
 
 -- src/lib.rt:58:9
 returns : tie.Need-returns
-returns c = let a = c .before .before .before .before .before .before .before .before .before .before .before .args in rw (c .again .ensures) (part-block (orderOf (a .order)) (now (a .body)) (now (a .table)) (a .from) (a .code) (c .before .before .before .before .before .before .before .before .if1 .taken) (c .before .before .before .before .before .before .before .block-of .ensures .are) (c .before .before .before .before .read-block .ensures .0))
+returns c = let a = c .before .before .before .before .before .before .before .before .before .before .before .before .args in
+    as-whole (λ (s : List ℕ). shownOver (now (a .table)) (a .from) (readPart (orderOf (a .order)) s (bodyBy (a .block) (a .code)) 0)) (now (a .body)) (rw (c .again .ensures) (part-block (orderOf (a .order)) (again (now (a .body))) (now (a .table)) (a .from) (a .code) (c .before .before .before .before .before .before .before .before .before .if1 .taken) (c .before .before .before .before .before .before .before .before .block-of .ensures .are) (c .before .before .before .before .read-block .ensures .0)))
+
+sub-read-fixed : tie.Need-sub-read-fixed
+sub-read-fixed c = search needs
+
+part-read-fixed-start : tie.Need-part-read-fixed-start
+part-read-fixed-start c = search needs
+
+part-read-fixed-end : tie.Need-part-read-fixed-end
+part-read-fixed-end c = search needs
 
 -- src/lib.rt:68:5
 read-fixed-requires : tie.Need-read-fixed-requires
@@ -46,18 +71,25 @@ same-length-2 c = search needs
 
 -- src/lib.rt:45:1
 returns-2 : tie.Need-returns-2
-returns-2 c = let a = c .before .before .before .before .before .before .before .before .args in rw (c .again2 .ensures) (part-fixed (orderOf (a .order)) (now (a .body)) (now (a .table)) (a .from) (a .code) (c .before .before .before .before .before .if1 .left) (c .before .before .before .read-fixed .ensures))
+returns-2 c = let a = c .before .before .before .before .before .before .before .before .before .args in
+    as-whole (λ (s : List ℕ). shownOver (now (a .table)) (a .from) (readPart (orderOf (a .order)) s (bodyBy (a .block) (a .code)) 0)) (now (a .body)) (rw (c .again2 .ensures) (part-fixed (orderOf (a .order)) (again (now (a .body))) (now (a .table)) (a .from) (a .code) (c .before .before .before .before .before .before .if1 .left) (c .before .before .before .read-fixed .ensures)))
 
 pub read-part-spec : {M : Type 1} → statement M
 read-part-spec =
     tie.close
     (tie.spec
     block-of-requires
+    sub-read-block
+    part-read-block-start
+    part-read-block-end
     slice-aggregate-read-block
     read-block-requires
     again-requires
     same-length
     returns
+    sub-read-fixed
+    part-read-fixed-start
+    part-read-fixed-end
     read-fixed-requires
     again-requires-2
     same-length-2

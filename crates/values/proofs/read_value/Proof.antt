@@ -1,7 +1,25 @@
 -- `values::read_value` meets its contract: the answer is that of the function that it calls.
+use denote.Ref.{now}
+use mathlib.Core.List.{List}
+use Prim.Native.Nat.{ℕ}
 use borrow.Author.Needs.{needs}
+use Rattle.format.specs.Items.{run}
+use Rattle.format.specs.Bodies.{value as valueOf}
+use Rattle.table.specs.State.{shownOver}
+use Rattle.attributes.specs.Rows.{typeOf}
+use Rattle.bits.specs.Places.{orderOf}
+use Rattle.bits.proofs.WholeLaws.{as-whole}
 use Rattle.values.proofs.read_value.Statement.{statement}
 use Rattle.values.proofs.read_value.Tie as tie
+
+sub-bytes : tie.Need-sub-bytes
+sub-bytes c = search needs
+
+part-bytes-start : tie.Need-part-bytes-start
+part-bytes-start c = search needs
+
+part-bytes-end : tie.Need-part-bytes-end
+part-bytes-end c = search needs
 
 read-by-type-requires : tie.Need-read-by-type-requires
 read-by-type-requires c κs = search needs
@@ -13,7 +31,17 @@ same-length : tie.Need-same-length
 same-length c = search needs
 
 returns : tie.Need-returns
-returns c = rw (c .again .ensures) (c .before .before .before .read-by-type .ensures)
+returns c = let a = c .before .before .before .before .before .before .before .before .args in
+    as-whole (λ (s : List ℕ). shownOver (now (a .table)) (a .from) (run (orderOf (a .order)) s (valueOf (typeOf (a .what))) (a .at .0))) (now (a .body)) (rw (c .again .ensures) (c .before .before .before .read-by-type .ensures))
 
 pub read-value-spec : {M : Type 1} → statement M
-read-value-spec = tie.close (tie.spec read-by-type-requires again-requires same-length returns)
+read-value-spec =
+    tie.close
+    (tie.spec
+    sub-bytes
+    part-bytes-start
+    part-bytes-end
+    read-by-type-requires
+    again-requires
+    same-length
+    returns)

@@ -1,7 +1,25 @@
 -- `write_values::write_value` meets its contract: the answer is that of the function that it calls.
+use denote.Ref.{now}
+use mathlib.Core.List.{List}
+use Prim.Native.Nat.{ℕ}
 use borrow.Author.Needs.{needs}
+use Rattle.format.specs.Bodies.{value as valueOf}
+use Rattle.attributes.specs.Rows.{typeOf}
+use Rattle.bits.specs.Places.{orderOf}
+use Rattle.bits.proofs.WholeLaws.{as-whole}
+use Rattle.sink.specs.Laying.{at as under}
+use Rattle.spelling.specs.Writing.{ran}
 use Rattle.write_values.proofs.write_value.Statement.{statement}
 use Rattle.write_values.proofs.write_value.Tie as tie
+
+sub-numbers : tie.Need-sub-numbers
+sub-numbers c = search needs
+
+part-numbers-start : tie.Need-part-numbers-start
+part-numbers-start c = search needs
+
+part-numbers-end : tie.Need-part-numbers-end
+part-numbers-end c = search needs
 
 write-by-type-requires : tie.Need-write-by-type-requires
 write-by-type-requires c κs = search needs
@@ -13,7 +31,17 @@ same-length : tie.Need-same-length
 same-length c = search needs
 
 returns : tie.Need-returns
-returns c = rw (c .again .ensures) (c .before .before .before .write-by-type .ensures)
+returns c = let a = c .before .before .before .before .before .before .before .before .args in
+    as-whole (λ (s : List ℕ). ran (orderOf (a .order)) s (under (now (a .out)) (a .sink)) (a .from) (valueOf (typeOf (a .what)))) (now (a .values)) (rw (c .again .ensures) (c .before .before .before .write-by-type .ensures))
 
 pub write-value-spec : {M : Type 1} → statement M
-write-value-spec = tie.close (tie.spec write-by-type-requires again-requires same-length returns)
+write-value-spec =
+    tie.close
+    (tie.spec
+    sub-numbers
+    part-numbers-start
+    part-numbers-end
+    write-by-type-requires
+    again-requires
+    same-length
+    returns)
