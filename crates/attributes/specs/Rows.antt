@@ -1,13 +1,12 @@
 -- The constant rows of attributes, in the words of the definitions.
-use Prim.Native.Nat.{ℕ, zero, suc, _≤_}
+use Prim.Native.Nat.{ℕ, zero, suc, _/_, _%_, _≤_}
 use mathlib.Core.List.{List, [], _∷_}
 use mathlib.Core.Path.{_≡_}
-use lib.ListN.{getD}
+use lib.ListN.{length, getD}
 use lib.Dec.{eqb}
 use Rattle.format.specs.Tests.{pick}
 use Rattle.format.specs.Bodies as bodies
 use Rattle.format.specs.Bodies.{layerAttributes, textPathOption, textMoreOption, transform2D, maskBlock, shapeGroup, rectangle, ellipse, polyStar, shapePath, fillBlock, stroke, gradientFill, gradientStroke, mergePaths, trimPaths, repeater, roundCorners}
-use Rattle.attributes.specs.declared.Attribute.{Attribute}
 use Rattle.attributes.specs.declared.DataType.{DataType}
 use Rattle.attributes.specs.declared.DataType.the-variants.{U32, Time, Float, Ratio, Bool, Byte, BlendMode, Path, Point, Color, GradientColor, EnumTo1, EnumTo2, EnumTo4, EnumTo6, EnumTo7, Dashes, TagBlock}
 use Rattle.attributes.specs.declared.Kind.{Kind}
@@ -43,17 +42,20 @@ typeOf EnumTo7 = bodies.Enums 7
 typeOf Dashes = bodies.Dashes
 typeOf TagBlock = bodies.TagBlocks
 
-abbrev pub attributeOf : Attribute → bodies.Attribute
-attributeOf a = record { kind = kindOf (a .kind); dataType = typeOf (a .data_type) }
+-- a row is one number: the kind, and eight times the data type, each by its place in these lists; the last of either stands for all that come after
+abbrev pub kindIn : ℕ → Kind
+kindIn row = getD (Value ∷ Fixed ∷ BitFlag ∷ Simple ∷ Discrete ∷ MultiDimension ∷ Spatial ∷ []) (row % 8) Custom
 
--- what would stand past the rows; nobody reads it
-abbrev pub noRow : Attribute
-noRow = record { kind = Value; data_type = U32 }
+abbrev pub typeIn : ℕ → DataType
+typeIn row = getD (U32 ∷ Time ∷ Float ∷ Ratio ∷ Bool ∷ Byte ∷ BlendMode ∷ Path ∷ Point ∷ Color ∷ GradientColor ∷ EnumTo1 ∷ EnumTo2 ∷ EnumTo4 ∷ EnumTo6 ∷ EnumTo7 ∷ Dashes ∷ []) (row / 8) TagBlock
 
--- n rows from row i on
-abbrev pub rowsFrom : List Attribute → ℕ → ℕ → List bodies.Attribute
+abbrev pub attributeIn : ℕ → bodies.Attribute
+attributeIn row = record { kind = kindOf (kindIn row); dataType = typeOf (typeIn row) }
+
+-- the attributes in n rows from row i on
+abbrev pub rowsFrom : List ℕ → ℕ → ℕ → List bodies.Attribute
 rowsFrom rows i zero = []
-rowsFrom rows i (suc n) = attributeOf (getD rows i noRow) ∷ rowsFrom rows (suc i) n
+rowsFrom rows i (suc n) = attributeIn (getD rows i 0) ∷ rowsFrom rows (suc i) n
 
 -- the list of a tag that is a block; the others have none
 unfoldable pub attributesOf : ℕ → List bodies.Attribute
@@ -78,7 +80,8 @@ attributesOf code =
     (pick (eqb code 27) roundCorners
     [])))))))))))))))))
 
--- the first rows, count of them and at most twelve, are these attributes
-pub record Attributes (rows : List Attribute) (count : ℕ) (attrs : List bodies.Attribute) : Type 0 where
+-- the first rows, count of them and at most twelve, have these attributes
+pub record Attributes (rows : List ℕ) (count : ℕ) (attrs : List bodies.Attribute) : Type 0 where
   pub few : count ≤ 12
+  pub there : count ≤ length rows
   pub are : rowsFrom rows 0 count ≡ attrs

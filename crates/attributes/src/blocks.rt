@@ -2,171 +2,126 @@
 ghost use mathlib.Core.List.{[]};
 ghost use Rattle.format.specs.Bodies as bodies;
 ghost use Rattle.attributes.specs.Rows.{attributesOf, Attributes};
-use crate::Attribute;
 use crate::Block;
-use crate::DataType;
-use crate::Kind;
+
+// A row is one number, its kind and its data type together: so a block lends its rows as bytes. `kind_in` and `type_in` tell the two again.
+const VALUE: u8 = 0;
+
+const FIXED: u8 = 1;
+
+const BIT_FLAG: u8 = 2;
+
+const SIMPLE: u8 = 3;
+
+const DISCRETE: u8 = 4;
+
+const MULTI_DIMENSION: u8 = 5;
+
+const SPATIAL: u8 = 6;
+
+const CUSTOM: u8 = 7;
+
+// Data types count by eights.
+const OF_U32: u8 = 0;
+
+const OF_TIME: u8 = 8;
+
+const OF_FLOAT: u8 = 16;
+
+const OF_RATIO: u8 = 24;
+
+const OF_BOOL: u8 = 32;
+
+const OF_BYTE: u8 = 40;
+
+const OF_BLEND_MODE: u8 = 48;
+
+const OF_PATH: u8 = 56;
+
+const OF_POINT: u8 = 64;
+
+const OF_COLOR: u8 = 72;
+
+const OF_GRADIENT_COLOR: u8 = 80;
+
+const OF_ENUM_TO_1: u8 = 88;
+
+const OF_ENUM_TO_2: u8 = 96;
+
+const OF_ENUM_TO_4: u8 = 104;
+
+const OF_ENUM_TO_6: u8 = 112;
+
+const OF_ENUM_TO_7: u8 = 120;
+
+const OF_DASHES: u8 = 128;
+
+const OF_TAG_BLOCK: u8 = 136;
 
 // What fills up the rows of a block: nobody reads it.
-const NONE: Attribute = Attribute {
-    kind: Kind::Value,
-    data_type: DataType::U32,
-};
+const NONE: u8 = VALUE + OF_U32;
 
-const BIT: Attribute = Attribute {
-    kind: Kind::BitFlag,
-    data_type: DataType::Bool,
-};
+const BIT: u8 = BIT_FLAG + OF_BOOL;
 
-const ID: Attribute = Attribute {
-    kind: Kind::Value,
-    data_type: DataType::U32,
-};
+const ID: u8 = VALUE + OF_U32;
 
-const RATIO: Attribute = Attribute {
-    kind: Kind::Value,
-    data_type: DataType::Ratio,
-};
+const RATIO: u8 = VALUE + OF_RATIO;
 
-const TIME: Attribute = Attribute {
-    kind: Kind::Value,
-    data_type: DataType::Time,
-};
+const TIME: u8 = VALUE + OF_TIME;
 
-const POINT: Attribute = Attribute {
-    kind: Kind::Value,
-    data_type: DataType::Point,
-};
+const POINT: u8 = VALUE + OF_POINT;
 
-const FLOAT: Attribute = Attribute {
-    kind: Kind::Value,
-    data_type: DataType::Float,
-};
+const FLOAT: u8 = VALUE + OF_FLOAT;
 
-const BYTE: Attribute = Attribute {
-    kind: Kind::Value,
-    data_type: DataType::Byte,
-};
+const BYTE: u8 = VALUE + OF_BYTE;
 
-const BLEND_MODE: Attribute = Attribute {
-    kind: Kind::Value,
-    data_type: DataType::BlendMode,
-};
+const BLEND_MODE: u8 = VALUE + OF_BLEND_MODE;
 
-const TRACK_MATTE_TYPE: Attribute = Attribute {
-    kind: Kind::Value,
-    data_type: DataType::EnumTo4,
-};
+const TRACK_MATTE_TYPE: u8 = VALUE + OF_ENUM_TO_4;
 
-const MASK_MODE: Attribute = Attribute {
-    kind: Kind::Value,
-    data_type: DataType::EnumTo7,
-};
+const MASK_MODE: u8 = VALUE + OF_ENUM_TO_7;
 
-const ANCHOR_POINT_GROUPING: Attribute = Attribute {
-    kind: Kind::Value,
-    data_type: DataType::EnumTo6,
-};
+const ANCHOR_POINT_GROUPING: u8 = VALUE + OF_ENUM_TO_6;
 
-const POLY_STAR_TYPE: Attribute = Attribute {
-    kind: Kind::Value,
-    data_type: DataType::EnumTo1,
-};
+const POLY_STAR_TYPE: u8 = VALUE + OF_ENUM_TO_1;
 
-const COMPOSITE_ORDER: Attribute = Attribute {
-    kind: Kind::Value,
-    data_type: DataType::EnumTo1,
-};
+const COMPOSITE_ORDER: u8 = VALUE + OF_ENUM_TO_1;
 
-const FILL_RULE: Attribute = Attribute {
-    kind: Kind::Value,
-    data_type: DataType::EnumTo1,
-};
+const FILL_RULE: u8 = VALUE + OF_ENUM_TO_1;
 
-const LINE_CAP: Attribute = Attribute {
-    kind: Kind::Value,
-    data_type: DataType::EnumTo2,
-};
+const LINE_CAP: u8 = VALUE + OF_ENUM_TO_2;
 
-const LINE_JOIN: Attribute = Attribute {
-    kind: Kind::Value,
-    data_type: DataType::EnumTo2,
-};
+const LINE_JOIN: u8 = VALUE + OF_ENUM_TO_2;
 
-const GRADIENT_FILL_TYPE: Attribute = Attribute {
-    kind: Kind::Value,
-    data_type: DataType::EnumTo1,
-};
+const GRADIENT_FILL_TYPE: u8 = VALUE + OF_ENUM_TO_1;
 
-const MERGE_PATHS_MODE: Attribute = Attribute {
-    kind: Kind::Value,
-    data_type: DataType::EnumTo4,
-};
+const MERGE_PATHS_MODE: u8 = VALUE + OF_ENUM_TO_4;
 
-const TRIM_PATHS_TYPE: Attribute = Attribute {
-    kind: Kind::Value,
-    data_type: DataType::EnumTo1,
-};
+const TRIM_PATHS_TYPE: u8 = VALUE + OF_ENUM_TO_1;
 
-const FIXED_ID: Attribute = Attribute {
-    kind: Kind::Fixed,
-    data_type: DataType::U32,
-};
+const FIXED_ID: u8 = FIXED + OF_U32;
 
-const FIXED_TIME: Attribute = Attribute {
-    kind: Kind::Fixed,
-    data_type: DataType::Time,
-};
+const FIXED_TIME: u8 = FIXED + OF_TIME;
 
-const DISCRETE_BOOL: Attribute = Attribute {
-    kind: Kind::Discrete,
-    data_type: DataType::Bool,
-};
+const DISCRETE_BOOL: u8 = DISCRETE + OF_BOOL;
 
-const SIMPLE_FLOAT: Attribute = Attribute {
-    kind: Kind::Simple,
-    data_type: DataType::Float,
-};
+const SIMPLE_FLOAT: u8 = SIMPLE + OF_FLOAT;
 
-const SIMPLE_BYTE: Attribute = Attribute {
-    kind: Kind::Simple,
-    data_type: DataType::Byte,
-};
+const SIMPLE_BYTE: u8 = SIMPLE + OF_BYTE;
 
-const SIMPLE_PATH: Attribute = Attribute {
-    kind: Kind::Simple,
-    data_type: DataType::Path,
-};
+const SIMPLE_PATH: u8 = SIMPLE + OF_PATH;
 
-const SIMPLE_COLOR: Attribute = Attribute {
-    kind: Kind::Simple,
-    data_type: DataType::Color,
-};
+const SIMPLE_COLOR: u8 = SIMPLE + OF_COLOR;
 
-const SIMPLE_GRADIENT: Attribute = Attribute {
-    kind: Kind::Simple,
-    data_type: DataType::GradientColor,
-};
+const SIMPLE_GRADIENT: u8 = SIMPLE + OF_GRADIENT_COLOR;
 
-const SIZED_POINT: Attribute = Attribute {
-    kind: Kind::MultiDimension,
-    data_type: DataType::Point,
-};
+const SIZED_POINT: u8 = MULTI_DIMENSION + OF_POINT;
 
-const SPATIAL_POINT: Attribute = Attribute {
-    kind: Kind::Spatial,
-    data_type: DataType::Point,
-};
+const SPATIAL_POINT: u8 = SPATIAL + OF_POINT;
 
-const DASHES: Attribute = Attribute {
-    kind: Kind::Custom,
-    data_type: DataType::Dashes,
-};
+const DASHES: u8 = CUSTOM + OF_DASHES;
 
-const TAG_BLOCK: Attribute = Attribute {
-    kind: Kind::Custom,
-    data_type: DataType::TagBlock,
-};
+const TAG_BLOCK: u8 = CUSTOM + OF_TAG_BLOCK;
 
 // 6: isActive, autoOrientation, parent, stretch, startTime, blendMode, trackMatteType, timeRemap, duration
 fn layer_attributes() -> Block

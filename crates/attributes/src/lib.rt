@@ -1,20 +1,19 @@
 // The attributes of a block, their flags, and what their kinds and data types tell.
 ghost use mathlib.Core.Path.{_≡_};
 ghost use Prim.Native.Nat.{_+_, _≤_, _<_};
+ghost use lib.ListN.{length};
 ghost use Rattle.format.specs.Items.{run};
 ghost use Rattle.format.specs.Bodies.{flagsOf, allFlags, dimensions as dimensionsOf, curves as curvesOf};
 ghost use Rattle.bits.specs.Places.{PlaceIn, orderOf};
-ghost use Rattle.table.specs.State.{shownOver};
-ghost use Rattle.table.specs.Run.{runLeaves};
-ghost use Rattle.attributes.specs.Rows.{kindOf, typeOf, rowsFrom};
-ghost use Rattle.attributes.specs.Flags.{FlagRead};
+ghost use Rattle.attributes.specs.Rows.{kindOf, typeOf, kindIn, typeIn, rowsFrom};
+ghost use Rattle.attributes.specs.Flags.{FlagRead, FlagsRead};
 ghost use Rattle.attributes.specs.Contents.{animatableBy, contentBy, interpolated, pointsBy, layoutBy};
 
 pub mod blocks;
 
 use bits::BitPlace;
+use bits::Got;
 use bits::Order;
-use table::Run;
 
 pub enum Kind {
     Value,
@@ -27,7 +26,7 @@ pub enum Kind {
     Custom,
 }
 
-// EnumTo4 goes from 0 to 4, and so the others. Without a number in it a data type is one byte, and a row two: they are handed on by value.
+// EnumTo4 goes from 0 to 4, and so the others.
 pub enum DataType {
     U32,
     Time,
@@ -49,15 +48,52 @@ pub enum DataType {
     TagBlock,
 }
 
-pub struct Attribute {
-    pub kind: Kind,
-    pub data_type: DataType,
+// The attributes of a block, in order: the first `count` of twelve rows, each one number (see `blocks`).
+pub struct Block {
+    pub rows: [u8; 12],
+    pub count: usize,
 }
 
-// The attributes of a block, in order: the first `count` of twelve rows. A walk takes these alone into its local, and not the rows of all tags.
-pub struct Block {
-    pub rows: [Attribute; 12],
-    pub count: usize,
+// The kind of the attribute in a row.
+pub fn kind_in(row: u8) -> Kind
+    ensures { λ r. ⌜ r ≡ kindIn row ⌝ }
+{
+    match row % 8 {
+        0 => Kind::Value,
+        1 => Kind::Fixed,
+        2 => Kind::BitFlag,
+        3 => Kind::Simple,
+        4 => Kind::Discrete,
+        5 => Kind::MultiDimension,
+        6 => Kind::Spatial,
+        _ => Kind::Custom,
+    }
+}
+
+// Its data type.
+pub fn type_in(row: u8) -> DataType
+    ensures { λ r. ⌜ r ≡ typeIn row ⌝ }
+{
+    match row / 8 {
+        0 => DataType::U32,
+        1 => DataType::Time,
+        2 => DataType::Float,
+        3 => DataType::Ratio,
+        4 => DataType::Bool,
+        5 => DataType::Byte,
+        6 => DataType::BlendMode,
+        7 => DataType::Path,
+        8 => DataType::Point,
+        9 => DataType::Color,
+        10 => DataType::GradientColor,
+        11 => DataType::EnumTo1,
+        12 => DataType::EnumTo2,
+        13 => DataType::EnumTo4,
+        14 => DataType::EnumTo6,
+        15 => DataType::EnumTo7,
+        16 => DataType::Dashes,
+        _ => DataType::TagBlock,
+    }
 }
 
 // The flag number of an attribute, and the place behind its bits. They are taken out of the first 40 bits of a body: a block has at most twelve attributes, with at
@@ -136,32 +172,33 @@ fn read_flag(order: Order, kind: Kind, first: u64, at: u64) -> Flag
     }
 }
 
-// The flags of all attributes of a block, in order. They stand at the start of its body.
-pub fn read_flags(order: Order, block: Block, body: &[u8], flags: &mut [u64]) -> Run
-    requires { ⌜ (block .count ≤ 12) × PlaceIn (now body) 0 ⌝ }
-    ensures { λ r. ⌜ runLeaves (now (flags .exit)) r ≡ shownOver (now (flags .entry)) 0 (run (orderOf order) (now (body .entry)) (allFlags (rowsFrom (block .rows) 0 (block .count))) 0) ⌝ }
+// The flags of the attributes in so many rows, in order; they stand at the start of the body of a block. Their numbers are handed on as the digits of one number in
+// base 8, the first attribute's lowest.
+pub fn read_flags(order: Order, rows: &[u8], count: usize, body: &[u8]) -> Got
+    requires { ⌜ (count ≤ 12) × (count ≤ length (now rows)) × PlaceIn (now body) 0 ⌝ }
+    ensures { λ r. ⌜ FlagsRead count (run (orderOf order) (now (body .entry)) (allFlags (rowsFrom (now (rows .entry)) 0 count)) 0) r ⌝ }
 {
-    let rows = block.rows;
-    let count = block.count;
     // Sliced again: see `items::read_item`.
     let bytes = &body[0..body.len()];
     let first = bits::fields::first_bits(order, bytes);
     let end = (bytes.len() * 8) as u64;
     let mut place = 0;
+    let mut numbers = 0;
+    let mut unit = 1u64;
     let mut index = 0;
     while index < count {
-        let attribute = rows[index];
-        let kind = attribute.kind;
+        let kind = kind_in(rows[index]);
         let flag = read_flag(order, kind, first, place);
         let behind = flag.behind;
         if end < behind {
-            return Run::Stop(13, index);
+            return Got::Fault(13);
         }
-        table::put(flags, index, flag.number);
+        numbers += flag.number * unit;
+        unit *= 8;
         place = behind;
         index += 1;
     }
-    Run::Done(BitPlace(place as usize), index)
+    Got::Value(numbers, BitPlace(place as usize))
 }
 
 // What a block has of an attribute besides its flags: nothing, one value, or keyframes.

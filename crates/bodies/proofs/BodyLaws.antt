@@ -30,6 +30,8 @@ use Rattle.bodies.specs.Leaf.{isBlock, bodyBy, leafBody, group, containe
 use Rattle.bodies.specs.Shown.{shownEnd, shownIndex, shownLeaves, isOpen, opens, Shows, finished, Inside, endBy, endAfter, Finishes}
 use Rattle.bodies.specs.declared.Shown.{Shown}
 use Rattle.bodies.specs.declared.Shown.the-variants.{Done, Open, Stop}
+use Rattle.attributes.proofs.FlagLaws.{ended-is}
+use Rattle.bodies.proofs.ContentLaws.{block-stop}
 use Rattle.bodies.proofs.ListFlagLaws.{lastOf, group-last}
 
 -- ---- the items, by the code
@@ -166,11 +168,11 @@ unfolding containerBody
 container-group o b t k code z h = rw (eq-eqb code 15 z) h
 
 -- a group, whose flags were read into f
-pub group-shows : (o : Order) (b t f : List ℕ) (k : ℕ) {u φs : List ℕ} (items : Run) {list : Bool} {s : Shown} (attrs : List Attribute) → attrs ≡ attributesOf 15 → 9 ≤ length f
-    → φs ≡ sets f 0 (run o b (allFlags attrs) 0 .shown) → runLeaves u items ≡ shownOver t k (readBlock o b attrs 0) → list ≡ eqb (getD φs 8 0) 1 → Finishes o b items list s
+pub group-shows : (o : Order) (b t : List ℕ) (k : ℕ) {u φs : List ℕ} {p : ℕ} (items : Run) {list : Bool} {s : Shown} (attrs : List Attribute) → attrs ≡ attributesOf 15
+    → run o b (allFlags attrs) 0 ≡ shows φs p → runLeaves u items ≡ shownOver t k (readBlock o b attrs 0) → list ≡ eqb (getD φs 8 0) 1 → Finishes o b items list s
     → Shows t k (ownPart o group b) (hasListIn o group b) u s
 unfolding attributesOf readPart
-group-shows o b t f k {u} {φs} items {list} {s} attrs is lent flags h flag done = go (readPart o b group 0 .ended) refl
+group-shows o b t k {u} {φs} items {list} {s} attrs is flags h flag done = go (readPart o b group 0 .ended) refl
   where
     shown : Shows t k (either o b group list) list u s
     shown = body-shows o b group t k items list (h ∙ ap (λ (l : List Attribute). shownOver t k (readBlock o b l 0)) is) done
@@ -178,9 +180,17 @@ group-shows o b t f k {u} {φs} items {list} {s} attrs is lent flags h flag done
     go : (z : Ending) → readPart o b group 0 .ended ≡ z → Shows t k (ownPart o group b) (hasListIn o group b) u s
     go (Fault e) z = shows-either o b group z t k list (hasListIn o group b) shown
     go (At q) z =
-        let last : getD φs 8 0 ≡ lastOf (readPart o b group 0 .shown) = group-last o b f φs 0 q lent (flags ∙ ap (λ (l : List Attribute). sets f 0 (run o b (allFlags l) 0 .shown)) is) z in
+        let last : getD φs 8 0 ≡ lastOf (readPart o b group 0 .shown) = group-last o b 0 q (ap (λ (l : List Attribute). run o b (allFlags l) 0) (sym is) ∙ flags) z in
         let e : list ≡ hasListIn o group b = flag ∙ ap (λ (n : ℕ). eqb n 1) (last ∙ ap lastOf (sym (end-shown o b group))) in
         subst (λ (l : Bool). Shows t k (either o b group l) l u s) e shown
+
+-- its flags were not read
+pub group-stops : (o : Order) (b t : List ℕ) (k : ℕ) {e : ℕ} (attrs : List Attribute) → attrs ≡ attributesOf 15 → run o b (allFlags attrs) 0 .ended ≡ Fault e
+    → Shows t k (ownPart o group b) (hasListIn o group b) t (Stop e k)
+unfolding attributesOf readPart
+group-stops o b t k {e} attrs is f =
+    let h : runLeaves t (run.Stop e k) ≡ shownOver t k (readPart o b group 0) = block-stop o b t k 0 attrs f ∙ ap (λ (l : List Attribute). shownOver t k (readBlock o b l 0)) is in
+    shows-either o b group (ended-is t k (readPart o b group 0) h) t k false (hasListIn o group b) (body-shows o b group t k (run.Stop e k) false h (finish-stop o b false refl))
 
 -- ---- no second answer fits a promise on the values of a tag: what was left, seen as a state, tells the table; and with whether a list follows, the answer
 pub one-shown : (t u : List ℕ) (a b : Shown) → shownLeaves t a ≡ shownLeaves u b → isOpen a ≡ isOpen b → (t ≡ u) × (a ≡ b)

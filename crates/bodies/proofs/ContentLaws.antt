@@ -5,9 +5,9 @@ use mathlib.Core.Path.{_≡_, refl, ap, ap₂, sym, _∙_}
 use native.Mathlib.Numerals.{add-one}
 use native.Mathlib.Omega.{arith}
 use lib.ListN.{length, getD, take}
-use lib.Seq.{sets, slice, slice-cons}
+use lib.Seq.{slice, slice-cons}
 use Rattle.format.specs.Bits.{Order}
-use Rattle.format.specs.Reading.{Ending, At, Fault, Reading, shows}
+use Rattle.format.specs.Reading.{At, Fault, Reading, shows}
 use Rattle.format.specs.Formats.{Item, Format, nothing, item, _▸_}
 use Rattle.format.specs.Items.{run, readItem}
 use Rattle.format.specs.Bodies as bodies
@@ -22,8 +22,7 @@ use Rattle.table.specs.declared.Run.{Run}
 use Rattle.table.specs.declared.Run.the-variants.{Done, Stop}
 use Rattle.table.proofs.EngineLaws.{state, after-none, after-stop, alike-assoc}
 use Rattle.table.proofs.RunLaws.{run-done, run-stop}
-use Rattle.attributes.specs.Rows.{attributeOf, rowsFrom}
-use Rattle.attributes.specs.declared.Attribute.{Attribute}
+use Rattle.attributes.specs.Rows.{attributeIn, rowsFrom}
 use Rattle.attributes.proofs.FlagLaws.{rowAt, rows-next, rows-none}
 
 -- ---- a content: none, so nothing was read and nothing stored; or what stands of it was read
@@ -58,7 +57,7 @@ row-fits o b t a φ m k {u} {p} {j} {q} h e =
     ((l .1, h .0 .1), omega (arith, n, c, h .1))
 
 -- the loop: the whole from the start is what is left from here
-module _ (o : Order) (s t₀ flags : List ℕ) (k : ℕ) (block : List Attribute) (count p₀ : ℕ) where
+module _ (o : Order) (s t₀ flags : List ℕ) (k : ℕ) (block : List ℕ) (count p₀ : ℕ) where
   abbrev rowsAt : ℕ → Format
   rowsAt row = rows (rowsFrom block row (count - row)) (slice row count flags)
 
@@ -74,7 +73,7 @@ module _ (o : Order) (s t₀ flags : List ℕ) (k : ℕ) (block : List Attribute
   -- the row here has the flag number φ; R is the answer of the call that read it
   module _ {t : List ℕ} {p j row φ : ℕ} (some : row < count) (lent : count ≤ length flags) (flag : φ ≡ getD flags row 0) (g : Going t p j row) where
     abbrev attributeHere : bodies.Attribute
-    attributeHere = attributeOf (rowAt block row)
+    attributeHere = attributeIn (rowAt block row)
 
     rows-here : run o s (rowsAt row) p ≡ run o s (rowOf attributeHere φ ▸ rowsAt (row + 1)) p
     unfolding rows
@@ -107,10 +106,10 @@ module _ (o : Order) (s t₀ flags : List ℕ) (k : ℕ) (block : List Attribute
   rows-start few h = let n : count - 0 ≡ count = omega arith in record { size = refl; same = rw n; fits = (h .0, omega (arith, h .1)); below = omega arith }
 
 -- ---- the first rows of a block
-pub rows-first : (block : List Attribute) (i m n : ℕ) → m ≤ n → rowsFrom block i m ≡ take m (rowsFrom block i n)
+pub rows-first : (block : List ℕ) (i m n : ℕ) → m ≤ n → rowsFrom block i m ≡ take m (rowsFrom block i n)
 rows-first block i zero n h = refl
 rows-first block i (suc m) zero h = absurd (omega arith)
-rows-first block i (suc m) (suc n) h = ap (λ (l : List bodies.Attribute). attributeOf (rowAt block i) ∷ l) (rows-first block (suc i) m n (omega arith))
+rows-first block i (suc m) (suc n) h = ap (λ (l : List bodies.Attribute). attributeIn (rowAt block i) ∷ l) (rows-first block (suc i) m n (omega arith))
 
 -- ---- a block: its flags, and then its rows
 module _ (o : Order) (b t : List ℕ) (k p : ℕ) (attrs : List bodies.Attribute) where
@@ -127,8 +126,3 @@ pub flags-fit : (o : Order) (b : List ℕ) (attrs : List bodies.Attribute) {φs 
 flags-fit o b attrs {φs} {p} {q} e h =
     let l : (p ≤ q) × (q ≤ 8 * length b) = run-le o b (allFlags attrs) p q (h .0 .0) (ap (λ (r : Reading). r .ended) e) in
     ((l .1, h .0 .1), omega (arith, l .0, h .1))
-
--- the lent room that a run of flags leaves
-pub flags-left : (f : List ℕ) (r : Reading) {u : List ℕ} {j : ℕ} {z : Ending} → state u j z ≡ shownOver f 0 r → u ≡ sets f 0 (r .shown)
-unfolding shownOver
-flags-left f r e = ap (λ (s : State). s .table) e

@@ -4,15 +4,15 @@ use mathlib.Core.List.{List, [], _∷_, _++_}
 use mathlib.Core.Bool.{Bool, true, false}
 use mathlib.Core.Path.{_≡_, refl, ap, sym, _∙_}
 use native.Mathlib.Omega.{arith}
-use lib.ListN.{length, getD, take, drop, length-append, List·getD-append}
-use lib.Seq.{sets, sets-eq, getD-append-add}
+use lib.ListN.{length, getD, take, length-append}
+use lib.Seq.{getD-append-add}
 use lib.Dec.{eqb}
 use Rattle.format.specs.Tests.{pick}
 use Rattle.format.specs.Bits.{Order}
-use Rattle.format.specs.Reading.{Ending, At, Fault, Reading, follow}
+use Rattle.format.specs.Reading.{Ending, At, Fault, Reading, shows, follow}
 use Rattle.format.specs.Formats.{Format, nothing}
 use Rattle.format.specs.Items.{run, readItem}
-use Rattle.format.specs.Bodies.{Attribute, _of_, Custom, TagBlocks, shapeGroup, content, allFlags, rows, handOn, readBlock}
+use Rattle.format.specs.Bodies.{Attribute, _of_, Custom, TagBlocks, shapeGroup, content, allFlags, rows, readBlock}
 use Rattle.format.proofs.Absurd.{clash}
 use Rattle.format.proofs.BlockLaws.{as-many}
 
@@ -55,21 +55,10 @@ rows-last o b (a ∷ attrs) (φ ∷ φs) p n =
     after : ℕ → Reading
     after q = follow (run o b (content a φ) q .shown) (run o b (content a φ) q .ended) (λ xs r. rest r)
 
--- the flags of a ShapeGroup over lent room for them, and its block
-pub group-last : (o : Order) (b f u : List ℕ) (p q : ℕ) → 9 ≤ length f → u ≡ sets f 0 (run o b (allFlags shapeGroup) p .shown) → readBlock o b shapeGroup p .ended ≡ At q
-    → getD u 8 0 ≡ lastOf (readBlock o b shapeGroup p .shown)
+-- the flags of a ShapeGroup, and its block
+pub group-last : (o : Order) (b : List ℕ) (p q : ℕ) {r : ℕ} {φs : List ℕ} → run o b (allFlags shapeGroup) p ≡ shows φs r → readBlock o b shapeGroup p .ended ≡ At q
+    → getD φs 8 0 ≡ lastOf (readBlock o b shapeGroup p .shown)
 unfolding readBlock
-group-last o b f u p q h e z = go (run o b (allFlags shapeGroup) p .ended) refl z
-  where
-    φs : List ℕ
-    φs = run o b (allFlags shapeGroup) p .shown
-
-    then : List ℕ → ℕ → Reading
-    then φs q = run o b (rows shapeGroup φs) q
-
-    go : (y : Ending) → run o b (allFlags shapeGroup) p .ended ≡ y → handOn φs y then .ended ≡ At q → getD u 8 0 ≡ lastOf (handOn φs y then .shown)
-    go (At r) y z =
-        let n : length φs ≡ 9 = as-many o shapeGroup b p r y in
-        let at : getD u 8 0 ≡ getD φs 8 0 = ap (λ (l : List ℕ). getD l 8 0) (e ∙ sets-eq φs f 0 (omega arith)) ∙ List·getD-append φs (drop (0 + length φs) f) 0 8 (omega arith) in
-        at ∙ sym (rows-last o b (take 8 shapeGroup) φs r n q z .1)
-    go (Fault x) y z = clash cc
+group-last o b p q {r} {φs} e z =
+    let n : length φs ≡ 9 = sym (ap (λ (x : Reading). length (x .shown)) e) ∙ as-many o shapeGroup b p r (ap (λ (x : Reading). x .ended) e) in
+    rw e (sym (rows-last o b (take 8 shapeGroup) φs r n q (rw e at z) .1))

@@ -15,6 +15,7 @@ pub mod blocks;
 use bits::Aligned;
 use bits::BitPlace;
 use bits::BytePlace;
+use bits::Got;
 use bits::Order;
 use table::Run;
 
@@ -54,12 +55,10 @@ fn read_part(
     ensures { λ r. ⌜ runLeaves (now (table .exit)) r ≡ shownOver (now (table .entry)) from (readPart (orderOf order) (now (body .entry)) (bodyBy block code) 0) ⌝ }
 {
     if block {
-        let mut flags = [0u64; 12];
         return table::again(blocks::read_block(
             order,
             attributes::blocks::block_of(code),
             &body[0..body.len()],
-            &mut flags,
             table,
             from,
         ));
@@ -104,15 +103,32 @@ pub fn read_body(order: Order, code: u32, body: &[u8], table: &mut [u64], from: 
     finish(order, body, items, false)
 }
 
-// A ShapeGroup: it has a list where the flag of its last attribute, the TagBlock, is set. The walk that counts stores no values, so the flag is taken from the lent flags.
+// A ShapeGroup: it has a list where the flag of its last attribute, the TagBlock, is set: digit 8 of its flag numbers. The walk that counts stores no values, so the
+// flag is taken from those.
 fn read_group(order: Order, body: &[u8], table: &mut [u64], from: usize) -> Shown
     requires { ⌜ (length (now body) < 2 ^ 60) × (from < 2 ^ 61) ⌝ }
     ensures { λ r. ⌜ Shows (now (table .entry)) from (ownPart (orderOf order) group (now (body .entry))) (hasListIn (orderOf order) group (now (body .entry))) (now (table .exit)) r ⌝ }
 {
-    let mut flags = [0u64; 12];
     let block = attributes::blocks::block_of(15);
-    let items = blocks::read_block(order, block, body, &mut flags, table, from);
-    finish(order, body, items, flags[8] == 1)
+    let rows = block.rows;
+    let count = block.count;
+    let got = attributes::read_flags(order, &rows, count, body);
+    match got {
+        Got::Value(numbers, next) => {
+            let items = blocks::read_contents(
+                order,
+                &rows,
+                count,
+                numbers,
+                body,
+                next,
+                table,
+                from,
+            );
+            finish(order, body, items, numbers / 16777216 % 8 == 1)
+        }
+        Got::Fault(why) => Shown::Stop(why, from),
+    }
 }
 
 // The own part of a container: its items, and zero bits up to the whole byte where its list starts (15). A group without a list ends like a leaf.

@@ -170,6 +170,12 @@ module _ (o : Order) (b : List ℕ) (p : ℕ) (k : Item) {q : ℕ} {r : Got} (sk
   pub item-out : {v e : ℕ} {z : BitPlace} → r ≡ Value v z → e ≡ rangeFault k v → (e ≡ 0 → ⊥) → stop e ≡ run o b (formatOf k) p
   item-out {v} {e} h f n = sym (item-clean o b p k (numOf r) skip bytes ∙ rw (h, ← f, ne-eqb e 0 n))
 
+-- a Time has no range
+pub item-time : (o : Order) (b : List ℕ) (p : ℕ) {q : ℕ} (r : Got) → readAlign o b p ≡ shows [] q → numOf r ≡ spelt o Time b q → showNum (numOf r) ≡ run o b (formatOf Time) p
+unfolding rangeFault
+item-time o b p (Value v z) skip bytes = item-in o b p Time skip bytes refl refl
+item-time o b p (Fault e) skip bytes = item-bad o b p Time skip bytes refl
+
 -- ---- bounds of the numbers that are shown
 spelt-below : (o : Order) (k : Item) (b : List ℕ) (q : ℕ) → Below (2 ^ 64) (spelt o k b q)
 spelt-below o U32 b q = below-more (lit≤ tt) (readU32 o b q) (var-below o b 15 q 4 (lit≤ tt))

@@ -5,6 +5,7 @@ ghost use lib.ListN.{length};
 ghost use Rattle.format.specs.Items.{num, showNum, run, readLE, readUB};
 ghost use Rattle.bits.specs.Places.{PlaceIn, numOf, orderOf, InEither};
 ghost use Rattle.items.specs.Kinds.{formatOf, spelt, between as within, rangeFault};
+ghost use Rattle.items.specs.declared.Item.the-variants.{Time};
 
 mod var;
 
@@ -149,5 +150,16 @@ pub fn read_item(order: Order, kind: Item, body: &[u8], at: BitPlace) -> Got
         Got::Value(value, next)
     } else {
         Got::Fault(why)
+    }
+}
+
+// A Time, as `read_item` reads it, for many of them in turn: nothing asks for its kind. By `read_var`, since `read_u64` with a second caller would not come in line.
+pub fn read_time(order: Order, body: &[u8], at: BitPlace) -> Got
+    requires { ⌜ PlaceIn (now body) (at .0) ⌝ }
+    ensures { λ r. ⌜ showNum (numOf r) ≡ run (orderOf order) (now (body .entry)) (formatOf Time) (at .0) ⌝ }
+{
+    match bits::align(order, body, at) {
+        Aligned::Clean(byte, bit) => var::read_var(body, byte, bit, 9, 1),
+        Aligned::Unclean => Got::Fault(15),
     }
 }

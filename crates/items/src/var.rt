@@ -19,7 +19,7 @@ fn ends(byte: u64, left: u64, top: u64) -> bool
 }
 
 // A first byte, and at most `most` more, the last of these at most `top`.
-fn read_var(body: &[u8], byte: BytePlace, bit: BitPlace, most: u64, top: u64) -> Got
+pub(crate) fn read_var(body: &[u8], byte: BytePlace, bit: BitPlace, most: u64, top: u64) -> Got
     requires { ⌜ PlaceIn (now body) (bit .0) × (bit .0 ≡ 8 * byte .0) × (1 ≤ most) × (1 ≤ top) × (top < 128) × (128 * cap (most - 1) top ≤ 2 ^ 64) ⌝ }
     ensures { λ r. ⌜ InEither (λ o. numOf r ≡ readVar o (now (body .entry)) top (bit .0) most) ⌝ }
 {

@@ -13,12 +13,21 @@ use Rattle.format.specs.Formats.{Format, times}
 use Rattle.format.specs.Items.{run, time, skipped}
 use Rattle.format.specs.Bodies.{Attribute, Simple, Bytes, _of_, content, maskBlock, attributes, readBody}
 use Rattle.opacity.specs.Opacity.{Keyframes, fromOpacity, keyframesOf, covers, covering, late, falls}
+use Rattle.bits.specs.declared.Got.{Got}
+use Rattle.bits.specs.declared.Got.the-variants as bits
+use Rattle.bits.specs.declared.Got.the-variants.{Value}
 use Rattle.opacity.specs.declared.frames.Seen.{Seen}
+use Rattle.opacity.specs.declared.places.Taken.{Taken}
 
 -- the place where a reading ended; 0 where it did not
 abbrev pub placeIn : Ending → ℕ
 placeIn (At p) = p
 placeIn (Fault e) = 0
+
+-- what was read; zeros where that is a reason
+abbrev pub takenOf : Got → Taken
+takenOf (Value v q) = record { number = v; next = q }
+takenOf (bits.Fault e) = record { number = 0; next = record { 0 = 0 } }
 
 -- it was read
 abbrev pub IsAt : Ending → Type 0

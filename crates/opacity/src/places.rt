@@ -5,8 +5,7 @@ ghost use Rattle.format.specs.Items.{run};
 ghost use Rattle.bits.specs.Places.{PlaceIn, orderOf};
 ghost use Rattle.items.specs.Kinds.{formatOf};
 ghost use Rattle.table.specs.Run.{endingOf};
-ghost use Rattle.opacity.specs.Inner.{placeIn, Judged, Finds};
-use attributes::Block;
+ghost use Rattle.opacity.specs.Inner.{placeIn, takenOf, Judged, Finds};
 use bits::BitPlace;
 use bits::Got;
 use bits::Order;
@@ -25,12 +24,10 @@ pub struct Found {
     pub content: BitPlace,
 }
 
-// One item; zeros where there is none.
-pub(crate) fn item_at(order: Order, kind: Item, body: &[u8], at: BitPlace) -> Taken
-    requires { ⌜ PlaceIn (now body) (at .0) ⌝ }
-    ensures { λ r. ⌜ (r .number ≡ the (run (orderOf order) (now (body .entry)) (formatOf kind) (at .0) .shown)) × (r .next .0 ≡ placeIn (run (orderOf order) (now (body .entry)) (formatOf kind) (at .0) .ended)) ⌝ }
+// What was read; zeros where that is a reason.
+fn take_got(got: Got) -> Taken
+    ensures { λ r. ⌜ r ≡ takenOf got ⌝ }
 {
-    let got = items::read_item(order, kind, body, at);
     match got {
         Got::Value(number, next) => Taken {
             number: number,
@@ -43,6 +40,14 @@ pub(crate) fn item_at(order: Order, kind: Item, body: &[u8], at: BitPlace) -> Ta
     }
 }
 
+// One item; zeros where there is none.
+pub(crate) fn item_at(order: Order, kind: Item, body: &[u8], at: BitPlace) -> Taken
+    requires { ⌜ PlaceIn (now body) (at .0) ⌝ }
+    ensures { λ r. ⌜ (r .number ≡ the (run (orderOf order) (now (body .entry)) (formatOf kind) (at .0) .shown)) × (r .next .0 ≡ placeIn (run (orderOf order) (now (body .entry)) (formatOf kind) (at .0) .ended)) ⌝ }
+{
+    take_got(items::read_item(order, kind, body, at))
+}
+
 // The place where a run ended; 0 where it was stopped.
 fn place_of(run: Run) -> BitPlace
     ensures { λ r. ⌜ r .0 ≡ placeIn (endingOf run) ⌝ }
@@ -53,31 +58,27 @@ fn place_of(run: Run) -> BitPlace
     }
 }
 
-// The opacity's place: after the flags of all attributes, and the contents of the four before it.
+// The opacity's place: after the flags of all attributes, and the contents of the four before it. Its flag number is the fifth.
 pub(crate) fn find(order: Order, body: &[u8]) -> Found
     requires { ⌜ Judged (orderOf order) (now body) ⌝ }
     ensures { λ r. ⌜ Finds (orderOf order) (now (body .entry)) (r .flag) (r .content .0) ⌝ }
 {
     let block = attributes::blocks::block_of(14);
-    let mut flags = [0u64; 12];
-    let behind = place_of(attributes::read_flags(order, block, body, &mut flags));
     let rows = block.rows;
-    let before = Block {
-        rows: rows,
-        count: 4,
-    };
+    let flags = take_got(attributes::read_flags(order, &rows, block.count, body));
     let mut none = [0u64; 1];
     let content = place_of(bodies::blocks::read_contents(
         order,
-        before,
-        &flags,
+        &rows,
+        4,
+        flags.number,
         body,
-        behind,
+        flags.next,
         &mut none[..0],
         0,
     ));
     Found {
-        flag: flags[4],
+        flag: flags.number / 4096 % 8,
         content: content,
     }
 }

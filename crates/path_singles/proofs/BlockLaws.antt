@@ -16,9 +16,7 @@ use Rattle.format.specs.Bodies.{Attribute, content, allFlags, rows, handOn}
 use Rattle.table.specs.State.{State, shownOver}
 use Rattle.table.specs.Run.{indexOf, runLeaves}
 use Rattle.table.specs.declared.Run.{Run}
-use Rattle.attributes.specs.Rows.{attributeOf, rowsFrom, Attributes}
-use Rattle.attributes.specs.declared.Attribute as code
-use Rattle.attributes.specs.declared.Block.{Block}
+use Rattle.attributes.specs.Rows.{attributeIn, rowsFrom, Attributes}
 use Rattle.attributes.proofs.FlagLaws.{rowAt, rows-next, rows-none, rows-many}
 use Rattle.bodies.proofs.ContentLaws.{rows-first}
 use Rattle.path_singles.specs.Coordinates.{Singled, isPath, plain, onward, behindFlag, earlier, block}
@@ -33,7 +31,7 @@ rows-take [] φs = refl
 rows-take (x ∷ xs) [] = refl
 rows-take (x ∷ xs) (φ ∷ φs) = ap (λ (f : Format). item (Item.echo φ) ▸ content x φ ▸ f) (rows-take xs φs)
 
-module _ {R : List code.Attribute} {count : ℕ} {attrs : List Attribute} (is : Attributes R count attrs) where
+module _ {R : List ℕ} {count : ℕ} {attrs : List Attribute} (is : Attributes R count attrs) where
   pub count-is : count ≡ length attrs
   count-is = sym (rows-many R 0 count) ∙ ap length (is .are)
 
@@ -41,8 +39,8 @@ module _ {R : List code.Attribute} {count : ℕ} {attrs : List Attribute} (is : 
     inside : row ≤ count
     inside = omega (arith, count-is)
 
-    pub before-few : (B : Block) → (B .rows ≡ R) × (B .count ≡ row) → B .count ≤ 12
-    before-few B e = omega (arith, e .1, inside, is .few)
+    pub before-few : (row ≤ 12) × (row ≤ length R)
+    before-few = (omega (arith, inside, is .few), omega (arith, inside, is .there))
 
     rows-same : (u : List ℕ) → rows (rowsFrom R 0 row) (take row u) ≡ rows (take row attrs) (take count u)
     rows-same u =
@@ -58,13 +56,12 @@ module _ {R : List code.Attribute} {count : ℕ} {attrs : List Attribute} (is : 
     unfolding earlier
     flags-are = ap (λ (xs : List Attribute). before (run high b (allFlags xs) 0) .shown) (sym (is .are))
 
-    pub before-read : (B : Block) (u : List ℕ) {q : ℕ} (t t′ : List ℕ) (x : Run) → (B .rows ≡ R) × (B .count ≡ row) → run high b (allFlags (rowsFrom R 0 count)) 0 ≡ shows (take count u) q
-        → runLeaves t′ x ≡ shownOver t 0 (run high b (rows (rowsFrom (B .rows) 0 (B .count)) (take (B .count) u)) q) → indexOf x ≡ length (earlier high b attrs row)
+    pub before-read : (u : List ℕ) {q : ℕ} (t t′ : List ℕ) (x : Run) → run high b (allFlags (rowsFrom R 0 count)) 0 ≡ shows (take count u) q
+        → runLeaves t′ x ≡ shownOver t 0 (run high b (rows (rowsFrom R 0 row) (take row u)) q) → indexOf x ≡ length (earlier high b attrs row)
     unfolding shownOver
-    before-read B u {q} t t′ x a e d =
-        let z : indexOf x ≡ length (run high b (rows (rowsFrom (B .rows) 0 (B .count)) (take (B .count) u)) q .shown) = omega (arith, ap (λ (s : State). s .count) d) in
-        z ∙ ap₂ (λ (S : List code.Attribute) (i : ℕ). length (run high b (rows (rowsFrom S 0 i) (take i u)) q .shown)) (a .0) (a .1) ∙ ap (λ (f : Format). length (run high b f q .shown)) (rows-same u)
-        ∙ sym (ap length flags-are ∙ ap (λ (r : Reading). length (before r .shown)) e)
+    before-read u {q} t t′ x e d =
+        let z : indexOf x ≡ length (run high b (rows (rowsFrom R 0 row) (take row u)) q .shown) = omega (arith, ap (λ (s : State). s .count) d) in
+        z ∙ ap (λ (f : Format). length (run high b f q .shown)) (rows-same u) ∙ sym (ap length flags-are ∙ ap (λ (r : Reading). length (before r .shown)) e)
 
     pub before-stopped : {e : ℕ} → run high b (allFlags (rowsFrom R 0 count)) 0 .ended ≡ Fault e → 0 ≡ length (earlier high b attrs row)
     before-stopped h =
@@ -80,7 +77,7 @@ row-then b attrs a more i v = go (isPath a)
     go true = refl
     go false = refl
 
-module _ (b v₀ : List ℕ) (R : List code.Attribute) (count : ℕ) (attrs : List Attribute) where
+module _ (b v₀ : List ℕ) (R : List ℕ) (count : ℕ) (attrs : List Attribute) where
   abbrev rest : ℕ → List Attribute
   rest row = rowsFrom R row (count - row)
 
@@ -96,7 +93,7 @@ module _ (b v₀ : List ℕ) (R : List code.Attribute) (count : ℕ) (attrs : Li
     same = let n : count - row ≡ count = omega arith in rw (n, e, is .are);
   }
 
-  pub blocks-on : {v u : List ℕ} {row : ℕ} {c d e : Bool} → Blocking v row c → row < count → length u ≡ length v → left u d ≡ rowOf b attrs (attributeOf (rowAt R row)) row v → e ≡ c or d
+  pub blocks-on : {v u : List ℕ} {row : ℕ} {c d e : Bool} → Blocking v row c → row < count → length u ≡ length v → left u d ≡ rowOf b attrs (attributeIn (rowAt R row)) row v → e ≡ c or d
       → Blocking u (row + 1) e
   blocks-on {v} {u} {row} {c} {d} {e} g h n p q = record {
     size = n ∙ g .size;
@@ -104,7 +101,7 @@ module _ (b v₀ : List ℕ) (R : List code.Attribute) (count : ℕ) (attrs : Li
     same =
         let more : List Attribute = rest (row + 1) in
         g .same ∙ ap (λ (xs : List Attribute). beside c (block high b attrs xs row v)) (rows-next R h)
-        ∙ ap (beside c) (row-then b attrs (attributeOf (rowAt R row)) more row v ∙ ap (λ (s : Singled). onward s (block high b attrs more (suc row))) (sym p))
+        ∙ ap (beside c) (row-then b attrs (attributeIn (rowAt R row)) more row v ∙ ap (λ (s : Singled). onward s (block high b attrs more (suc row))) (sym p))
         ∙ ap (left (block high b attrs more (suc row) u .shown)) (or-assoc c d (block high b attrs more (suc row) u .beyond))
         ∙ ap₂ (λ (x : Bool) (i : ℕ). beside x (block high b attrs more i u)) (sym q) (sym (add-one row));
   }

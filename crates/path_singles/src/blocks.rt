@@ -4,15 +4,14 @@ ghost use Prim.Native.Nat.{_≤_, _<_, _^_};
 ghost use lib.ListN.{length};
 ghost use Rattle.format.specs.Bits.{high};
 ghost use Rattle.table.specs.Run.{indexOf};
-ghost use Rattle.attributes.specs.Rows.{kindOf, typeOf, attributeOf, attributesOf};
+ghost use Rattle.attributes.specs.Rows.{kindOf, typeOf, attributeIn, attributesOf};
 ghost use Rattle.path_singles.specs.Coordinates.{isSimple, isPaths, isPath, earlier, block};
 ghost use Rattle.path_singles.specs.Converting.{left, rowOf};
 use crate::convert_attribute;
 use crate::either;
-use attributes::Attribute;
-use attributes::Block;
 use attributes::DataType;
 use attributes::Kind;
+use bits::Got;
 use bits::Order;
 use table::Run;
 
@@ -57,13 +56,11 @@ fn is_paths(what: DataType) -> bool
 }
 
 // Paths are Simple attributes.
-fn is_path(attribute: Attribute) -> bool
-    ensures { λ r. ⌜ r ≡ isPath (attributeOf attribute) ⌝ }
+fn is_path(attribute: u8) -> bool
+    ensures { λ r. ⌜ r ≡ isPath (attributeIn attribute) ⌝ }
 {
-    let kind = attribute.kind;
-    let what = attribute.data_type;
-    if is_simple(kind) {
-        return is_paths(what);
+    if is_simple(attributes::kind_in(attribute)) {
+        return is_paths(attributes::type_in(attribute));
     }
     false
 }
@@ -78,14 +75,6 @@ fn shown_by(run: Run) -> usize
     }
 }
 
-// The rows before one of them.
-fn rows_before(block: Block, row: usize) -> Block
-    ensures { λ r. ⌜ (r .rows ≡ block .rows) × (r .count ≡ row) ⌝ }
-{
-    let rows = block.rows;
-    Block { rows, count: row }
-}
-
 // How many numbers the attributes before a row show: the flags of the block are read, and the contents of those attributes.
 fn numbers_before(code: u32, row: usize, body: &[u8]) -> usize
     requires { ⌜ (row ≤ length (attributesOf code)) × (length (now body) < 2 ^ 60) ⌝ }
@@ -93,20 +82,28 @@ fn numbers_before(code: u32, row: usize, body: &[u8]) -> usize
 {
     let order = Order::HighFirst;
     let block = attributes::blocks::block_of(code);
-    let mut flags = [0u64; 12];
-    let run = attributes::read_flags(order, block, body, &mut flags);
-    let Run::Done(next, _) = run else {
+    let rows = block.rows;
+    let got = attributes::read_flags(order, &rows, block.count, body);
+    let Got::Value(numbers, next) = got else {
         return 0;
     };
-    let before = rows_before(block, row);
     let mut none = [0u64; 1];
-    shown_by(bodies::blocks::read_contents(order, before, &flags, body, next, &mut none[..0], 0))
+    shown_by(bodies::blocks::read_contents(
+        order,
+        &rows,
+        row,
+        numbers,
+        body,
+        next,
+        &mut none[..0],
+        0,
+    ))
 }
 
 // The row's attribute, if it is a path. Few are, so only then the rows of its block are taken again.
-fn convert_row(attribute: Attribute, code: u32, row: usize, body: &[u8], values: &mut [u64]) -> bool
+fn convert_row(attribute: u8, code: u32, row: usize, body: &[u8], values: &mut [u64]) -> bool
     requires { ⌜ (row ≤ length (attributesOf code)) × (length (now body) < 2 ^ 60) × (length (now values) < 2 ^ 32) ⌝ }
-    ensures { λ r. ⌜ left (now (values .exit)) r ≡ rowOf (now (body .entry)) (attributesOf code) (attributeOf attribute) row (now (values .entry)) ⌝ }
+    ensures { λ r. ⌜ left (now (values .exit)) r ≡ rowOf (now (body .entry)) (attributesOf code) (attributeIn attribute) row (now (values .entry)) ⌝ }
 {
     if !is_path(attribute) {
         return false;

@@ -4,14 +4,17 @@ ghost use Prim.Native.Nat.{_≤_, _<_, _^_};
 ghost use Rattle.format.specs.Formats.{times};
 ghost use Rattle.format.specs.Items.{run, float};
 ghost use Rattle.items.specs.Kinds.{formatOf};
+ghost use Rattle.items.specs.declared.Item.the-variants.{Time};
 ghost use Rattle.table.specs.State.{shownOver};
 ghost use Rattle.table.specs.Run.{runLeaves};
 ghost use Rattle.table.specs.Fields.{Fits};
 ghost use Rattle.bits.specs.Places.{orderOf};
 use crate::Run;
+use crate::put;
 use crate::read_one;
 use crate::room_for;
 use bits::BitPlace;
+use bits::Got;
 use bits::Order;
 use items::Item;
 
@@ -33,6 +36,48 @@ pub fn read_items(
     let mut left = count;
     while 0 < left {
         let run = read_one(order, kind, body, place, table, index);
+        let Run::Done(next, behind) = run else {
+            return run;
+        };
+        place = next;
+        index = behind;
+        left -= 1;
+    }
+    Run::Done(place, index)
+}
+
+// One Time.
+fn read_one_time(order: Order, body: &[u8], at: BitPlace, table: &mut [u64], from: usize) -> Run
+    requires { ⌜ Fits (now body) (at .0) from ⌝ }
+    ensures { λ r. ⌜ runLeaves (now (table .exit)) r ≡ shownOver (now (table .entry)) from (run (orderOf order) (now (body .entry)) (formatOf Time) (at .0)) ⌝ }
+{
+    let got = items::read_time(order, body, at);
+    match got {
+        Got::Value(value, next) => {
+            put(table, from, value);
+            Run::Done(next, from + 1)
+        }
+        Got::Fault(why) => Run::Stop(why, from),
+    }
+}
+
+// n Times, one by one: as `read_items` reads them, but nothing asks each for its kind.
+pub fn read_times(
+    order: Order,
+    count: usize,
+    body: &[u8],
+    at: BitPlace,
+    table: &mut [u64],
+    from: usize,
+) -> Run
+    requires { ⌜ Fits (now body) (at .0) from ⌝ }
+    ensures { λ r. ⌜ runLeaves (now (table .exit)) r ≡ shownOver (now (table .entry)) from (run (orderOf order) (now (body .entry)) (times count (formatOf Time)) (at .0)) ⌝ }
+{
+    let mut place = at;
+    let mut index = from;
+    let mut left = count;
+    while 0 < left {
+        let run = read_one_time(order, body, place, table, index);
         let Run::Done(next, behind) = run else {
             return run;
         };

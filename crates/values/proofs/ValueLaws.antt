@@ -33,14 +33,18 @@ use Rattle.attributes.specs.declared.DataType.{DataType}
 use Rattle.attributes.specs.declared.Layout.{Layout}
 use Rattle.attributes.proofs.ContentLaws.{interpolations-some, interpolations-none, values-told}
 use Rattle.values.specs.Parts.{announcing, framesOf, stopOf, stopsOf, afterAlphas}
+use Rattle.values.specs.Single.{compoundOf}
 
 -- ---- what a `match` tells
-pub value-of : (o : Order) (b t : List ℕ) (k p : ℕ) {what : DataType} {x : State} (told : DataType) → what ≡ told → x ≡ shownOver t k (run o b (value (typeOf told)) p)
-    → x ≡ shownOver t k (run o b (value (typeOf what)) p)
-value-of o b t k p told e f = f ∙ ap (λ (z : DataType). shownOver t k (run o b (value (typeOf z)) p)) (sym e)
+pub format-of : (o : Order) (b t : List ℕ) (k p : ℕ) {f g : Format} {x : State} → f ≡ g → x ≡ shownOver t k (run o b f p) → x ≡ shownOver t k (run o b g p)
+format-of o b t k p e f = f ∙ ap (λ (g : Format). shownOver t k (run o b g p)) e
 
--- a TagBlock has nothing in the block
-pub no-value : (o : Order) (b t : List ℕ) (k p : ℕ) → state t k (At p) ≡ shownOver t k (run o b (value bodies.TagBlocks) p)
+pub compound-of : (o : Order) (b t : List ℕ) (k p : ℕ) {what : DataType} {x : State} (told : DataType) → what ≡ told → x ≡ shownOver t k (run o b (compoundOf told) p)
+    → x ≡ shownOver t k (run o b (compoundOf what) p)
+compound-of o b t k p told e f = format-of o b t k p (ap compoundOf (sym e)) f
+
+-- a TagBlock has nothing in the block, and one item is no compound
+pub no-value : (o : Order) (b t : List ℕ) (k p : ℕ) → state t k (At p) ≡ shownOver t k (run o b nothing p)
 unfolding run
 no-value o b t k p = sym (after-none t k p)
 

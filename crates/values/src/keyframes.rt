@@ -173,7 +173,7 @@ fn read_frames(
     requires { ⌜ Fits (now body) (at .0) from × (frames ≤ 4096) × (easing < 2 ^ 32) ⌝ }
     ensures { λ r. ⌜ runLeaves (now (table .exit)) r ≡ shownOver (now (table .entry)) from (run (orderOf order) (now (body .entry)) (framesOf (kindOf kind) (typeOf what) flag frames easing) (at .0)) ⌝ }
 {
-    let run = table::in_turn::read_items(order, Item::Time, frames + 1, body, at, table, from);
+    let run = table::in_turn::read_times(order, frames + 1, body, at, table, from);
     let Run::Done(timed, after_times) = run else {
         return run;
     };

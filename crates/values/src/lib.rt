@@ -11,6 +11,7 @@ ghost use Rattle.table.specs.Fields.{Fits, signed};
 ghost use Rattle.items.specs.Kinds.{formatOf};
 ghost use Rattle.attributes.specs.Rows.{kindOf, typeOf};
 ghost use Rattle.values.specs.Parts.{announcing, stopOf, stopsOf, afterAlphas, offsetFlag};
+ghost use Rattle.values.specs.Single.{singleBy, compoundOf};
 ghost use Rattle.bits.specs.Places.{orderOf};
 
 pub mod keyframes;
@@ -249,8 +250,40 @@ fn read_dashes(order: Order, body: &[u8], at: BitPlace, table: &mut [u64], from:
     }
 }
 
-// One value that is not keyframed. A TagBlock has nothing here: its list stands behind the block.
-fn read_by_type(
+// What a value is: one item, of this kind; or not one item.
+pub enum Single {
+    Is(Item),
+    No,
+}
+
+// Is a value of this data type one item? Said once, for the reader and the writer. A TagBlock has nothing here: its list stands behind the block.
+pub fn single_of(what: DataType) -> Single
+    ensures { λ r. ⌜ r ≡ singleBy what ⌝ }
+{
+    match what {
+        DataType::U32 => Single::Is(Item::U32),
+        DataType::Time => Single::Is(Item::Time),
+        DataType::Float => Single::Is(Item::Float),
+        DataType::Ratio => Single::No,
+        DataType::Bool => Single::Is(Item::Enum(1)),
+        DataType::Byte => Single::Is(Item::Byte),
+        DataType::BlendMode => Single::Is(Item::BlendMode),
+        DataType::Path => Single::No,
+        DataType::Point => Single::No,
+        DataType::Color => Single::No,
+        DataType::GradientColor => Single::No,
+        DataType::EnumTo1 => Single::Is(Item::Enum(1)),
+        DataType::EnumTo2 => Single::Is(Item::Enum(2)),
+        DataType::EnumTo4 => Single::Is(Item::Enum(4)),
+        DataType::EnumTo6 => Single::Is(Item::Enum(6)),
+        DataType::EnumTo7 => Single::Is(Item::Enum(7)),
+        DataType::Dashes => Single::No,
+        DataType::TagBlock => Single::No,
+    }
+}
+
+// One value that is not keyframed and not one item. A TagBlock has nothing here, and one item is read by `read_value`.
+fn read_compound_by_type(
     order: Order,
     what: DataType,
     body: &[u8],
@@ -259,31 +292,37 @@ fn read_by_type(
     from: usize,
 ) -> Run
     requires { ⌜ Fits (now body) (at .0) from ⌝ }
-    ensures { λ r. ⌜ runLeaves (now (table .exit)) r ≡ shownOver (now (table .entry)) from (run (orderOf order) (now (body .entry)) (valueOf (typeOf what)) (at .0)) ⌝ }
+    ensures { λ r. ⌜ runLeaves (now (table .exit)) r ≡ shownOver (now (table .entry)) from (run (orderOf order) (now (body .entry)) (compoundOf what) (at .0)) ⌝ }
 {
     match what {
-        DataType::U32 => table::read_one(order, Item::U32, body, at, table, from),
-        DataType::Time => table::read_one(order, Item::Time, body, at, table, from),
-        DataType::Float => table::read_one(order, Item::Float, body, at, table, from),
         DataType::Ratio => read_pair(order, Item::I32, Item::U32, body, at, table, from),
-        DataType::Bool => table::read_one(order, Item::Enum(1), body, at, table, from),
-        DataType::Byte => table::read_one(order, Item::Byte, body, at, table, from),
-        DataType::BlendMode => table::read_one(order, Item::BlendMode, body, at, table, from),
         DataType::Path => read_path(order, body, at, table, from),
         DataType::Point => read_pair(order, Item::Float, Item::Float, body, at, table, from),
         DataType::Color => table::in_turn::read_items(order, Item::Byte, 3, body, at, table, from),
         DataType::GradientColor => read_gradient(order, body, at, table, from),
-        DataType::EnumTo1 => table::read_one(order, Item::Enum(1), body, at, table, from),
-        DataType::EnumTo2 => table::read_one(order, Item::Enum(2), body, at, table, from),
-        DataType::EnumTo4 => table::read_one(order, Item::Enum(4), body, at, table, from),
-        DataType::EnumTo6 => table::read_one(order, Item::Enum(6), body, at, table, from),
-        DataType::EnumTo7 => table::read_one(order, Item::Enum(7), body, at, table, from),
         DataType::Dashes => read_dashes(order, body, at, table, from),
-        DataType::TagBlock => Run::Done(at, from),
+        _ => Run::Done(at, from),
     }
 }
 
-// The same for callers: the answer of whichever arm it was is made again, once (see `table::again`).
+// The same for callers: the answer of whichever arm it was is made again, once (see `table::again`). It has two callers, which keeps it out of line.
+fn read_compound(
+    order: Order,
+    what: DataType,
+    body: &[u8],
+    at: BitPlace,
+    table: &mut [u64],
+    from: usize,
+) -> Run
+    requires { ⌜ Fits (now body) (at .0) from ⌝ }
+    ensures { λ r. ⌜ runLeaves (now (table .exit)) r ≡ shownOver (now (table .entry)) from (run (orderOf order) (now (body .entry)) (compoundOf what) (at .0)) ⌝ }
+{
+    // Sliced again: see `items::read_item`.
+    let bytes = &body[0..body.len()];
+    table::again(read_compound_by_type(order, what, bytes, at, table, from))
+}
+
+// One value that is not keyframed. It is small, so that it comes in line and one item does not pay for the frame of the others.
 pub fn read_value(
     order: Order,
     what: DataType,
@@ -295,12 +334,41 @@ pub fn read_value(
     requires { ⌜ Fits (now body) (at .0) from ⌝ }
     ensures { λ r. ⌜ runLeaves (now (table .exit)) r ≡ shownOver (now (table .entry)) from (run (orderOf order) (now (body .entry)) (valueOf (typeOf what)) (at .0)) ⌝ }
 {
-    // Sliced again: see `items::read_item`.
-    let bytes = &body[0..body.len()];
-    table::again(read_by_type(order, what, bytes, at, table, from))
+    match single_of(what) {
+        Single::Is(kind) => table::read_one(order, kind, body, at, table, from),
+        Single::No => read_compound(order, what, body, at, table, from),
+    }
 }
 
-// n values in turn, one by one.
+// n values in turn that are not one item, one by one.
+fn read_compounds(
+    order: Order,
+    what: DataType,
+    count: usize,
+    body: &[u8],
+    at: BitPlace,
+    table: &mut [u64],
+    from: usize,
+) -> Run
+    requires { ⌜ Fits (now body) (at .0) from ⌝ }
+    ensures { λ r. ⌜ runLeaves (now (table .exit)) r ≡ shownOver (now (table .entry)) from (run (orderOf order) (now (body .entry)) (times count (compoundOf what)) (at .0)) ⌝ }
+{
+    let mut place = at;
+    let mut index = from;
+    let mut left = count;
+    while 0 < left {
+        let run = read_compound(order, what, body, place, table, index);
+        let Run::Done(next, behind) = run else {
+            return run;
+        };
+        place = next;
+        index = behind;
+        left -= 1;
+    }
+    Run::Done(place, index)
+}
+
+// n values in turn: as many items, or one by one.
 fn read_each(
     order: Order,
     what: DataType,
@@ -313,19 +381,10 @@ fn read_each(
     requires { ⌜ Fits (now body) (at .0) from ⌝ }
     ensures { λ r. ⌜ runLeaves (now (table .exit)) r ≡ shownOver (now (table .entry)) from (run (orderOf order) (now (body .entry)) (times count (valueOf (typeOf what))) (at .0)) ⌝ }
 {
-    let mut place = at;
-    let mut index = from;
-    let mut left = count;
-    while 0 < left {
-        let run = read_value(order, what, body, place, table, index);
-        let Run::Done(next, behind) = run else {
-            return run;
-        };
-        place = next;
-        index = behind;
-        left -= 1;
+    match single_of(what) {
+        Single::Is(kind) => table::in_turn::read_items(order, kind, count, body, at, table, from),
+        Single::No => read_compounds(order, what, count, body, at, table, from),
     }
-    Run::Done(place, index)
 }
 
 // n values in turn. Floats and Points are Floats, which are read at once.

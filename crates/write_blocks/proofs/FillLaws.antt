@@ -16,7 +16,6 @@ use Rattle.format.specs.WritingItems.{dig, before, writeItem}
 use Rattle.format.specs.WritingFormats.{unrun}
 use Rattle.format.specs.WritingBodies.{leftOf, flagsIn}
 use Rattle.attributes.specs.Rows.{rowsFrom}
-use Rattle.attributes.specs.declared.Attribute.{Attribute as Row}
 use Rattle.sink.specs.Laying.{State, at}
 use Rattle.sink.specs.declared.Sink.{Sink}
 use Rattle.sink.proofs.LayingLaws.{lay-none}
@@ -33,7 +32,7 @@ use Rattle.write_blocks.proofs.FlagLaws.{Adds}
 use Rattle.write_blocks.proofs.PlaceLaws.{left-is}
 
 -- no rows are left
-pub none-after : (rows : List Row) (count i : ℕ) → count ≤ i → rowsFrom rows i (count - i) ≡ []
+pub none-after : (rows : List ℕ) (count i : ℕ) → count ≤ i → rowsFrom rows i (count - i) ≡ []
 none-after rows count i h = let n : count - i ≡ 0 = omega arith in rw n
 
 -- ---- bits in front
@@ -128,7 +127,7 @@ fill-start o ks t out s few fine = record {
 }
 
 -- from the first row on
-pub from-first : {o : Order} {ks : List Attribute} {t out : List ℕ} {s : Sink} {u : List ℕ} {f : Flags} {cur : Sink} {k : ℕ} (rows : List Row) (count : ℕ) → Filling o ks t out s u f cur k (rowsFrom rows 0 count)
+pub from-first : {o : Order} {ks : List Attribute} {t out : List ℕ} {s : Sink} {u : List ℕ} {f : Flags} {cur : Sink} {k : ℕ} (rows : List ℕ) (count : ℕ) → Filling o ks t out s u f cur k (rowsFrom rows 0 count)
     → Filling o ks t out s u f cur k (rowsFrom rows 0 (count - 0))
 from-first rows count g = let n : count - 0 ≡ count = omega arith in rw n g
 

@@ -6,13 +6,12 @@ ghost use Rattle.format.specs.WritingItems.{before, spellFlag};
 ghost use Rattle.format.specs.Bodies.{content as contentOf, attributes as attributesBody};
 ghost use Rattle.format.specs.WritingBodies.{writeBody};
 ghost use Rattle.bits.specs.Places.{orderOf};
-ghost use Rattle.attributes.specs.Rows.{kindOf, attributeOf, rowsFrom};
+ghost use Rattle.attributes.specs.Rows.{kindOf, attributeIn, rowsFrom};
 ghost use Rattle.sink.specs.Lain.{lies, lainAs, longest};
 ghost use Rattle.sink.specs.Laying.{at as under};
 ghost use Rattle.spelling.specs.Writing.{seen, ran, Fine};
 ghost use Rattle.write_blocks.specs.Flags.{bitsOf, noted, Held, Grown, Longer, flagSpelling, flagBytes, mostBits, HasFlags};
 ghost use Rattle.write_blocks.specs.Filling.{filled, fills, Ready, underFlags};
-use attributes::Attribute;
 use attributes::Block;
 use attributes::Content;
 use attributes::Kind;
@@ -120,10 +119,10 @@ fn add_flags(order: Order, kind: Kind, flags: Flags, number: u64) -> Flagged
     }
 }
 
-// An attribute's content, by its flag number.
+// The content of the attribute in a row, by its flag number.
 fn write_content(
     order: Order,
-    attribute: Attribute,
+    row: u8,
     flag: u64,
     out: &mut [u8],
     sink: Sink,
@@ -131,17 +130,23 @@ fn write_content(
     from: usize,
 ) -> Put
     requires { ⌜ Fine sink ⌝ }
-    ensures { λ r. ⌜ seen (now (out .exit)) r ≡ ran (orderOf order) (now (values .entry)) (under (now (out .entry)) sink) from (contentOf (attributeOf attribute) flag) ⌝ }
+    ensures { λ r. ⌜ seen (now (out .exit)) r ≡ ran (orderOf order) (now (values .entry)) (under (now (out .entry)) sink) from (contentOf (attributeIn row) flag) ⌝ }
 {
-    let kind = attribute.kind;
-    let what = attribute.data_type;
+    let kind = attributes::kind_in(row);
     match attributes::content_of(kind, flag) {
         Content::Nothing => Put::Done(sink, from),
-        Content::One => write_values::write_value(order, what, out, sink, values, from),
+        Content::One => write_values::write_value(
+            order,
+            attributes::type_in(row),
+            out,
+            sink,
+            values,
+            from,
+        ),
         Content::Frames => write_values::keyframes::write_keyframed(
             order,
             kind,
-            what,
+            attributes::type_in(row),
             flag,
             out,
             sink,
@@ -168,7 +173,7 @@ fn write_contents(order: Order, block: Block, values: &[u64], out: &mut [u8], si
         }
         let number = values[index];
         let attribute = rows[row];
-        let kind = attribute.kind;
+        let kind = attributes::kind_in(attribute);
         let flagged = add_flags(order, kind, flags, number);
         let Flagged::With(more) = flagged else {
             return Filled::No;

@@ -14,7 +14,6 @@ use Rattle.format.specs.Possible.{Possible}
 use Rattle.format.specs.WritingBodies.{writeBody}
 use Rattle.format.proofs.Absurd.{clash}
 use Rattle.attributes.specs.Rows.{attributesOf, rowsFrom, Attributes}
-use Rattle.attributes.specs.declared.Attribute.{Attribute}
 use Rattle.fixed.specs.Fixed.{fixedOf}
 use Rattle.bodies.specs.Leaf.{isBlock, leafBody}
 use Rattle.sink.specs.Lain.{Lain, lies}
@@ -65,7 +64,7 @@ block-flags code h = both (anyFlag (attributesOf code)) refl (leb (mostFlags (at
     both false p d q e = let z : true ≡ false = sym e ∙ rw p in clash cc
 
 -- ---- as the code has it
-module _ (code : ℕ) {rows : List Attribute} {count : ℕ} (block : isBlock code ≡ true) (are : Attributes rows count (attributesOf code)) where
+module _ (code : ℕ) {rows : List ℕ} {count : ℕ} (block : isBlock code ≡ true) (are : Attributes rows count (attributesOf code)) where
   pub rows-flags : HasFlags (rowsFrom rows 0 count)
   rows-flags = subst HasFlags (sym (are .are)) (block-flags code block)
 

@@ -40,9 +40,9 @@ pub fn write_body(order: Order, code: u32, values: &[u64], out: &mut [u8], at: B
     }
 }
 
-// What stands before a container's list, from a byte place on: it ends on a whole byte, as a body does. Apart from `write_body`, so that both are called, and no
-// depth of lists has the memory of a body on the stack.
-pub fn write_front(order: Order, code: u32, values: &[u64], out: &mut [u8], at: BytePlace) -> Body
+// The same of a tag that is mostly no block: a fixed one, or a container up to its list, which ends on a whole byte, as a body does. Apart from `write_body`, so that
+// such a body does not pay for the memory of a block, and no depth of lists has it on the stack.
+pub fn write_plain(order: Order, code: u32, values: &[u64], out: &mut [u8], at: BytePlace) -> Body
     requires { ⌜ at .0 ≤ 16777218 ⌝ }
     ensures { λ r. ⌜ lainAs (now (out .exit)) r ≡ lies (now (out .entry)) (at .0) (writeBody (orderOf order) (leafBody code) (now (values .entry))) ⌝ }
 {

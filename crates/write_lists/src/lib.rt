@@ -45,8 +45,8 @@ fn write_tag_values(
         } else {
             Body::No
         },
-        Class::Container => write_bodies::write_front(order, code, values, out, at),
-        Class::Fixed => write_bodies::write_body(order, code, values, out, at),
+        Class::Container => write_bodies::write_plain(order, code, values, out, at),
+        Class::Fixed => write_bodies::write_plain(order, code, values, out, at),
         Class::Attributes => write_bodies::write_body(order, code, values, out, at),
     }
 }

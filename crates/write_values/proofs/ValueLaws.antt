@@ -29,6 +29,7 @@ use Rattle.attributes.specs.declared.DataType.{DataType}
 use Rattle.attributes.specs.declared.Layout.{Layout}
 use Rattle.attributes.proofs.ContentLaws.{interpolations-some, interpolations-none, values-told}
 use Rattle.values.specs.Parts.{announcing, framesOf, keyframesOf, afterAlphas, offsetFlag}
+use Rattle.values.specs.Single.{compoundOf}
 use Rattle.values.proofs.ValueLaws.{path-is, spatial-is, alike-parts, alike-gradient, alike-pairs}
 use Rattle.sink.specs.Laying.{State, at, lay}
 use Rattle.sink.specs.declared.Sink.{Sink}
@@ -42,8 +43,11 @@ use Rattle.spelling.proofs.FieldLaws.{announces-done, fieldBits, field-is, fiel
 use Rattle.write_values.specs.Easing.{Eases}
 
 -- ---- what a `match` tells
-pub value-of : (o : Order) (t : List ℕ) (st : State) (k : ℕ) {what : DataType} {x : Possible Seen} (told : DataType) → what ≡ told → x ≡ ran o t st k (value (typeOf told)) → x ≡ ran o t st k (value (typeOf what))
-value-of o t st k told e d = d ∙ ap (λ (z : DataType). ran o t st k (value (typeOf z))) (sym e)
+pub format-of : (o : Order) (t : List ℕ) (st : State) (k : ℕ) {f g : Format} {x : Possible Seen} → f ≡ g → x ≡ ran o t st k f → x ≡ ran o t st k g
+format-of o t st k e d = d ∙ ap (ran o t st k) e
+
+pub compound-of : (o : Order) (t : List ℕ) (st : State) (k : ℕ) {what : DataType} {x : Possible Seen} (told : DataType) → what ≡ told → x ≡ ran o t st k (compoundOf told) → x ≡ ran o t st k (compoundOf what)
+compound-of o t st k told e d = format-of o t st k (ap compoundOf (sym e)) d
 
 pub values-of : (o : Order) (t : List ℕ) (st : State) (k n : ℕ) (kind : bodies.Kind) (d : bodies.DataType) {y : Layout} {x : Possible Seen} (told : Layout) → y ≡ layoutBy kind d → y ≡ told
     → x ≡ ran o t st k (valuesBy d n told) → x ≡ ran o t st k (values kind d n)

@@ -7,6 +7,7 @@ ghost use Rattle.format.specs.Bodies.{value as valueOf, values as valuesOf, das
 ghost use Rattle.items.specs.Kinds.{formatOf};
 ghost use Rattle.attributes.specs.Rows.{kindOf, typeOf};
 ghost use Rattle.values.specs.Parts.{announcing, stopOf, stopsOf, afterAlphas, offsetFlag};
+ghost use Rattle.values.specs.Single.{compoundOf};
 ghost use Rattle.bits.specs.Places.{orderOf};
 ghost use Rattle.sink.specs.Laying.{at as under};
 ghost use Rattle.spelling.specs.Writing.{seen, ran, Fine};
@@ -22,6 +23,8 @@ use sink::Sink;
 use spelling::Put;
 use spelling::in_turn::write_items;
 use table::fields::Field;
+use values::Single;
+use values::single_of;
 
 // Two items: a Ratio is an I32 and a U32, a Point two Floats.
 fn write_pair(
@@ -237,8 +240,8 @@ fn write_dashes(order: Order, out: &mut [u8], sink: Sink, values: &[u64], from: 
     write_offset_flag(order, out, next, values, behind)
 }
 
-// One value that is not keyframed. A TagBlock has nothing here: its list stands behind the block.
-fn write_by_type(
+// One value that is not keyframed and not one item. A TagBlock has nothing here, and one item is written by `write_value`.
+fn write_compound_by_type(
     order: Order,
     what: DataType,
     out: &mut [u8],
@@ -247,31 +250,37 @@ fn write_by_type(
     from: usize,
 ) -> Put
     requires { ⌜ Fine sink ⌝ }
-    ensures { λ r. ⌜ seen (now (out .exit)) r ≡ ran (orderOf order) (now (values .entry)) (under (now (out .entry)) sink) from (valueOf (typeOf what)) ⌝ }
+    ensures { λ r. ⌜ seen (now (out .exit)) r ≡ ran (orderOf order) (now (values .entry)) (under (now (out .entry)) sink) from (compoundOf what) ⌝ }
 {
     match what {
-        DataType::U32 => spelling::write_one(order, Item::U32, out, sink, values, from),
-        DataType::Time => spelling::write_one(order, Item::Time, out, sink, values, from),
-        DataType::Float => spelling::write_one(order, Item::Float, out, sink, values, from),
         DataType::Ratio => write_pair(order, Item::I32, Item::U32, out, sink, values, from),
-        DataType::Bool => spelling::write_one(order, Item::Enum(1), out, sink, values, from),
-        DataType::Byte => spelling::write_one(order, Item::Byte, out, sink, values, from),
-        DataType::BlendMode => spelling::write_one(order, Item::BlendMode, out, sink, values, from),
         DataType::Path => write_path(order, out, sink, values, from),
         DataType::Point => write_pair(order, Item::Float, Item::Float, out, sink, values, from),
         DataType::Color => write_items(order, Item::Byte, 3, out, sink, values, from),
         DataType::GradientColor => write_gradient(order, out, sink, values, from),
-        DataType::EnumTo1 => spelling::write_one(order, Item::Enum(1), out, sink, values, from),
-        DataType::EnumTo2 => spelling::write_one(order, Item::Enum(2), out, sink, values, from),
-        DataType::EnumTo4 => spelling::write_one(order, Item::Enum(4), out, sink, values, from),
-        DataType::EnumTo6 => spelling::write_one(order, Item::Enum(6), out, sink, values, from),
-        DataType::EnumTo7 => spelling::write_one(order, Item::Enum(7), out, sink, values, from),
         DataType::Dashes => write_dashes(order, out, sink, values, from),
-        DataType::TagBlock => Put::Done(sink, from),
+        _ => Put::Done(sink, from),
     }
 }
 
-// The same for callers: the answer of whichever arm it was is made again, once (see `spelling::again`).
+// The same for callers: the answer of whichever arm it was is made again, once (see `spelling::again`). It has two callers, which keeps it out of line.
+fn write_compound(
+    order: Order,
+    what: DataType,
+    out: &mut [u8],
+    sink: Sink,
+    values: &[u64],
+    from: usize,
+) -> Put
+    requires { ⌜ Fine sink ⌝ }
+    ensures { λ r. ⌜ seen (now (out .exit)) r ≡ ran (orderOf order) (now (values .entry)) (under (now (out .entry)) sink) from (compoundOf what) ⌝ }
+{
+    // Sliced again: see `items::read_item`.
+    let numbers = &values[0..values.len()];
+    spelling::again(write_compound_by_type(order, what, out, sink, numbers, from))
+}
+
+// One value that is not keyframed. It is small: see `values::read_value`.
 pub fn write_value(
     order: Order,
     what: DataType,
@@ -283,12 +292,41 @@ pub fn write_value(
     requires { ⌜ Fine sink ⌝ }
     ensures { λ r. ⌜ seen (now (out .exit)) r ≡ ran (orderOf order) (now (values .entry)) (under (now (out .entry)) sink) from (valueOf (typeOf what)) ⌝ }
 {
-    // Sliced again: see `items::read_item`.
-    let numbers = &values[0..values.len()];
-    spelling::again(write_by_type(order, what, out, sink, numbers, from))
+    match single_of(what) {
+        Single::Is(kind) => spelling::write_one(order, kind, out, sink, values, from),
+        Single::No => write_compound(order, what, out, sink, values, from),
+    }
 }
 
-// n values in turn, one by one.
+// n values in turn that are not one item, one by one.
+fn write_compounds(
+    order: Order,
+    what: DataType,
+    count: usize,
+    out: &mut [u8],
+    sink: Sink,
+    values: &[u64],
+    from: usize,
+) -> Put
+    requires { ⌜ Fine sink ⌝ }
+    ensures { λ r. ⌜ seen (now (out .exit)) r ≡ ran (orderOf order) (now (values .entry)) (under (now (out .entry)) sink) from (times count (compoundOf what)) ⌝ }
+{
+    let mut cur = sink;
+    let mut index = from;
+    let mut left = count;
+    while 0 < left {
+        let put = write_compound(order, what, out, cur, values, index);
+        let Put::Done(next, behind) = put else {
+            return put;
+        };
+        cur = next;
+        index = behind;
+        left -= 1;
+    }
+    Put::Done(cur, index)
+}
+
+// n values in turn: as many items, or one by one.
 fn write_each(
     order: Order,
     what: DataType,
@@ -301,19 +339,10 @@ fn write_each(
     requires { ⌜ Fine sink ⌝ }
     ensures { λ r. ⌜ seen (now (out .exit)) r ≡ ran (orderOf order) (now (values .entry)) (under (now (out .entry)) sink) from (times count (valueOf (typeOf what))) ⌝ }
 {
-    let mut cur = sink;
-    let mut index = from;
-    let mut left = count;
-    while 0 < left {
-        let put = write_value(order, what, out, cur, values, index);
-        let Put::Done(next, behind) = put else {
-            return put;
-        };
-        cur = next;
-        index = behind;
-        left -= 1;
+    match single_of(what) {
+        Single::Is(kind) => write_items(order, kind, count, out, sink, values, from),
+        Single::No => write_compounds(order, what, count, out, sink, values, from),
     }
-    Put::Done(cur, index)
 }
 
 // n values in turn. Floats and Points are Floats.

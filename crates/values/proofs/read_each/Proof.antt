@@ -1,72 +1,53 @@
+-- `values::read_each` meets its contract: what `single_of` tells of the value is its format.
 use denote.Ref.{now}
-use mathlib.Core.Path.{refl}
-use native.Mathlib.Omega.{arith}
-use borrow.Author.Needs.{needs}
-use Rattle.bits.specs.Places.{orderOf}
+use mathlib.Core.Path.{ap}
 use Rattle.format.specs.Formats.{times}
-use Rattle.format.specs.Bodies.{value}
-use Rattle.format.proofs.SizeLaws.{fair-value}
-use Rattle.attributes.specs.Rows.{typeOf}
-use Rattle.table.proofs.RunLaws.{Going, going-size, going-next, going-stop, going-done, times-more, times-zero}
+use Rattle.bits.specs.Places.{orderOf}
+use Rattle.values.proofs.ValueLaws.{format-of}
+use Rattle.values.proofs.SingleLaws.{value-single, value-compound}
+use borrow.Author.Needs.{needs}
 use Rattle.values.proofs.read_each.Statement.{statement}
 use Rattle.values.proofs.read_each.Tie as tie
-use Rattle.values.proofs.read_each.Reads as reads
-use Rattle.values.proofs.read_each.Lts as lts
-use Rattle.values.proofs.read_value.Reads as read-value-reads
 
-abbrev Inv-loop : tie.InvT-loop
-Inv-loop order what count body table₀ from place₀ index₀ left₀ table place index left = Going (orderOf order) body table₀ from (times count (value (typeOf what))) (place₀ .0) table (place .0) index (times left (value (typeOf what)))
+single-of-requires : tie.Need-single-of-requires
+single-of-requires c κs = search needs
 
-abbrev μ-loop : tie.MeasureT-loop
-μ-loop order what count body table₀ from place₀ index₀ left₀ table place index left = left
+enum-known-kind : tie.Need-enum-known-kind
+enum-known-kind c = search needs
 
-loop-holds : tie.Need-loop-holds Inv-loop μ-loop
-loop-holds c = record { size = refl; same = refl; fits = c .before .before .pre }
+read-items-requires : tie.Need-read-items-requires
+read-items-requires c κs = search needs
 
-read-value-requires : tie.Need-read-value-requires Inv-loop μ-loop
-read-value-requires c κs = c .before .before .loop .inv .fits
-
-enum-known-run : tie.Need-enum-known-run Inv-loop μ-loop
-enum-known-run c = search needs
-
-enum-told : tie.Need-enum-told Inv-loop μ-loop
+enum-told : tie.Need-enum-told
 enum-told c = search needs
 
-same-length : tie.Need-same-length Inv-loop μ-loop
-same-length c = going-size (orderOf (c .before .before .before .before .before .before .before .before .before .before .args .order)) (c .before .before .before .before .before .before .before .loop .inv) (times-more (c .before .before .before .before .before .before .before .loop .left) (value (typeOf (c .before .before .before .before .before .before .before .before .before .before .args .what))) (c .before .before .before .before .before .before .loop-test .taken)) (c .before .before .before .before .read-value .ensures)
+read-compounds-requires : tie.Need-read-compounds-requires
+read-compounds-requires c κs = search needs
 
-returns : tie.Need-returns Inv-loop μ-loop
-returns c = going-stop (orderOf (c .before .before .before .before .before .before .before .before .before .before .args .order)) (c .before .before .before .before .before .before .before .loop .inv) (times-more (c .before .before .before .before .before .before .before .loop .left) (value (typeOf (c .before .before .before .before .before .before .before .before .before .before .args .what))) (c .before .before .before .before .before .before .loop-test .taken)) (c .enum-told .given .1) (c .before .before .before .before .read-value .ensures)
+same-length : tie.Need-same-length
+same-length c = search needs
 
-sub-left : tie.Need-sub-left Inv-loop μ-loop
-sub-left c = omega arith
+returns : tie.Need-returns
+returns c = let a = c .before .before .before .before .before .before .before .before .before .before .args in
+    format-of (orderOf (a .order)) (now (a .body)) (now (a .table)) (a .from) (a .at .0) (ap (times (a .count)) (value-single (a .what) (c .before .before .before .before .before .kind .given .0 .0) (c .before .before .before .before .before .before .before .single-of .ensures) (c .before .before .before .before .before .kind .given .1))) (c .before .before .read-items .ensures)
 
-loop-less : tie.Need-loop-less Inv-loop μ-loop
-loop-less c = omega arith
+same-length-2 : tie.Need-same-length-2
+same-length-2 c = search needs
 
-loop-again : tie.Need-loop-again Inv-loop μ-loop
-loop-again c = going-next (orderOf (c .before .before .before .before .before .before .before .before .before .before .before .args .order)) (c .before .before .before .before .before .before .before .before .loop .inv) (times-more (c .before .before .before .before .before .before .before .before .loop .left) (value (typeOf (c .before .before .before .before .before .before .before .before .before .before .before .args .what))) (c .before .before .before .before .before .before .before .loop-test .taken)) (fair-value (orderOf (c .before .before .before .before .before .before .before .before .before .before .before .args .order)) (typeOf (c .before .before .before .before .before .before .before .before .before .before .before .args .what))) (c .before .run .given .1) (c .before .before .before .before .before .read-value .ensures)
-
-same-length-2 : tie.Need-same-length-2 Inv-loop μ-loop
-same-length-2 c = c .before .loop .inv .size
-
-returns-2 : tie.Need-returns-2 Inv-loop μ-loop
-returns-2 c = going-done (orderOf (c .before .before .before .before .args .order)) (c .before .loop .inv) (times-zero (c .before .loop .left) (value (typeOf (c .before .before .before .before .args .what))) (omega arith))
+returns-2 : tie.Need-returns-2
+returns-2 c = let a = c .before .before .before .before .before .before .before .before .before .args in
+    format-of (orderOf (a .order)) (now (a .body)) (now (a .table)) (a .from) (a .at .0) (ap (times (a .count)) (value-compound (a .what) (c .before .before .before .before .before .before .single-of .ensures) (c .before .before .before .before .enum-told .given .1))) (c .before .before .read-compounds .ensures)
 
 pub read-each-spec : {M : Type 1} → statement M
 read-each-spec =
     tie.close
     (tie.spec
-    Inv-loop
-    μ-loop
-    loop-holds
-    read-value-requires
-    enum-known-run
+    single-of-requires
+    enum-known-kind
+    read-items-requires
     enum-told
+    read-compounds-requires
     same-length
     returns
-    sub-left
-    loop-less
-    loop-again
     same-length-2
     returns-2)

@@ -16,20 +16,20 @@ enum-told-2 c = search needs
 enum-told-3 : tie.Need-enum-told-3
 enum-told-3 c = search needs
 
-write-front-requires : tie.Need-write-front-requires
-write-front-requires c κs = search needs
+write-plain-requires : tie.Need-write-plain-requires
+write-plain-requires c κs = search needs
 
 enum-told-4 : tie.Need-enum-told-4
 enum-told-4 c = search needs
 
-write-body-requires : tie.Need-write-body-requires
-write-body-requires c κs = search needs
+write-plain-requires-2 : tie.Need-write-plain-requires-2
+write-plain-requires-2 c κs = search needs
 
 enum-told-5 : tie.Need-enum-told-5
 enum-told-5 c = search needs
 
-write-body-requires-2 : tie.Need-write-body-requires-2
-write-body-requires-2 c κs = search needs
+write-body-requires : tie.Need-write-body-requires
+write-body-requires c κs = search needs
 
 returns : tie.Need-returns
 returns c = none-hidden (orderOf (c .before .before .before .before .args .order)) (now (c .before .before .before .before .args .out)) (c .before .before .before .before .args .at .0) (now (c .before .before .before .before .args .values)) (c .before .before .before .before .args .code) (c .enum-told .given .1) (c .before .before .before .before .pre .1)
@@ -44,19 +44,19 @@ same-length : tie.Need-same-length
 same-length c = search needs
 
 returns-4 : tie.Need-returns-4
-returns-4 c = values-of (orderOf (c .before .before .before .before .before .before .before .before .args .order)) (now (c .before .before .before .before .before .before .before .before .args .out)) (c .before .before .before .before .before .before .before .before .args .at .0) (now (c .before .before .before .before .before .before .before .before .args .values)) (c .before .before .before .before .before .before .before .before .args .code) Container (c .before .before .before .before .enum-told3 .given .1) (c .before .before .write-front .ensures)
+returns-4 c = values-of (orderOf (c .before .before .before .before .before .before .before .before .args .order)) (now (c .before .before .before .before .before .before .before .before .args .out)) (c .before .before .before .before .before .before .before .before .args .at .0) (now (c .before .before .before .before .before .before .before .before .args .values)) (c .before .before .before .before .before .before .before .before .args .code) Container (c .before .before .before .before .enum-told3 .given .1) (c .before .before .write-plain .ensures)
 
 same-length-2 : tie.Need-same-length-2
 same-length-2 c = search needs
 
 returns-5 : tie.Need-returns-5
-returns-5 c = values-of (orderOf (c .before .before .before .before .before .before .before .before .args .order)) (now (c .before .before .before .before .before .before .before .before .args .out)) (c .before .before .before .before .before .before .before .before .args .at .0) (now (c .before .before .before .before .before .before .before .before .args .values)) (c .before .before .before .before .before .before .before .before .args .code) Fixed (c .before .before .before .before .enum-told4 .given .1) (c .before .before .write-body .ensures)
+returns-5 c = values-of (orderOf (c .before .before .before .before .before .before .before .before .args .order)) (now (c .before .before .before .before .before .before .before .before .args .out)) (c .before .before .before .before .before .before .before .before .args .at .0) (now (c .before .before .before .before .before .before .before .before .args .values)) (c .before .before .before .before .before .before .before .before .args .code) Fixed (c .before .before .before .before .enum-told4 .given .1) (c .before .before .write-plain2 .ensures)
 
 same-length-3 : tie.Need-same-length-3
 same-length-3 c = search needs
 
 returns-6 : tie.Need-returns-6
-returns-6 c = values-of (orderOf (c .before .before .before .before .before .before .before .before .args .order)) (now (c .before .before .before .before .before .before .before .before .args .out)) (c .before .before .before .before .before .before .before .before .args .at .0) (now (c .before .before .before .before .before .before .before .before .args .values)) (c .before .before .before .before .before .before .before .before .args .code) Attributes (c .before .before .before .before .enum-told5 .given .1) (c .before .before .write-body2 .ensures)
+returns-6 c = values-of (orderOf (c .before .before .before .before .before .before .before .before .args .order)) (now (c .before .before .before .before .before .before .before .before .args .out)) (c .before .before .before .before .before .before .before .before .args .at .0) (now (c .before .before .before .before .before .before .before .before .args .values)) (c .before .before .before .before .before .before .before .before .args .code) Attributes (c .before .before .before .before .enum-told5 .given .1) (c .before .before .write-body .ensures)
 
 pub write-tag-values-spec : {M : Type 1} → statement M
 write-tag-values-spec =
@@ -65,11 +65,11 @@ write-tag-values-spec =
     enum-told
     enum-told-2
     enum-told-3
-    write-front-requires
+    write-plain-requires
     enum-told-4
-    write-body-requires
+    write-plain-requires-2
     enum-told-5
-    write-body-requires-2
+    write-body-requires
     returns
     returns-2
     returns-3

@@ -1,70 +1,54 @@
--- `write_values::write_each` meets its contract. The loop's invariant: the values are those that are left from here on.
-use Prim.Native.Nat.{_-_}
-use mathlib.Core.Path.{_∙_}
-use native.Mathlib.Omega.{arith}
-use borrow.Author.Needs.{needs}
+-- `write_values::write_each` meets its contract: what `single_of` tells of the value is its format.
 use denote.Ref.{now}
-use Rattle.bits.specs.Places.{orderOf}
+use mathlib.Core.Path.{ap}
 use Rattle.format.specs.Formats.{times}
-use Rattle.format.specs.Bodies.{value}
-use Rattle.attributes.specs.Rows.{typeOf}
-use Rattle.spelling.proofs.RunLaws.{Going, going-none, going-stop, going-next, going-over, times-more, times-over}
+use Rattle.bits.specs.Places.{orderOf}
+use Rattle.sink.specs.Laying.{at}
+use Rattle.values.proofs.SingleLaws.{value-single, value-compound}
+use Rattle.write_values.proofs.ValueLaws.{format-of}
+use borrow.Author.Needs.{needs}
 use Rattle.write_values.proofs.write_each.Statement.{statement}
 use Rattle.write_values.proofs.write_each.Tie as tie
 
-abbrev Inv-loop : tie.InvT-loop
-Inv-loop order what count out₀ values from cur₀ index₀ left₀ out cur index left = Going (orderOf order) values out₀ cur₀ from (times count (value (typeOf what))) out cur index (times left (value (typeOf what)))
+single-of-requires : tie.Need-single-of-requires
+single-of-requires c κs = search needs
 
-abbrev μ-loop : tie.MeasureT-loop
-μ-loop order what count out₀ values from cur₀ index₀ left₀ out cur index left = left
+enum-known-kind : tie.Need-enum-known-kind
+enum-known-kind c = search needs
 
-loop-holds : tie.Need-loop-holds Inv-loop μ-loop
-loop-holds c = going-none (orderOf (c .before .before .args .order)) (now (c .before .before .args .values)) (now (c .before .before .args .out)) (c .before .before .args .sink) (c .before .before .args .from) (times (c .before .before .args .count) (value (typeOf (c .before .before .args .what)))) (c .before .before .pre)
+write-items-requires : tie.Need-write-items-requires
+write-items-requires c κs = search needs
 
-write-value-requires : tie.Need-write-value-requires Inv-loop μ-loop
-write-value-requires c κs = c .before .before .loop .inv .fine
-
-enum-known-put : tie.Need-enum-known-put Inv-loop μ-loop
-enum-known-put c = search needs
-
-enum-told : tie.Need-enum-told Inv-loop μ-loop
+enum-told : tie.Need-enum-told
 enum-told c = search needs
 
-same-length : tie.Need-same-length Inv-loop μ-loop
-same-length c = c .before .before .before .before .write-value .kept .1 .1 .0 ∙ c .before .before .before .before .before .before .before .loop .inv .size
+write-compounds-requires : tie.Need-write-compounds-requires
+write-compounds-requires c κs = search needs
 
-returns : tie.Need-returns Inv-loop μ-loop
-returns c = going-stop (c .before .before .before .before .before .before .before .loop .inv) (value (typeOf (c .before .before .before .before .before .before .before .before .before .before .args .what))) (times (c .before .before .before .before .before .before .before .loop .left - 1) (value (typeOf (c .before .before .before .before .before .before .before .before .before .before .args .what)))) (times-more (value (typeOf (c .before .before .before .before .before .before .before .before .before .before .args .what))) (c .before .before .before .before .before .before .before .loop .left) (c .before .before .before .before .before .before .loop-test .taken)) (c .before .before .before .before .write-value .last .1 .1 .0) (c .before .before .before .before .write-value .result) (c .before .before .before .before .write-value .ensures) (c .enum-told .given .1)
+same-length : tie.Need-same-length
+same-length c = search needs
 
-sub-left : tie.Need-sub-left Inv-loop μ-loop
-sub-left c = omega (arith, c .before .before .before .before .before .before .before .loop-test .taken)
+returns : tie.Need-returns
+returns c = let a = c .before .before .before .before .before .before .before .before .before .before .args in
+    format-of (orderOf (a .order)) (now (a .values)) (at (now (a .out)) (a .sink)) (a .from) (ap (times (a .count)) (value-single (a .what) (c .before .before .before .before .before .kind .given .0 .0) (c .before .before .before .before .before .before .before .single-of .ensures) (c .before .before .before .before .before .kind .given .1))) (c .before .before .write-items .ensures)
 
-loop-less : tie.Need-loop-less Inv-loop μ-loop
-loop-less c = omega (arith, c .before .before .before .before .before .before .before .loop-test .taken)
+same-length-2 : tie.Need-same-length-2
+same-length-2 c = search needs
 
-loop-again : tie.Need-loop-again Inv-loop μ-loop
-loop-again c = going-next (c .before .before .before .before .before .before .before .before .loop .inv) (value (typeOf (c .before .before .before .before .before .before .before .before .before .before .before .args .what))) (times (c .before .before .before .before .before .before .before .before .loop .left - 1) (value (typeOf (c .before .before .before .before .before .before .before .before .before .before .before .args .what)))) (times-more (value (typeOf (c .before .before .before .before .before .before .before .before .before .before .before .args .what))) (c .before .before .before .before .before .before .before .before .loop .left) (c .before .before .before .before .before .before .before .loop-test .taken)) (c .before .before .before .before .before .write-value .last .1 .1 .0) (c .before .before .before .before .before .write-value .result) (c .before .before .before .before .before .write-value .ensures) (c .before .before .before .before .before .write-value .kept .1 .1 .0) (c .before .put .given .0 .0) (c .before .put .given .0 .1 .0) (c .before .put .given .1)
-
-same-length-2 : tie.Need-same-length-2 Inv-loop μ-loop
-same-length-2 c = c .before .loop .inv .size
-
-returns-2 : tie.Need-returns-2 Inv-loop μ-loop
-returns-2 c = going-over (c .before .loop .inv) (times-over (value (typeOf (c .before .before .before .before .args .what))) (c .before .loop .left) (omega (arith, c .loop-test .left)))
+returns-2 : tie.Need-returns-2
+returns-2 c = let a = c .before .before .before .before .before .before .before .before .before .args in
+    format-of (orderOf (a .order)) (now (a .values)) (at (now (a .out)) (a .sink)) (a .from) (ap (times (a .count)) (value-compound (a .what) (c .before .before .before .before .before .before .single-of .ensures) (c .before .before .before .before .enum-told .given .1))) (c .before .before .write-compounds .ensures)
 
 pub write-each-spec : {M : Type 1} → statement M
 write-each-spec =
     tie.close
     (tie.spec
-    Inv-loop
-    μ-loop
-    loop-holds
-    write-value-requires
-    enum-known-put
+    single-of-requires
+    enum-known-kind
+    write-items-requires
     enum-told
+    write-compounds-requires
     same-length
     returns
-    sub-left
-    loop-less
-    loop-again
     same-length-2
     returns-2)

@@ -27,16 +27,12 @@ loop-holds : tie.Need-loop-holds Inv-loop μ-loop
 loop-holds c = blocks-from _ _ _ _ _ (c .before .block-of .ensures) refl
 
 -- src/blocks.rt:126:25
-mul-attribute : tie.Need-mul-attribute Inv-loop μ-loop
-mul-attribute c = omega (arith, c .before .before .before .block-of .ensures .few)
-
--- src/blocks.rt:126:25
-array-copy-out-attribute : tie.Need-array-copy-out-attribute Inv-loop μ-loop
-array-copy-out-attribute c = omega (arith, c .before .before .before .block-of .ensures .few)
+array-read-attribute : tie.Need-array-read-attribute Inv-loop μ-loop
+array-read-attribute c = omega (arith, c .before .before .before .block-of .ensures .few)
 
 -- src/blocks.rt:127:33
 convert-row-requires : tie.Need-convert-row-requires Inv-loop μ-loop
-convert-row-requires c κs = (omega (arith, count-is (c .before .before .before .before .before .block-of .ensures), c .before .before .before .loop .inv .below), c .before .before .before .before .before .before .before .before .pre .0, omega (arith, c .before .before .before .loop .inv .size, c .before .before .before .before .before .before .before .before .pre .1))
+convert-row-requires c κs = (omega (arith, count-is (c .before .before .before .before .block-of .ensures), c .before .before .loop .inv .below), c .before .before .before .before .before .before .before .pre .0, omega (arith, c .before .before .loop .inv .size, c .before .before .before .before .before .before .before .pre .1))
 
 -- src/blocks.rt:127:9
 either-requires : tie.Need-either-requires Inv-loop μ-loop
@@ -52,7 +48,7 @@ loop-less c = search needs
 
 -- src/blocks.rt:125:5
 loop-again : tie.Need-loop-again Inv-loop μ-loop
-loop-again c = blocks-on _ _ _ _ _ (c .before .before .before .before .before .before .before .loop .inv) (c .before .before .before .before .before .before .loop-test .taken) (c .before .before .before .convert-row .kept .1 .1 .1 .1 .0) (c .before .before .before .convert-row .ensures) (c .either .ensures)
+loop-again c = blocks-on _ _ _ _ _ (c .before .before .before .before .before .before .loop .inv) (c .before .before .before .before .before .loop-test .taken) (c .before .before .before .convert-row .kept .1 .1 .1 .1 .0) (c .before .before .before .convert-row .ensures) (c .either .ensures)
 
 -- src/blocks.rt:116:1
 same-length : tie.Need-same-length Inv-loop μ-loop
@@ -70,8 +66,7 @@ convert-block-spec =
     μ-loop
     block-of-requires
     loop-holds
-    mul-attribute
-    array-copy-out-attribute
+    array-read-attribute
     convert-row-requires
     either-requires
     add-row

@@ -17,11 +17,11 @@ use Rattle.values.proofs.keyframes.read_frames.Lts as lts
 use Rattle.values.proofs.keyframes.read_eased.Reads as read-eased-reads
 use Rattle.values.proofs.keyframes.read_values_part.Reads as read-values-part-reads
 
-add-read-items : tie.Need-add-read-items
-add-read-items c = search needs
+add-read-times : tie.Need-add-read-times
+add-read-times c = search needs
 
-read-items-requires : tie.Need-read-items-requires
-read-items-requires c κs = search needs
+read-times-requires : tie.Need-read-times-requires
+read-times-requires c κs = search needs
 
 enum-known-run : tie.Need-enum-known-run
 enum-known-run c = search needs
@@ -34,13 +34,13 @@ same-length c = search needs
 
 returns : tie.Need-returns
 returns c = let a = c .before .before .before .before .before .before .before .before .args in frames-is (orderOf (a .order)) (kindOf (a .kind)) (typeOf (a .what)) (a .flag) (now (a .body)) (now (a .table)) (a .from) (a .frames) (a .easing) (a .at .0)
-    (run-stop (orderOf (a .order)) (now (a .body)) (now (a .table)) (a .from) (times (a .frames + 1) time) (a .at .0) (c .before .before .before .before .read-items .ensures) (λ xs. (aligned ▸ values (kindOf (a .kind)) (typeOf (a .what)) (a .frames + 1)) ▸ ((aligned ▸ scaled (a .easing)) ▸ pick (hasSpatial (a .flag)) (spatial (a .frames)) nothing)) (c .enum-told .given .1))
+    (run-stop (orderOf (a .order)) (now (a .body)) (now (a .table)) (a .from) (times (a .frames + 1) time) (a .at .0) (c .before .before .before .before .read-times .ensures) (λ xs. (aligned ▸ values (kindOf (a .kind)) (typeOf (a .what)) (a .frames + 1)) ▸ ((aligned ▸ scaled (a .easing)) ▸ pick (hasSpatial (a .flag)) (spatial (a .frames)) nothing)) (c .enum-told .given .1))
 
 add-read-values-part : tie.Need-add-read-values-part
 add-read-values-part c = search needs
 
 read-values-part-requires : tie.Need-read-values-part-requires
-read-values-part-requires c κs = let a = c .before .before .before .before .before .before .before .before .before .before .args in (run-fits (orderOf (a .order)) (now (a .body)) (now (a .table)) (a .from) (times (a .frames + 1) time) (a .at .0) (c .before .before .before .before .before .before .read-items .ensures) (c .before .before .run .given .1) (fair-times-of (orderOf (a .order)) (a .frames + 1)) (c .before .before .before .before .before .before .before .before .before .before .pre .0), omega (arith, c .before .before .before .before .before .before .before .before .before .before .pre .1))
+read-values-part-requires c κs = let a = c .before .before .before .before .before .before .before .before .before .before .args in (run-fits (orderOf (a .order)) (now (a .body)) (now (a .table)) (a .from) (times (a .frames + 1) time) (a .at .0) (c .before .before .before .before .before .before .read-times .ensures) (c .before .before .run .given .1) (fair-times-of (orderOf (a .order)) (a .frames + 1)) (c .before .before .before .before .before .before .before .before .before .before .pre .0), omega (arith, c .before .before .before .before .before .before .before .before .before .before .pre .1))
 
 enum-known-run-2 : tie.Need-enum-known-run-2
 enum-known-run-2 c = search needs
@@ -53,13 +53,13 @@ same-length-2 c = search needs
 
 returns-2 : tie.Need-returns-2
 returns-2 c = let a = c .before .before .before .before .before .before .before .before .before .before .before .before .before .before .before .args in frames-is (orderOf (a .order)) (kindOf (a .kind)) (typeOf (a .what)) (a .flag) (now (a .body)) (now (a .table)) (a .from) (a .frames) (a .easing) (a .at .0)
-    (run-done (orderOf (a .order)) (now (a .body)) (now (a .table)) (a .from) (times (a .frames + 1) time) (a .at .0) (c .before .before .before .before .before .before .before .before .before .before .before .read-items .ensures) (λ xs. (aligned ▸ values (kindOf (a .kind)) (typeOf (a .what)) (a .frames + 1)) ▸ ((aligned ▸ scaled (a .easing)) ▸ pick (hasSpatial (a .flag)) (spatial (a .frames)) nothing)) (c .before .before .before .before .before .before .before .run .given .1)
+    (run-done (orderOf (a .order)) (now (a .body)) (now (a .table)) (a .from) (times (a .frames + 1) time) (a .at .0) (c .before .before .before .before .before .before .before .before .before .before .before .read-times .ensures) (λ xs. (aligned ▸ values (kindOf (a .kind)) (typeOf (a .what)) (a .frames + 1)) ▸ ((aligned ▸ scaled (a .easing)) ▸ pick (hasSpatial (a .flag)) (spatial (a .frames)) nothing)) (c .before .before .before .before .before .before .before .run .given .1)
     (run-stop (orderOf (a .order)) (now (a .body)) _ _ (aligned ▸ values (kindOf (a .kind)) (typeOf (a .what)) (a .frames + 1)) _ (c .before .before .before .before .read-values-part .ensures) (λ xs. (aligned ▸ scaled (a .easing)) ▸ pick (hasSpatial (a .flag)) (spatial (a .frames)) nothing) (c .enum-told2 .given .1)))
 
 read-eased-requires : tie.Need-read-eased-requires
 read-eased-requires c κs = let a = c .before .before .before .before .before .before .before .before .before .before .before .before .before .before .before .before .before .args in (
   run-fits (orderOf (a .order)) (now (a .body)) _ _ (aligned ▸ values (kindOf (a .kind)) (typeOf (a .what)) (a .frames + 1)) _ (c .before .before .before .before .before .before .read-values-part .ensures) (c .before .before .run2 .given .1) (fair-part (orderOf (a .order)) (kindOf (a .kind)) (typeOf (a .what)) (a .frames + 1))
-      (run-fits (orderOf (a .order)) (now (a .body)) (now (a .table)) (a .from) (times (a .frames + 1) time) (a .at .0) (c .before .before .before .before .before .before .before .before .before .before .before .before .before .read-items .ensures) (c .before .before .before .before .before .before .before .before .before .run .given .1) (fair-times-of (orderOf (a .order)) (a .frames + 1)) (c .before .before .before .before .before .before .before .before .before .before .before .before .before .before .before .before .before .pre .0)),
+      (run-fits (orderOf (a .order)) (now (a .body)) (now (a .table)) (a .from) (times (a .frames + 1) time) (a .at .0) (c .before .before .before .before .before .before .before .before .before .before .before .before .before .read-times .ensures) (c .before .before .before .before .before .before .before .before .before .run .given .1) (fair-times-of (orderOf (a .order)) (a .frames + 1)) (c .before .before .before .before .before .before .before .before .before .before .before .before .before .before .before .before .before .pre .0)),
   c .before .before .before .before .before .before .before .before .before .before .before .before .before .before .before .before .before .pre .1,
   c .before .before .before .before .before .before .before .before .before .before .before .before .before .before .before .before .before .pre .2,
 )
@@ -69,15 +69,15 @@ same-length-3 c = search needs
 
 returns-3 : tie.Need-returns-3
 returns-3 c = let a = c .before .before .before .before .before .before .before .before .before .before .before .before .before .before .before .before .before .before .before .before .args in frames-is (orderOf (a .order)) (kindOf (a .kind)) (typeOf (a .what)) (a .flag) (now (a .body)) (now (a .table)) (a .from) (a .frames) (a .easing) (a .at .0)
-    (run-done (orderOf (a .order)) (now (a .body)) (now (a .table)) (a .from) (times (a .frames + 1) time) (a .at .0) (c .before .before .before .before .before .before .before .before .before .before .before .before .before .before .before .before .read-items .ensures) (λ xs. (aligned ▸ values (kindOf (a .kind)) (typeOf (a .what)) (a .frames + 1)) ▸ ((aligned ▸ scaled (a .easing)) ▸ pick (hasSpatial (a .flag)) (spatial (a .frames)) nothing)) (c .before .before .before .before .before .before .before .before .before .before .before .before .run .given .1)
+    (run-done (orderOf (a .order)) (now (a .body)) (now (a .table)) (a .from) (times (a .frames + 1) time) (a .at .0) (c .before .before .before .before .before .before .before .before .before .before .before .before .before .before .before .before .read-times .ensures) (λ xs. (aligned ▸ values (kindOf (a .kind)) (typeOf (a .what)) (a .frames + 1)) ▸ ((aligned ▸ scaled (a .easing)) ▸ pick (hasSpatial (a .flag)) (spatial (a .frames)) nothing)) (c .before .before .before .before .before .before .before .before .before .before .before .before .run .given .1)
     (run-done (orderOf (a .order)) (now (a .body)) _ _ (aligned ▸ values (kindOf (a .kind)) (typeOf (a .what)) (a .frames + 1)) _ (c .before .before .before .before .before .before .before .before .before .read-values-part .ensures) (λ xs. (aligned ▸ scaled (a .easing)) ▸ pick (hasSpatial (a .flag)) (spatial (a .frames)) nothing) (c .before .before .before .before .before .run2 .given .1) (c .before .before .read-eased .ensures)))
 
 pub read-frames-spec : {M : Type 1} → statement M
 read-frames-spec =
     tie.close
     (tie.spec
-    add-read-items
-    read-items-requires
+    add-read-times
+    read-times-requires
     enum-known-run
     enum-told
     same-length

@@ -3,10 +3,10 @@ use mathlib.Core.Path.{sym, _∙_}
 use Rattle.bits.specs.Places.{orderOf}
 use Rattle.write_bodies.proofs.BodyLaws.{body-fixed}
 use borrow.Author.Needs.{needs}
-use Rattle.write_bodies.proofs.write_front.Statement.{statement}
-use Rattle.write_bodies.proofs.write_front.Tie as tie
-use Rattle.write_bodies.proofs.write_front.Reads as reads
-use Rattle.write_bodies.proofs.write_front.Lts as lts
+use Rattle.write_bodies.proofs.write_plain.Statement.{statement}
+use Rattle.write_bodies.proofs.write_plain.Tie as tie
+use Rattle.write_bodies.proofs.write_plain.Reads as reads
+use Rattle.write_bodies.proofs.write_plain.Lts as lts
 use Rattle.bodies.proofs.is_block.Reads as is-block-reads
 use Rattle.write_bodies.proofs.write_body.Reads as write-body-reads
 use Rattle.write_bodies.proofs.write_items.Reads as write-items-reads
@@ -39,8 +39,8 @@ same-length-2 c = search needs
 returns-2 : tie.Need-returns-2
 returns-2 c = let a = c .before .before .before .before .before .before .before .before .args in body-fixed (orderOf (a .order)) (now (a .values)) (now (a .out)) (a .at .0) (a .code) (sym (c .before .before .before .before .before .is-block .ensures) ∙ c .before .before .before .before .if1 .left) (c .before .before .write-items .ensures)
 
-pub write-front-spec : {M : Type 1} → statement M
-write-front-spec =
+pub write-plain-spec : {M : Type 1} → statement M
+write-plain-spec =
     tie.close
     (tie.spec
     is-block-requires
