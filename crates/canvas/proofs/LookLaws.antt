@@ -35,9 +35,11 @@ use Rattle.headers.proofs.HeadLaws.{head-by}
 use Rattle.tags.specs.Shown.{valuesOf, listOf}
 use Rattle.tags.proofs.TagLaws.{list-container, values-le}
 use Rattle.bits.specs.declared.BytePlace.{BytePlace}
-use Rattle.lists.specs.Lists.{byteAt, ownerOf, classIn, classesIn, Tabled}
+use Rattle.lists.specs.Lists.{byteAt, ownerOf}
+use Rattle.tags.specs.Lent.{classIn, classesIn, Tabled}
 use Rattle.lists.specs.declared.Owner.{Owner}
-use Rattle.lists.proofs.ListLaws.{piece, length-piece, drop-take, pred-is, positive, walkOf, insideOf, fair-in, with-named, within-is}
+use Rattle.lists.proofs.ListLaws.{piece, length-piece, drop-take, pred-is, positive, walkOf, insideOf, within-is}
+use Rattle.tags.proofs.LentLaws.{fair-in, with-named}
 use Rattle.canvas.specs.Canvas.{isCanvas, Seen, found, none, refused, Canvas, canvas, more, seenIn, canvasIn, canvasOf}
 use Rattle.canvas.specs.Looking.{isLooked, judgedClass, standsAt, judgedBy, judgedEnd, judgedAt, judgedIn, afterEnd, bodyAt, Stands, Looks, Bounds}
 use Rattle.canvas.specs.declared.Body.{Body}

@@ -24,7 +24,7 @@ use Rattle.classes.specs.Classes.{classAt}
 use Rattle.classes.specs.declared.Class.{Class}
 use Rattle.classes.specs.declared.Class.the-variants.{Opaque, End, Container, Fixed, Attributes}
 use Rattle.classes.proofs.ClassLaws.{spelt, by-code}
-use Rattle.lists.proofs.ListLaws.{right}
+use Rattle.tags.proofs.LentLaws.{right}
 use Rattle.tally.specs.Places.{listStart, listIn, nextBy}
 use Rattle.table.specs.State.{State, shownOver}
 use Rattle.bits.specs.declared.BytePlace.{BytePlace}

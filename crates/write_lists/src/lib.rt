@@ -5,11 +5,11 @@ ghost use mathlib.Core.Path.{_≡_};
 ghost use mathlib.Core.Bool.{false};
 ghost use Prim.Native.Nat.{_+_, _≤_, _<_};
 ghost use lib.ListN.{length, getD, drop};
-ghost use Rattle.format.specs.FileAndTags.{classOf};
 ghost use Rattle.format.specs.WritingFiles.{claims, unwalkList};
 ghost use Rattle.bits.specs.Places.{InEither, orderOf};
 ghost use Rattle.classes.specs.Classes.{ends};
 ghost use Rattle.classes.specs.declared.Class.the-variants.{Opaque};
+ghost use Rattle.tags.specs.Lent.{classesIn, Tabled};
 ghost use Rattle.sink.specs.Lain.{longest, lies, lainAs};
 ghost use Rattle.write_heads.specs.Heads.{keptBytes};
 ghost use Rattle.write_lists.specs.Stood.{over, stoodAs};
@@ -222,9 +222,9 @@ fn ends_list(class: Class) -> bool
 }
 
 // The tag list whose numbers start at an index; so many `depths` may lie below it. It calls itself for the list in a container, which comes
-// between the container's own values and its header.
+// between the container's own values and its header. The classes of the 1,024 codes are lent as numbers: they were made once, for all lists.
 pub fn write_list(
-    level: u32,
+    classes: &[u8],
     order: Order,
     depths: u32,
     out: &mut [u8],
@@ -232,10 +232,9 @@ pub fn write_list(
     table: &[u64],
     from: usize,
 ) -> Wrote
-    requires { ⌜ (at .0 ≤ longest) × (from ≤ length (now table)) ⌝ }
-    ensures { λ r. ⌜ stoodAs (now (out .exit)) r ≡ over (now (out .entry)) (at .0) from (unwalkList (orderOf order) (classOf level) depths (drop from (now (table .entry)))) ⌝ }
+    requires { ⌜ Tabled (now classes) × (at .0 ≤ longest) × (from ≤ length (now table)) ⌝ }
+    ensures { λ r. ⌜ stoodAs (now (out .exit)) r ≡ over (now (out .entry)) (at .0) from (unwalkList (orderOf order) (classesIn (now (classes .entry))) depths (drop from (now (table .entry)))) ⌝ }
 {
-    let classes = classes::all();
     let mut place = at;
     let mut index = from;
     while index < table.len() {
@@ -244,8 +243,7 @@ pub fn write_list(
             return Wrote::Impossible;
         }
         let code = number as u32;
-        let listed = classes[(code / 32) as usize][(code % 32) as usize];
-        let class = classes::at_level(level, code, listed);
+        let class = classes::class_numbered(classes[code as usize]);
         let claimed = claims_long(table, index);
         if is_opaque(class) {
             let whole = write_opaque_tag(code, out, place, claimed, table, index);
@@ -265,7 +263,7 @@ pub fn write_list(
         };
         let mut inside = begun;
         if holds_list(class, code, table[first - 1]) {
-            inside = write_list(level, order, depths - 1, out, start, table, first);
+            inside = write_list(classes, order, depths - 1, out, start, table, first);
         }
         let wrote = shut(out, place, claimed, code, inside);
         let Wrote::Done(next, behind) = wrote else {
