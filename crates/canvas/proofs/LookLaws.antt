@@ -117,6 +117,10 @@ pub leaf-is : leafBody 3 ≡ fixed compositionAttributes
 unfolding leafBody fixedOf
 leaf-is = refl
 
+items-are : fixed (fixedOf 3) ≡ fixed compositionAttributes
+unfolding fixedOf
+items-are = refl
+
 looked-fixed : (ns : List ℕ) → Tabled ns → (code : ℕ) → isLooked (classIn ns code) code ≡ true → (code ≡ 3) × (classIn ns code ≡ Fixed)
 looked-fixed ns k code h = go (eqb code 3) refl h
   where
@@ -278,7 +282,7 @@ module _ (o : Order) (ns : List ℕ) (depths : ℕ) (own : paper.Owner) (a : ℕ
       values-canvas : isLooked c code ≡ true → valuesOf o c code body ≡ readBody o (fixed compositionAttributes) body
       values-canvas h =
           let l : (code ≡ 3) × (c ≡ Fixed) = looked-fixed ns tabled code h in
-          ap₂ (λ (d : Class) (k : ℕ). valuesOf o d k body) (l .1) (l .0) ∙ ap (λ (y : bodies.Body). readBody o y body) leaf-is
+          ap₂ (λ (d : Class) (k : ℕ). valuesOf o d k body) (l .1) (l .0) ∙ ap (λ (y : bodies.Body). readBody o y body) items-are
 
       fault-reason : {e : ℕ} → z ≡ Fault e → looks ≡ true → 13 ≤ e
       fault-reason {e} q n =

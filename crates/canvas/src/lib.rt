@@ -111,8 +111,8 @@ fn judge_values(order: Order, class: Class, code: u32, body: &[u8]) -> Shown
         Class::Opaque => Shown::Done(BytePlace(0), 0),
         Class::End => Shown::Done(BytePlace(0), 0),
         Class::Container => bodies::read_container(order, code, body, &mut none[..0], 0),
-        Class::Fixed => bodies::read_body(order, code, body, &mut none[..0], 0),
-        Class::Attributes => bodies::read_body(order, code, body, &mut none[..0], 0),
+        Class::Fixed => bodies::read_leaf(order, false, code, body, &mut none[..0], 0),
+        Class::Attributes => bodies::read_leaf(order, true, code, body, &mut none[..0], 0),
     }
 }
 

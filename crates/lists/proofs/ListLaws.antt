@@ -13,7 +13,7 @@ use Rattle.format.specs.Tests.{pick}
 use Rattle.format.specs.Bits.{Order}
 use Rattle.format.specs.Reading.{Ending, At, Fault, Reading}
 use Rattle.format.specs.Items.{toByte}
-use Rattle.format.specs.Bodies.{toEnd, readBody}
+use Rattle.format.specs.Bodies.{fixed, attributes, toEnd, readBody}
 use Rattle.format.specs.FileAndTags as paper
 use Rattle.format.specs.FileAndTags.{le16, stateOf, Tag, Outcome, whole, fault, Walk, noTags, broken, chain, head, noHead, readHead, blame, atEnd, afterTag, TagInside, endAt, leaf, opened, within, tagThen, walkList}
 use Rattle.format.specs.TableOfNumbers.{numbers, tagTable}
@@ -23,7 +23,9 @@ use Rattle.format.proofs.RoomLaws.{Room, walk-room, tag-table-length}
 use Rattle.format.proofs.WalkLaws.{Fits, head-fits}
 use Rattle.format.proofs.Absurd.{clash}
 use Rattle.table.proofs.EngineLaws.{sets-append}
-use Rattle.bodies.specs.Leaf.{leafBody, containerBody, hasListIn}
+use Rattle.attributes.specs.Rows.{attributesOf}
+use Rattle.fixed.specs.Fixed.{fixedOf}
+use Rattle.bodies.specs.Leaf.{containerBody, hasListIn}
 use Rattle.classes.specs.Classes.{bare, ends, contains}
 use Rattle.classes.specs.declared.Class.{Class}
 use Rattle.classes.specs.declared.Class.the-variants.{Opaque, End, Container, Fixed, Attributes}
@@ -102,8 +104,8 @@ within-is o R ns code a s body = go (classIn ns code)
     go Opaque = refl
     go End = refl
     go Container = own (hasListIn o (containerBody code) body) (toEnd o body (containerBody code)) (readBody o (containerBody code) body)
-    go Fixed = leaf-is (readBody o (leafBody code) body)
-    go Attributes = leaf-is (readBody o (leafBody code) body)
+    go Fixed = leaf-is (readBody o (fixed (fixedOf code)) body)
+    go Attributes = leaf-is (readBody o (attributes (attributesOf code)) body)
 
 -- what a step says of the class c and of the walk w inside the tag, whose body stands from `start` up to `stop` of the list at place a
 abbrev Follows : (paper.Owner → ℕ → List ℕ → Walk) → ℕ → ℕ → ℕ → ℕ → List ℕ → Class → Walk → ℕ → Step → Type 0

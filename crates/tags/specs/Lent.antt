@@ -2,8 +2,11 @@
 use Prim.Native.Nat.{ℕ}
 use mathlib.Core.List.{List}
 use lib.ListN.{getD}
+use Rattle.format.specs.Bodies.{fixed, attributes}
 use Rattle.format.specs.FileAndTags as paper
-use Rattle.bodies.specs.Leaf.{leafBody, containerBody}
+use Rattle.attributes.specs.Rows.{attributesOf}
+use Rattle.fixed.specs.Fixed.{fixedOf}
+use Rattle.bodies.specs.Leaf.{containerBody}
 use Rattle.classes.specs.Classes.{numbered, Classed}
 use Rattle.classes.specs.declared.Scope.{Scope}
 use Rattle.classes.specs.declared.Class.{Class}
@@ -14,8 +17,8 @@ abbrev pub classWith : Class → ℕ → paper.Class
 classWith Opaque code = paper.opaque
 classWith End code = paper.end
 classWith Container code = paper.container (containerBody code)
-classWith Fixed code = paper.known (leafBody code)
-classWith Attributes code = paper.known (leafBody code)
+classWith Fixed code = paper.known (fixed (fixedOf code))
+classWith Attributes code = paper.known (attributes (attributesOf code))
 
 abbrev pub classIn : List ℕ → ℕ → Class
 classIn ns code = numbered (getD ns code 0)

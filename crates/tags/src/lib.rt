@@ -63,8 +63,8 @@ fn read_tag_values(
         Class::Opaque => pack_bytes(body, table, from),
         Class::End => Shown::Done(BytePlace(0), from),
         Class::Container => bodies::read_container(order, code, body, table, from),
-        Class::Fixed => bodies::read_body(order, code, body, table, from),
-        Class::Attributes => bodies::read_body(order, code, body, table, from),
+        Class::Fixed => bodies::read_leaf(order, false, code, body, table, from),
+        Class::Attributes => bodies::read_leaf(order, true, code, body, table, from),
     }
 }
 
@@ -156,6 +156,15 @@ pub fn show_row(
     ensures { λ r. ⌜ now (rows .exit) ≡ sets (now (rows .entry)) row (depth ∷ code ∷ place .0 ∷ size ∷ len ∷ []) ⌝ }
 {
     if rows.len() <= row {
+        return;
+    }
+    // A whole row by one test; one that the end of the tag table cuts, number by number.
+    if 5 <= rows.len() - row {
+        rows[row] = depth;
+        rows[row + 1] = code;
+        rows[row + 2] = place.0 as u32;
+        rows[row + 3] = size;
+        rows[row + 4] = len;
         return;
     }
     put_row(rows, row, depth);

@@ -10,6 +10,7 @@ use lib.ListN.{length, getD, take, drop, drop-of-length-le}
 use lib.Seq.{getD-drop, drop-cons, length-take-le}
 use Rattle.format.specs.Tests.{pick, _and_}
 use Rattle.format.specs.Bits.{Order}
+use Rattle.format.specs.Bodies.{fixed}
 use Rattle.format.specs.FileAndTags as paper
 use Rattle.format.specs.Formats.{the}
 use Rattle.format.specs.FileAndTags.{container, isEnd, isRead, hasList}
@@ -24,29 +25,28 @@ use Rattle.classes.specs.declared.Class.the-variants.{Opaque, End, Container, F
 use Rattle.classes.specs.Classes.{bare, ends, contains}
 use Rattle.classes.proofs.ClassLaws.{spelt, Right, taken-by}
 use Rattle.tags.specs.Lent.{classIn, classesIn, Tabled}
-use Rattle.tags.proofs.LentLaws.{class-level, with-named}
+use Rattle.tags.proofs.LentLaws.{itemsOf, class-level, with-named}
 use Rattle.attributes.specs.Rows.{attributesOf}
 use Rattle.fixed.specs.Fixed.{fixedOf}
 use Rattle.bodies.specs.Leaf.{leafBody}
 use Rattle.sink.specs.Lain.{longest}
-use Rattle.write_lists.specs.declared.Wrote.the-variants.{Impossible}
 use Rattle.write_heads.specs.Heads.{keptBytes}
 use Rattle.write_lists.specs.Stood.{Stood, stood, over}
 use Rattle.write_lists.specs.Tags.{hidden, valuesIn, listIn, tooDeep, begun, listOf, shut}
 use Rattle.write_lists.proofs.StoodLaws.{Parts, stood-index, andThen, parts-then, again, over-then}
-use Rattle.write_lists.proofs.TagLaws.{shut-over, shut-place, parts-shut, parts-begun}
+use Rattle.write_lists.proofs.TagLaws.{shut-fell, shut-place, parts-shut, parts-begun}
 
 -- ---- the class of a code, by its name
 
 abbrev holder : ℕ → paper.Class
 holder code = container (leafBody code)
 
-listed : Right leafBody holder
+listed : Right itemsOf leafBody leafBody
 unfolding leafBody fixedOf attributesOf
 listed = refl
 
 abbrev classBy : Class → ℕ → paper.Class
-classBy class code = spelt leafBody holder class code
+classBy class code = spelt itemsOf leafBody leafBody class code
 
 -- ---- a tag of the definitions, as this crate writes it
 
@@ -111,7 +111,7 @@ module _ (o : Order) (code left s n : ℕ) (vs ys : List ℕ) (W : List ℕ → 
           ≡ withList c W (bodyOf (code ∷ s ∷ n ∷ vs) (writeBody o (leafBody code) vs) ys)
       own true = go (writeBody o (leafBody code) vs) (W ys) refl
       own false = leaf-body (writeBody o (leafBody code) vs)
-  fill-is Fixed h = leaf-body (writeBody o (leafBody code) vs)
+  fill-is Fixed h = leaf-body (writeBody o (fixed (fixedOf code)) vs)
   fill-is Attributes h = leaf-body (writeBody o (leafBody code) vs)
 
 -- whether a tag of this class is read, by its name
@@ -210,7 +210,7 @@ module _ (o : Order) {cs t : List ℕ} {k code : ℕ} {class : Class} {claim : B
   class-is =
       let m = g .tabled in
       class-level cs (m .scope) (m .level) (m .classed) code
-      ∙ taken-by leafBody leafBody listed (m .scope) (m .level) code
+      ∙ taken-by itemsOf leafBody leafBody listed (m .scope) (m .level) code
       ∙ ap (λ (c : Class). classBy c code) (sym (m .classed .each code) ∙ sym (g .classed))
 
   claim-is : claim ≡ claims (the (drop (suc k) t))
@@ -340,7 +340,7 @@ module _ (o : Order) {cs t : List ℕ} {k code : ℕ} {class : Class} {claim : B
 
   -- its own values could not be put
   pub values-fell : Deep class left → cannot ≡ over out from k values → cannot ≡ rest o (classesIn cs) t left out a k
-  values-fell deep put = turn-fell deep (shut-over out out a k claim code Impossible whole (go (listOf class (drop k t)) refl))
+  values-fell deep put = turn-fell deep (shut-fell out a k claim code whole (go (listOf class (drop k t)) refl))
     where
       go : (c : Bool) → listOf class (drop k t) ≡ c → cannot ≡ over out from k whole
       go false h = values-alone h put

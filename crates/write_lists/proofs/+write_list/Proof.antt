@@ -2,7 +2,7 @@
 use Prim.Native.Nat.{ℕ, _+_, _-_, _≤_, _<_}
 use denote.Ref.{now}
 use mathlib.Core.Logic.{⊎-elim}
-use mathlib.Core.Path.{_≡_, refl, sym, ap, ap₂, _∙_}
+use mathlib.Core.Path.{_≡_, refl, sym, ap, _∙_}
 use native.Mathlib.Omega.{arith}
 use borrow.Author.Needs.{needs}
 use lib.ListN.{length, getD, drop}
@@ -14,7 +14,7 @@ use Rattle.write_heads.specs.Heads.{keptBytes}
 use Rattle.write_lists.specs.Stood.{stood, over, stoodAs}
 use Rattle.write_lists.specs.Tags.{listBy, begun, listOf, shut}
 use Rattle.write_lists.proofs.StoodLaws.{stood-index}
-use Rattle.write_lists.proofs.TagLaws.{shut-over, shut-after, parts-begun, list-by}
+use Rattle.write_lists.proofs.TagLaws.{shut-over, shut-fell, shut-after, parts-begun, list-by}
 use Rattle.write_lists.proofs.ListLaws.{Deep, rest, inner, rest-none, turn-high, Tag, values-alone, values-list, values-fell, opaque-put, opaque-deep, opaque-more, tag-index, turn-last, turn-more, turn-fell, turn-too-deep, not-too-deep, list-deep}
 use borrow.Fn.Kinds.{In}
 use borrow.Fn.PlainCycle.{Measures, is, falls, and}
@@ -83,21 +83,21 @@ list-at t c = list-by (orderOf (c .before .before .before .before .before .befor
 
 -- where the two ways meet, its list stands too
 inside-at : (t : ℕ) (c : write-list-lts.Joined4 (calls t) (write-list-at t) write-list.Post write-list-Inv-loop write-list-μ-loop)
-    → stoodAs (c .if4 .out) (c .if4 .inside) ≡ over (c .before .before .before .before .before .before .before .before .before .before .before .before .before .before .before .before .before .before .before .before .loop .out) (c .before .before .before .before .before .before .before .before .before .before .before .before .before .before .before .before .before .before .before .before .loop .place .0 + keptBytes (c .before .before .before .before .before .before .before .before .before .before .before .before .before .before .claims-long .result)) (c .before .before .before .before .before .before .before .before .before .before .before .before .before .before .before .before .before .before .before .before .loop .index) (inner (orderOf (c .before .before .before .before .before .before .before .before .before .before .before .before .before .before .before .before .before .before .before .before .before .before .before .before .args .order)) (classesIn (now (c .before .before .before .before .before .before .before .before .before .before .before .before .before .before .before .before .before .before .before .before .before .before .before .before .args .classes))) (c .before .before .before .before .before .before .before .before .before .before .before .before .before .before .claims-long .result) (c .before .before .before .before .before .before .before .before .before .before .before .before .before .before .before .class-numbered .result) (c .before .before .before .before .before .before .before .before .before .before .before .before .before .before .before .before .before .before .before .before .before .before .before .before .args .depths) (drop (c .before .before .before .before .before .before .before .before .before .before .before .before .before .before .before .before .before .before .before .before .loop .index) (now (c .before .before .before .before .before .before .before .before .before .before .before .before .before .before .before .before .before .before .before .before .before .before .before .before .args .table))))
+    → this (stood (c .if4 .out) (c .if4 .stop .0) (c .if4 .last)) ≡ over (c .before .before .before .before .before .before .before .before .before .before .before .before .before .before .before .before .before .before .before .before .loop .out) (c .before .before .before .before .before .before .before .before .before .before .before .before .before .before .before .before .before .before .before .before .loop .place .0 + keptBytes (c .before .before .before .before .before .before .before .before .before .before .before .before .before .before .claims-long .result)) (c .before .before .before .before .before .before .before .before .before .before .before .before .before .before .before .before .before .before .before .before .loop .index) (inner (orderOf (c .before .before .before .before .before .before .before .before .before .before .before .before .before .before .before .before .before .before .before .before .before .before .before .before .args .order)) (classesIn (now (c .before .before .before .before .before .before .before .before .before .before .before .before .before .before .before .before .before .before .before .before .before .before .before .before .args .classes))) (c .before .before .before .before .before .before .before .before .before .before .before .before .before .before .claims-long .result) (c .before .before .before .before .before .before .before .before .before .before .before .before .before .before .before .class-numbered .result) (c .before .before .before .before .before .before .before .before .before .before .before .before .before .before .before .before .before .before .before .before .before .before .before .before .args .depths) (drop (c .before .before .before .before .before .before .before .before .before .before .before .before .before .before .before .before .before .before .before .before .loop .index) (now (c .before .before .before .before .before .before .before .before .before .before .before .before .before .before .before .before .before .before .before .before .before .before .before .before .args .table))))
 inside-at t c = ⊎-elim
-    (λ w. ap₂ stoodAs (w .5) (w .6) ∙ values-list (orderOf (c .before .before .before .before .before .before .before .before .before .before .before .before .before .before .before .before .before .before .before .before .before .before .before .before .args .order)) (tag-at t (c .before .before .before .before .before .before .before .before .before .before .before .before .before .before)) (c .before .before .before .before .before .before .before .before .before .before .before .before .before .before .before .before .before .before .before .before .loop .out) (c .before .before .before .before .before .before .before .before .before .before .before .before .before .before .before .before .before .before .before .before .before .before .before .before .args .depths) (c .before .before .before .before .before .before .before .before .before .before .before .before .before .before .before .before .before .before .before .before .loop .place .0) (sym (list-at t (c .before .before .before .before) .2) ∙ sym (c .before .holds-list .ensures) ∙ w .0 .taken) (values-at t (c .before .before .before .before)) (w .2 .ensures))
-    (λ w. ap₂ stoodAs (w .1) (w .2) ∙ values-alone (orderOf (c .before .before .before .before .before .before .before .before .before .before .before .before .before .before .before .before .before .before .before .before .before .before .before .before .args .order)) (tag-at t (c .before .before .before .before .before .before .before .before .before .before .before .before .before .before)) (c .before .before .before .before .before .before .before .before .before .before .before .before .before .before .before .before .before .before .before .before .loop .out) (c .before .before .before .before .before .before .before .before .before .before .before .before .before .before .before .before .before .before .before .before .before .before .before .before .args .depths) (c .before .before .before .before .before .before .before .before .before .before .before .before .before .before .before .before .before .before .before .before .loop .place .0) (sym (list-at t (c .before .before .before .before) .2) ∙ sym (c .before .holds-list .ensures) ∙ w .0 .left) (values-at t (c .before .before .before .before)))
+    (λ w. (λ i. this (stood (w .8 i) (w .9 i .0) (w .10 i))) ∙ values-list (orderOf (c .before .before .before .before .before .before .before .before .before .before .before .before .before .before .before .before .before .before .before .before .before .before .before .before .args .order)) (tag-at t (c .before .before .before .before .before .before .before .before .before .before .before .before .before .before)) (c .before .before .before .before .before .before .before .before .before .before .before .before .before .before .before .before .before .before .before .before .loop .out) (c .before .before .before .before .before .before .before .before .before .before .before .before .before .before .before .before .before .before .before .before .before .before .before .before .args .depths) (c .before .before .before .before .before .before .before .before .before .before .before .before .before .before .before .before .before .before .before .before .loop .place .0) (sym (list-at t (c .before .before .before .before) .2) ∙ sym (c .before .holds-list .ensures) ∙ w .0 .taken) (values-at t (c .before .before .before .before)) (ap (stoodAs (w .2 .last .1 .1 .1 .0)) (sym (w .6 .given .1)) ∙ w .2 .ensures))
+    (λ w. (λ i. this (stood (w .1 i) (w .2 i .0) (w .3 i))) ∙ values-alone (orderOf (c .before .before .before .before .before .before .before .before .before .before .before .before .before .before .before .before .before .before .before .before .before .before .before .before .args .order)) (tag-at t (c .before .before .before .before .before .before .before .before .before .before .before .before .before .before)) (c .before .before .before .before .before .before .before .before .before .before .before .before .before .before .before .before .before .before .before .before .loop .out) (c .before .before .before .before .before .before .before .before .before .before .before .before .before .before .before .before .before .before .before .before .before .before .before .before .args .depths) (c .before .before .before .before .before .before .before .before .before .before .before .before .before .before .before .before .before .before .before .before .loop .place .0) (sym (list-at t (c .before .before .before .before) .2) ∙ sym (c .before .holds-list .ensures) ∙ w .0 .left) (values-at t (c .before .before .before .before)))
     (c .if4 .came)
 
 -- the output is as long as before
 length-at : (t : ℕ) (c : write-list-lts.Joined4 (calls t) (write-list-at t) write-list.Post write-list-Inv-loop write-list-μ-loop)
     → length (c .if4 .out) ≡ length (c .before .before .before .before .before .before .before .before .before .before .before .before .before .before .before .before .before .before .before .before .loop .out)
-length-at t c = ⊎-elim (λ w. ap length (w .5) ∙ w .2 .kept .1 .1 .1 .0 ∙ c .before .before .before .before .before .before .before .before .begin-tag .kept .1 .1 .1 .0) (λ w. ap length (w .1) ∙ c .before .before .before .before .before .before .before .before .begin-tag .kept .1 .1 .1 .0) (c .if4 .came)
+length-at t c = ⊎-elim (λ w. ap length (w .8) ∙ w .2 .kept .1 .1 .1 .0 ∙ c .before .before .before .before .before .before .before .before .begin-tag .kept .1 .1 .1 .0) (λ w. ap length (w .1) ∙ c .before .before .before .before .before .before .before .before .begin-tag .kept .1 .1 .1 .0) (c .if4 .came)
 
 -- its header stands
 shut-at : (t : ℕ) (c : write-list-lts.After-shut (calls t) (write-list-at t) write-list.Post write-list-Inv-loop write-list-μ-loop)
     → stoodAs (c .shut .last .0) (c .shut .result) ≡ over (c .before .before .before .before .before .before .before .before .before .before .before .before .before .before .before .before .before .before .before .before .before .before .loop .out) (c .before .before .before .before .before .before .before .before .before .before .before .before .before .before .before .before .before .before .before .before .before .before .loop .place .0) (c .before .before .before .before .before .before .before .before .before .before .before .before .before .before .before .before .before .before .before .before .before .before .loop .index) (shut (c .before .before .before .before .before .before .before .before .before .before .before .before .before .before .before .before .claims-long .result) (getD (now (c .before .before .before .before .before .before .before .before .before .before .before .before .before .before .before .before .before .before .before .before .before .before .before .before .before .before .args .table)) (c .before .before .before .before .before .before .before .before .before .before .before .before .before .before .before .before .before .before .before .before .before .before .loop .index) 0) (inner (orderOf (c .before .before .before .before .before .before .before .before .before .before .before .before .before .before .before .before .before .before .before .before .before .before .before .before .before .before .args .order)) (classesIn (now (c .before .before .before .before .before .before .before .before .before .before .before .before .before .before .before .before .before .before .before .before .before .before .before .before .before .before .args .classes))) (c .before .before .before .before .before .before .before .before .before .before .before .before .before .before .before .before .claims-long .result) (c .before .before .before .before .before .before .before .before .before .before .before .before .before .before .before .before .before .class-numbered .result) (c .before .before .before .before .before .before .before .before .before .before .before .before .before .before .before .before .before .before .before .before .before .before .before .before .before .before .args .depths) (drop (c .before .before .before .before .before .before .before .before .before .before .before .before .before .before .before .before .before .before .before .before .before .before .loop .index) (now (c .before .before .before .before .before .before .before .before .before .before .before .before .before .before .before .before .before .before .before .before .before .before .before .before .before .before .args .table)))))
-shut-at t c = c .shut .ensures ∙ shut-over (c .before .before .before .before .before .before .before .before .before .before .before .before .before .before .before .before .before .before .before .before .before .before .loop .out) (c .before .before .if4 .out) (c .before .before .before .before .before .before .before .before .before .before .before .before .before .before .before .before .before .before .before .before .before .before .loop .place .0) (c .before .before .before .before .before .before .before .before .before .before .before .before .before .before .before .before .before .before .before .before .before .before .loop .index) (c .before .before .before .before .before .before .before .before .before .before .before .before .before .before .before .before .claims-long .result) (getD (now (c .before .before .before .before .before .before .before .before .before .before .before .before .before .before .before .before .before .before .before .before .before .before .before .before .before .before .args .table)) (c .before .before .before .before .before .before .before .before .before .before .before .before .before .before .before .before .before .before .before .before .before .before .loop .index) 0) (c .before .before .if4 .inside) (inner (orderOf (c .before .before .before .before .before .before .before .before .before .before .before .before .before .before .before .before .before .before .before .before .before .before .before .before .before .before .args .order)) (classesIn (now (c .before .before .before .before .before .before .before .before .before .before .before .before .before .before .before .before .before .before .before .before .before .before .before .before .before .before .args .classes))) (c .before .before .before .before .before .before .before .before .before .before .before .before .before .before .before .before .claims-long .result) (c .before .before .before .before .before .before .before .before .before .before .before .before .before .before .before .before .before .class-numbered .result) (c .before .before .before .before .before .before .before .before .before .before .before .before .before .before .before .before .before .before .before .before .before .before .before .before .before .before .args .depths) (drop (c .before .before .before .before .before .before .before .before .before .before .before .before .before .before .before .before .before .before .before .before .before .before .loop .index) (now (c .before .before .before .before .before .before .before .before .before .before .before .before .before .before .before .before .before .before .before .before .before .before .before .before .before .before .args .table)))) (inside-at t (c .before .before))
+shut-at t c = c .shut .ensures ∙ shut-over (c .before .before .before .before .before .before .before .before .before .before .before .before .before .before .before .before .before .before .before .before .before .before .loop .out) (c .before .before .if4 .out) (c .before .before .before .before .before .before .before .before .before .before .before .before .before .before .before .before .before .before .before .before .before .before .loop .place .0) (c .before .before .before .before .before .before .before .before .before .before .before .before .before .before .before .before .before .before .before .before .before .before .loop .index) (c .before .before .before .before .before .before .before .before .before .before .before .before .before .before .before .before .claims-long .result) (getD (now (c .before .before .before .before .before .before .before .before .before .before .before .before .before .before .before .before .before .before .before .before .before .before .before .before .before .before .args .table)) (c .before .before .before .before .before .before .before .before .before .before .before .before .before .before .before .before .before .before .before .before .before .before .loop .index) 0) (c .before .before .if4 .stop .0) (c .before .before .if4 .last) (inner (orderOf (c .before .before .before .before .before .before .before .before .before .before .before .before .before .before .before .before .before .before .before .before .before .before .before .before .before .before .args .order)) (classesIn (now (c .before .before .before .before .before .before .before .before .before .before .before .before .before .before .before .before .before .before .before .before .before .before .before .before .before .before .args .classes))) (c .before .before .before .before .before .before .before .before .before .before .before .before .before .before .before .before .claims-long .result) (c .before .before .before .before .before .before .before .before .before .before .before .before .before .before .before .before .before .class-numbered .result) (c .before .before .before .before .before .before .before .before .before .before .before .before .before .before .before .before .before .before .before .before .before .before .before .before .before .before .args .depths) (drop (c .before .before .before .before .before .before .before .before .before .before .before .before .before .before .before .before .before .before .before .before .before .before .loop .index) (now (c .before .before .before .before .before .before .before .before .before .before .before .before .before .before .before .before .before .before .before .before .before .before .before .before .before .before .args .table)))) (inside-at t (c .before .before))
 
 -- the next place and index
 whole-at : (t : ℕ) (c : write-list-lts.After-wrote (calls t) (write-list-at t) write-list.Post write-list-Inv-loop write-list-μ-loop)
@@ -183,7 +183,7 @@ write-list-same-length-4 : (t : ℕ) → write-list-lts.Need-same-length-4 (call
 write-list-same-length-4 t c = c .before .before .before .before .begin-tag .kept .1 .1 .1 .0 ∙ c .before .before .before .before .before .before .before .before .before .before .before .before .before .before .before .before .loop .inv .0
 
 write-list-returns-4 : (t : ℕ) → write-list-lts.Need-returns-4 (calls t) (write-list-at t) write-list.Post write-list-Inv-loop write-list-μ-loop
-write-list-returns-4 t c = ap (stoodAs (c .before .before .before .before .begin-tag .last .1 .1 .1 .0)) (c .enum-told2 .given .1) ∙ values-fell (orderOf (c .before .before .before .before .before .before .before .before .before .before .before .before .before .before .before .before .before .before .before .before .args .order)) (tag-at t (c .before .before .before .before .before .before .before .before .before .before)) (c .before .before .before .before .before .before .before .before .before .before .before .before .before .before .before .before .loop .out) (c .before .before .before .before .before .before .before .before .before .before .before .before .before .before .before .before .before .before .before .before .args .depths) (c .before .before .before .before .before .before .before .before .before .before .before .before .before .before .before .before .loop .place .0) (deep-at t (c .before .before .before .before .before .before)) (ap (stoodAs (c .before .before .before .before .begin-tag .last .1 .1 .1 .0)) (sym (c .enum-told2 .given .1)) ∙ c .before .before .before .before .begin-tag .ensures) ∙ sym (c .before .before .before .before .before .before .before .before .before .before .before .before .before .before .before .before .loop .inv .3)
+write-list-returns-4 t c = values-fell (orderOf (c .before .before .before .before .before .before .before .before .before .before .before .before .before .before .before .before .before .before .before .before .args .order)) (tag-at t (c .before .before .before .before .before .before .before .before .before .before)) (c .before .before .before .before .before .before .before .before .before .before .before .before .before .before .before .before .loop .out) (c .before .before .before .before .before .before .before .before .before .before .before .before .before .before .before .before .before .before .before .before .args .depths) (c .before .before .before .before .before .before .before .before .before .before .before .before .before .before .before .before .loop .place .0) (deep-at t (c .before .before .before .before .before .before)) (ap (stoodAs (c .before .before .before .before .begin-tag .last .1 .1 .1 .0)) (sym (c .enum-told2 .given .1)) ∙ c .before .before .before .before .begin-tag .ensures) ∙ sym (c .before .before .before .before .before .before .before .before .before .before .before .before .before .before .before .before .loop .inv .3)
 
 write-list-sub-holds-list : (t : ℕ) → write-list-lts.Need-sub-holds-list (calls t) (write-list-at t) write-list.Post write-list-Inv-loop write-list-μ-loop
 write-list-sub-holds-list t c = let h = list-at t (c .before) in omega (arith, h .0)
@@ -204,29 +204,41 @@ write-list-write-list-requires : (t : ℕ) → write-list-lts.Need-write-list-re
 write-list-write-list-requires t c κs = let h = stood-index (now (c .before .before .before .before .before .before .before .before .before .before .before .before .before .before .before .before .before .before .before .before .before .before .before .before .before .args .table)) (c .before .before .before .before .before .before .before .before .before .before .before .before .before .before .before .before .before .before .before .before .before .loop .out) (c .before .before .before .before .before .before .before .before .before .before .before .before .before .before .before .before .before .before .before .before .before .loop .place .0 + keptBytes (c .before .before .before .before .before .before .before .before .before .before .before .before .before .before .before .claims-long .result)) (c .before .before .before .before .before .before .before .before .before .before .before .before .before .before .before .before .before .before .before .before .before .loop .index) (c .before .before .before .before .before .before .before .before .before .begin-tag .last .1 .1 .1 .0) _ _ (begun (orderOf (c .before .before .before .before .before .before .before .before .before .before .before .before .before .before .before .before .before .before .before .before .before .before .before .before .before .args .order)) (c .before .before .before .before .before .before .before .before .before .before .before .before .before .before .before .claims-long .result) (c .before .before .before .before .before .before .before .before .before .before .before .before .before .before .before .before .class-numbered .result) (drop (c .before .before .before .before .before .before .before .before .before .before .before .before .before .before .before .before .before .before .before .before .before .loop .index) (now (c .before .before .before .before .before .before .before .before .before .before .before .before .before .before .before .before .before .before .before .before .before .before .before .before .before .args .table)))) (omega (arith, c .before .before .before .before .before .before .before .before .before .before .before .before .before .before .before .before .before .before .before .before .loop-test .taken)) (parts-begun (orderOf (c .before .before .before .before .before .before .before .before .before .before .before .before .before .before .before .before .before .before .before .before .before .before .before .before .before .args .order)) (c .before .before .before .before .before .before .before .before .before .before .before .before .before .before .before .claims-long .result) (c .before .before .before .before .before .before .before .before .before .before .before .before .before .before .before .before .class-numbered .result) (drop (c .before .before .before .before .before .before .before .before .before .before .before .before .before .before .before .before .before .before .before .before .before .loop .index) (now (c .before .before .before .before .before .before .before .before .before .before .before .before .before .before .before .before .before .before .before .before .before .before .before .before .before .args .table)))) (values-at t (c .before .before .before .before .before)) in
     let d = list-deep (c .before .before .before .before .before .before .before .before .before .before .before .before .before .before .before .before .class-numbered .result) (drop (c .before .before .before .before .before .before .before .before .before .before .before .before .before .before .before .before .before .before .before .before .before .loop .index) (now (c .before .before .before .before .before .before .before .before .before .before .before .before .before .before .before .before .before .before .before .before .before .before .before .before .before .args .table))) (c .before .before .before .before .before .before .before .before .before .before .before .before .before .before .before .before .before .before .before .before .before .before .before .before .before .args .depths) (deep-at t (c .before .before .before .before .before .before .before .before .before .before .before)) (sym (list-at t (c .before .before .before .before .before) .2) ∙ sym (c .before .before .holds-list .ensures) ∙ c .before .if4 .taken) in (omega (arith, c .before .before .before .before .before .before .before .before .before .before .before .before .before .before .before .before .before .before .before .before .before .before .before .before .before .pre .0, d), (c .before .before .before .before .before .before .before .before .before .before .before .before .before .before .before .before .before .before .before .before .before .before .before .before .before .pre .1 .0, h .3, h .1))
 
-write-list-shut-requires : (t : ℕ) → write-list-lts.Need-shut-requires (calls t) (write-list-at t) write-list.Post write-list-Inv-loop write-list-μ-loop
-write-list-shut-requires t c κs = (shut-after (c .before .before .before .before .before .before .before .before .before .before .before .before .before .before .before .before .before .before .before .before .before .loop .out) (c .before .if4 .out) (c .before .before .before .before .before .before .before .before .before .before .before .before .before .before .before .before .before .before .before .before .before .loop .place .0) (c .before .before .before .before .before .before .before .before .before .before .before .before .before .before .before .before .before .before .before .before .before .loop .index) (c .before .before .before .before .before .before .before .before .before .before .before .before .before .before .before .claims-long .result) (c .before .if4 .inside) (inner (orderOf (c .before .before .before .before .before .before .before .before .before .before .before .before .before .before .before .before .before .before .before .before .before .before .before .before .before .args .order)) (classesIn (now (c .before .before .before .before .before .before .before .before .before .before .before .before .before .before .before .before .before .before .before .before .before .before .before .before .before .args .classes))) (c .before .before .before .before .before .before .before .before .before .before .before .before .before .before .before .claims-long .result) (c .before .before .before .before .before .before .before .before .before .before .before .before .before .before .before .before .class-numbered .result) (c .before .before .before .before .before .before .before .before .before .before .before .before .before .before .before .before .before .before .before .before .before .before .before .before .before .args .depths) (drop (c .before .before .before .before .before .before .before .before .before .before .before .before .before .before .before .before .before .before .before .before .before .loop .index) (now (c .before .before .before .before .before .before .before .before .before .before .before .before .before .before .before .before .before .before .before .before .before .before .before .before .before .args .table)))) (inside-at t (c .before)), omega (arith, c .before .before .before .before .before .before .before .before .before .before .before .before .before .before .before .before .before .before .if1 .left))
-
-write-list-enum-known-wrote : (t : ℕ) → write-list-lts.Need-enum-known-wrote (calls t) (write-list-at t) write-list.Post write-list-Inv-loop write-list-μ-loop
-write-list-enum-known-wrote t c = search needs
+write-list-enum-known-inside : (t : ℕ) → write-list-lts.Need-enum-known-inside (calls t) (write-list-at t) write-list.Post write-list-Inv-loop write-list-μ-loop
+write-list-enum-known-inside t c = search needs
 
 write-list-enum-told-3 : (t : ℕ) → write-list-lts.Need-enum-told-3 (calls t) (write-list-at t) write-list.Post write-list-Inv-loop write-list-μ-loop
 write-list-enum-told-3 t c = search needs
 
 write-list-same-length-5 : (t : ℕ) → write-list-lts.Need-same-length-5 (calls t) (write-list-at t) write-list.Post write-list-Inv-loop write-list-μ-loop
-write-list-same-length-5 t c = c .before .before .before .before .shut .kept .0 ∙ length-at t (c .before .before .before .before .before .before) ∙ c .before .before .before .before .before .before .before .before .before .before .before .before .before .before .before .before .before .before .before .before .before .before .before .before .before .before .loop .inv .0
+write-list-same-length-5 t c = c .before .before .before .before .write-list .kept .1 .1 .1 .0 ∙ c .before .before .before .before .before .before .before .before .before .before .before .before .before .before .begin-tag .kept .1 .1 .1 .0 ∙ c .before .before .before .before .before .before .before .before .before .before .before .before .before .before .before .before .before .before .before .before .before .before .before .before .before .before .loop .inv .0
 
 write-list-returns-5 : (t : ℕ) → write-list-lts.Need-returns-5 (calls t) (write-list-at t) write-list.Post write-list-Inv-loop write-list-μ-loop
-write-list-returns-5 t c = ap (stoodAs (c .before .before .before .before .shut .last .0)) (c .enum-told3 .given .1) ∙ turn-fell (orderOf (c .before .before .before .before .before .before .before .before .before .before .before .before .before .before .before .before .before .before .before .before .before .before .before .before .before .before .before .before .before .before .args .order)) (tag-at t (c .before .before .before .before .before .before .before .before .before .before .before .before .before .before .before .before .before .before .before .before)) (c .before .before .before .before .before .before .before .before .before .before .before .before .before .before .before .before .before .before .before .before .before .before .before .before .before .before .loop .out) (c .before .before .before .before .before .before .before .before .before .before .before .before .before .before .before .before .before .before .before .before .before .before .before .before .before .before .before .before .before .before .args .depths) (c .before .before .before .before .before .before .before .before .before .before .before .before .before .before .before .before .before .before .before .before .before .before .before .before .before .before .loop .place .0) (deep-at t (c .before .before .before .before .before .before .before .before .before .before .before .before .before .before .before .before)) (ap (stoodAs (c .before .before .before .before .shut .last .0)) (sym (c .enum-told3 .given .1)) ∙ shut-at t (c .before .before .before .before)) ∙ sym (c .before .before .before .before .before .before .before .before .before .before .before .before .before .before .before .before .before .before .before .before .before .before .before .before .before .before .loop .inv .3)
+write-list-returns-5 t c = turn-fell (orderOf (c .before .before .before .before .before .before .before .before .before .before .before .before .before .before .before .before .before .before .before .before .before .before .before .before .before .before .before .before .before .before .args .order)) (tag-at t (c .before .before .before .before .before .before .before .before .before .before .before .before .before .before .before .before .before .before .before .before)) (c .before .before .before .before .before .before .before .before .before .before .before .before .before .before .before .before .before .before .before .before .before .before .before .before .before .before .loop .out) (c .before .before .before .before .before .before .before .before .before .before .before .before .before .before .before .before .before .before .before .before .before .before .before .before .before .before .before .before .before .before .args .depths) (c .before .before .before .before .before .before .before .before .before .before .before .before .before .before .before .before .before .before .before .before .before .before .before .before .before .before .loop .place .0) (deep-at t (c .before .before .before .before .before .before .before .before .before .before .before .before .before .before .before .before)) (shut-fell (c .before .before .before .before .before .before .before .before .before .before .before .before .before .before .before .before .before .before .before .before .before .before .before .before .before .before .loop .out) (c .before .before .before .before .before .before .before .before .before .before .before .before .before .before .before .before .before .before .before .before .before .before .before .before .before .before .loop .place .0) (c .before .before .before .before .before .before .before .before .before .before .before .before .before .before .before .before .before .before .before .before .before .before .before .before .before .before .loop .index) (c .before .before .before .before .before .before .before .before .before .before .before .before .before .before .before .before .before .before .before .before .claims-long .result) (getD (now (c .before .before .before .before .before .before .before .before .before .before .before .before .before .before .before .before .before .before .before .before .before .before .before .before .before .before .before .before .before .before .args .table)) (c .before .before .before .before .before .before .before .before .before .before .before .before .before .before .before .before .before .before .before .before .before .before .before .before .before .before .loop .index) 0) (inner (orderOf (c .before .before .before .before .before .before .before .before .before .before .before .before .before .before .before .before .before .before .before .before .before .before .before .before .before .before .before .before .before .before .args .order)) (classesIn (now (c .before .before .before .before .before .before .before .before .before .before .before .before .before .before .before .before .before .before .before .before .before .before .before .before .before .before .before .before .before .before .args .classes))) (c .before .before .before .before .before .before .before .before .before .before .before .before .before .before .before .before .before .before .before .before .claims-long .result) (c .before .before .before .before .before .before .before .before .before .before .before .before .before .before .before .before .before .before .before .before .before .class-numbered .result) (c .before .before .before .before .before .before .before .before .before .before .before .before .before .before .before .before .before .before .before .before .before .before .before .before .before .before .before .before .before .before .args .depths) (drop (c .before .before .before .before .before .before .before .before .before .before .before .before .before .before .before .before .before .before .before .before .before .before .before .before .before .before .loop .index) (now (c .before .before .before .before .before .before .before .before .before .before .before .before .before .before .before .before .before .before .before .before .before .before .before .before .before .before .before .before .before .before .args .table)))) (values-list (orderOf (c .before .before .before .before .before .before .before .before .before .before .before .before .before .before .before .before .before .before .before .before .before .before .before .before .before .before .before .before .before .before .args .order)) (tag-at t (c .before .before .before .before .before .before .before .before .before .before .before .before .before .before .before .before .before .before .before .before)) (c .before .before .before .before .before .before .before .before .before .before .before .before .before .before .before .before .before .before .before .before .before .before .before .before .before .before .loop .out) (c .before .before .before .before .before .before .before .before .before .before .before .before .before .before .before .before .before .before .before .before .before .before .before .before .before .before .before .before .before .before .args .depths) (c .before .before .before .before .before .before .before .before .before .before .before .before .before .before .before .before .before .before .before .before .before .before .before .before .before .before .loop .place .0) (sym (list-at t (c .before .before .before .before .before .before .before .before .before .before) .2) ∙ sym (c .before .before .before .before .before .before .before .holds-list .ensures) ∙ c .before .before .before .before .before .before .if4 .taken) (values-at t (c .before .before .before .before .before .before .before .before .before .before)) (ap (stoodAs (c .before .before .before .before .write-list .last .1 .1 .1 .0)) (sym (c .enum-told3 .given .1)) ∙ c .before .before .before .before .write-list .ensures))) ∙ sym (c .before .before .before .before .before .before .before .before .before .before .before .before .before .before .before .before .before .before .before .before .before .before .before .before .before .before .loop .inv .3)
+
+write-list-shut-requires : (t : ℕ) → write-list-lts.Need-shut-requires (calls t) (write-list-at t) write-list.Post write-list-Inv-loop write-list-μ-loop
+write-list-shut-requires t c κs = let h = shut-after (c .before .before .before .before .before .before .before .before .before .before .before .before .before .before .before .before .before .before .before .before .before .loop .out) (c .before .if4 .out) (c .before .before .before .before .before .before .before .before .before .before .before .before .before .before .before .before .before .before .before .before .before .loop .place .0) (c .before .before .before .before .before .before .before .before .before .before .before .before .before .before .before .before .before .before .before .before .before .loop .index) (c .before .before .before .before .before .before .before .before .before .before .before .before .before .before .before .claims-long .result) (c .before .if4 .stop .0) (c .before .if4 .last) (inner (orderOf (c .before .before .before .before .before .before .before .before .before .before .before .before .before .before .before .before .before .before .before .before .before .before .before .before .before .args .order)) (classesIn (now (c .before .before .before .before .before .before .before .before .before .before .before .before .before .before .before .before .before .before .before .before .before .before .before .before .before .args .classes))) (c .before .before .before .before .before .before .before .before .before .before .before .before .before .before .before .claims-long .result) (c .before .before .before .before .before .before .before .before .before .before .before .before .before .before .before .before .class-numbered .result) (c .before .before .before .before .before .before .before .before .before .before .before .before .before .before .before .before .before .before .before .before .before .before .before .before .before .args .depths) (drop (c .before .before .before .before .before .before .before .before .before .before .before .before .before .before .before .before .before .before .before .before .before .loop .index) (now (c .before .before .before .before .before .before .before .before .before .before .before .before .before .before .before .before .before .before .before .before .before .before .before .before .before .args .table)))) (inside-at t (c .before)) in (h .0, h .1, omega (arith, c .before .before .before .before .before .before .before .before .before .before .before .before .before .before .before .before .before .before .if1 .left))
+
+write-list-enum-known-wrote : (t : ℕ) → write-list-lts.Need-enum-known-wrote (calls t) (write-list-at t) write-list.Post write-list-Inv-loop write-list-μ-loop
+write-list-enum-known-wrote t c = search needs
+
+write-list-enum-told-4 : (t : ℕ) → write-list-lts.Need-enum-told-4 (calls t) (write-list-at t) write-list.Post write-list-Inv-loop write-list-μ-loop
+write-list-enum-told-4 t c = search needs
+
+write-list-same-length-6 : (t : ℕ) → write-list-lts.Need-same-length-6 (calls t) (write-list-at t) write-list.Post write-list-Inv-loop write-list-μ-loop
+write-list-same-length-6 t c = c .before .before .before .before .shut .kept .0 ∙ length-at t (c .before .before .before .before .before .before) ∙ c .before .before .before .before .before .before .before .before .before .before .before .before .before .before .before .before .before .before .before .before .before .before .before .before .before .before .loop .inv .0
+
+write-list-returns-6 : (t : ℕ) → write-list-lts.Need-returns-6 (calls t) (write-list-at t) write-list.Post write-list-Inv-loop write-list-μ-loop
+write-list-returns-6 t c = turn-fell (orderOf (c .before .before .before .before .before .before .before .before .before .before .before .before .before .before .before .before .before .before .before .before .before .before .before .before .before .before .before .before .before .before .args .order)) (tag-at t (c .before .before .before .before .before .before .before .before .before .before .before .before .before .before .before .before .before .before .before .before)) (c .before .before .before .before .before .before .before .before .before .before .before .before .before .before .before .before .before .before .before .before .before .before .before .before .before .before .loop .out) (c .before .before .before .before .before .before .before .before .before .before .before .before .before .before .before .before .before .before .before .before .before .before .before .before .before .before .before .before .before .before .args .depths) (c .before .before .before .before .before .before .before .before .before .before .before .before .before .before .before .before .before .before .before .before .before .before .before .before .before .before .loop .place .0) (deep-at t (c .before .before .before .before .before .before .before .before .before .before .before .before .before .before .before .before)) (ap (stoodAs (c .before .before .before .before .shut .last .0)) (sym (c .enum-told4 .given .1)) ∙ shut-at t (c .before .before .before .before)) ∙ sym (c .before .before .before .before .before .before .before .before .before .before .before .before .before .before .before .before .before .before .before .before .before .before .before .before .before .before .loop .inv .3)
 
 write-list-ends-list-requires : (t : ℕ) → write-list-lts.Need-ends-list-requires (calls t) (write-list-at t) write-list.Post write-list-Inv-loop write-list-μ-loop
 write-list-ends-list-requires t c κs = tt
 
-write-list-same-length-6 : (t : ℕ) → write-list-lts.Need-same-length-6 (calls t) (write-list-at t) write-list.Post write-list-Inv-loop write-list-μ-loop
-write-list-same-length-6 t c = c .before .before .before .before .before .before .before .shut .kept .0 ∙ length-at t (c .before .before .before .before .before .before .before .before .before) ∙ c .before .before .before .before .before .before .before .before .before .before .before .before .before .before .before .before .before .before .before .before .before .before .before .before .before .before .before .before .before .loop .inv .0
+write-list-same-length-7 : (t : ℕ) → write-list-lts.Need-same-length-7 (calls t) (write-list-at t) write-list.Post write-list-Inv-loop write-list-μ-loop
+write-list-same-length-7 t c = c .before .before .before .before .before .before .before .shut .kept .0 ∙ length-at t (c .before .before .before .before .before .before .before .before .before) ∙ c .before .before .before .before .before .before .before .before .before .before .before .before .before .before .before .before .before .before .before .before .before .before .before .before .before .before .before .before .before .loop .inv .0
 
-write-list-returns-6 : (t : ℕ) → write-list-lts.Need-returns-6 (calls t) (write-list-at t) write-list.Post write-list-Inv-loop write-list-μ-loop
-write-list-returns-6 t c = turn-last (orderOf (c .before .before .before .before .before .before .before .before .before .before .before .before .before .before .before .before .before .before .before .before .before .before .before .before .before .before .before .before .before .before .before .before .before .args .order)) (tag-at t (c .before .before .before .before .before .before .before .before .before .before .before .before .before .before .before .before .before .before .before .before .before .before .before)) (c .before .before .before .before .before .before .before .before .before .before .before .before .before .before .before .before .before .before .before .before .before .before .before .before .before .before .before .before .before .loop .out) (c .before .before .before .before .before .before .before .before .before .before .before .before .before .before .before .before .before .before .before .before .before .before .before .before .before .before .before .before .before .before .before .before .before .args .depths) (c .before .before .before .before .before .before .before .before .before .before .before .before .before .before .before .before .before .before .before .before .before .before .before .before .before .before .before .before .before .loop .place .0) (deep-at t (c .before .before .before .before .before .before .before .before .before .before .before .before .before .before .before .before .before .before .before)) (sym (c .before .ends-list .ensures) ∙ c .if5 .taken) (whole-at t (c .before .before .before)) ∙ sym (c .before .before .before .before .before .before .before .before .before .before .before .before .before .before .before .before .before .before .before .before .before .before .before .before .before .before .before .before .before .loop .inv .3)
+write-list-returns-7 : (t : ℕ) → write-list-lts.Need-returns-7 (calls t) (write-list-at t) write-list.Post write-list-Inv-loop write-list-μ-loop
+write-list-returns-7 t c = turn-last (orderOf (c .before .before .before .before .before .before .before .before .before .before .before .before .before .before .before .before .before .before .before .before .before .before .before .before .before .before .before .before .before .before .before .before .before .args .order)) (tag-at t (c .before .before .before .before .before .before .before .before .before .before .before .before .before .before .before .before .before .before .before .before .before .before .before)) (c .before .before .before .before .before .before .before .before .before .before .before .before .before .before .before .before .before .before .before .before .before .before .before .before .before .before .before .before .before .loop .out) (c .before .before .before .before .before .before .before .before .before .before .before .before .before .before .before .before .before .before .before .before .before .before .before .before .before .before .before .before .before .before .before .before .before .args .depths) (c .before .before .before .before .before .before .before .before .before .before .before .before .before .before .before .before .before .before .before .before .before .before .before .before .before .before .before .before .before .loop .place .0) (deep-at t (c .before .before .before .before .before .before .before .before .before .before .before .before .before .before .before .before .before .before .before)) (sym (c .before .ends-list .ensures) ∙ c .if5 .taken) (whole-at t (c .before .before .before)) ∙ sym (c .before .before .before .before .before .before .before .before .before .before .before .before .before .before .before .before .before .before .before .before .before .before .before .before .before .before .before .before .before .loop .inv .3)
 
 write-list-loop-less-2 : (t : ℕ) → write-list-lts.Need-loop-less-2 (calls t) (write-list-at t) write-list.Post write-list-Inv-loop write-list-μ-loop
 write-list-loop-less-2 t c = let x = tag-index (orderOf (c .before .before .before .before .before .before .before .before .before .before .before .before .before .before .before .before .before .before .before .before .before .before .before .before .before .before .before .before .before .before .before .before .before .args .order)) (tag-at t (c .before .before .before .before .before .before .before .before .before .before .before .before .before .before .before .before .before .before .before .before .before .before .before)) (c .before .before .before .before .before .before .before .before .before .before .before .before .before .before .before .before .before .before .before .before .before .before .before .before .before .before .before .before .before .loop .out) (c .before .before .before .before .before .before .before .before .before .before .before .before .before .before .before .before .before .before .before .before .before .before .before .before .before .before .before .before .before .before .before .before .before .args .depths) (c .before .before .before .before .before .before .before .before .before .before .before .before .before .before .before .before .before .before .before .before .before .before .before .before .before .before .before .before .before .loop .place .0) (c .before .before .before .before .before .before .before .shut .last .0) _ _ (whole-at t (c .before .before .before)) in omega (arith, x .1, x .2)
@@ -235,11 +247,11 @@ write-list-loop-again-2 : (t : ℕ) → write-list-lts.Need-loop-again-2 (calls 
 write-list-loop-again-2 t c = let x = tag-index (orderOf (c .before .before .before .before .before .before .before .before .before .before .before .before .before .before .before .before .before .before .before .before .before .before .before .before .before .before .before .before .before .before .before .before .before .args .order)) (tag-at t (c .before .before .before .before .before .before .before .before .before .before .before .before .before .before .before .before .before .before .before .before .before .before .before)) (c .before .before .before .before .before .before .before .before .before .before .before .before .before .before .before .before .before .before .before .before .before .before .before .before .before .before .before .before .before .loop .out) (c .before .before .before .before .before .before .before .before .before .before .before .before .before .before .before .before .before .before .before .before .before .before .before .before .before .before .before .before .before .before .before .before .before .args .depths) (c .before .before .before .before .before .before .before .before .before .before .before .before .before .before .before .before .before .before .before .before .before .before .before .before .before .before .before .before .before .loop .place .0) (c .before .before .before .before .before .before .before .shut .last .0) _ _ (whole-at t (c .before .before .before)) in
     (c .before .before .before .before .before .before .before .shut .kept .0 ∙ length-at t (c .before .before .before .before .before .before .before .before .before) ∙ c .before .before .before .before .before .before .before .before .before .before .before .before .before .before .before .before .before .before .before .before .before .before .before .before .before .before .before .before .before .loop .inv .0, x .2, x .0, c .before .before .before .before .before .before .before .before .before .before .before .before .before .before .before .before .before .before .before .before .before .before .before .before .before .before .before .before .before .loop .inv .3 ∙ turn-more (orderOf (c .before .before .before .before .before .before .before .before .before .before .before .before .before .before .before .before .before .before .before .before .before .before .before .before .before .before .before .before .before .before .before .before .before .args .order)) (tag-at t (c .before .before .before .before .before .before .before .before .before .before .before .before .before .before .before .before .before .before .before .before .before .before .before)) (c .before .before .before .before .before .before .before .before .before .before .before .before .before .before .before .before .before .before .before .before .before .before .before .before .before .before .before .before .before .loop .out) (c .before .before .before .before .before .before .before .before .before .before .before .before .before .before .before .before .before .before .before .before .before .before .before .before .before .before .before .before .before .before .before .before .before .args .depths) (c .before .before .before .before .before .before .before .before .before .before .before .before .before .before .before .before .before .before .before .before .before .before .before .before .before .before .before .before .before .loop .place .0) (deep-at t (c .before .before .before .before .before .before .before .before .before .before .before .before .before .before .before .before .before .before .before)) (sym (c .before .ends-list .ensures) ∙ c .if5 .left) (whole-at t (c .before .before .before)))
 
-write-list-same-length-7 : (t : ℕ) → write-list-lts.Need-same-length-7 (calls t) (write-list-at t) write-list.Post write-list-Inv-loop write-list-μ-loop
-write-list-same-length-7 t c = c .before .loop .inv .0
+write-list-same-length-8 : (t : ℕ) → write-list-lts.Need-same-length-8 (calls t) (write-list-at t) write-list.Post write-list-Inv-loop write-list-μ-loop
+write-list-same-length-8 t c = c .before .loop .inv .0
 
-write-list-returns-7 : (t : ℕ) → write-list-lts.Need-returns-7 (calls t) (write-list-at t) write-list.Post write-list-Inv-loop write-list-μ-loop
-write-list-returns-7 t c = rest-none (orderOf (c .before .before .before .before .before .args .order)) (classesIn (now (c .before .before .before .before .before .args .classes))) (now (c .before .before .before .before .before .args .table)) (c .before .loop .out) (c .before .before .before .before .before .args .depths) (c .before .loop .place .0) (c .before .loop .index) (c .loop-test .left) ∙ sym (c .before .loop .inv .3)
+write-list-returns-8 : (t : ℕ) → write-list-lts.Need-returns-8 (calls t) (write-list-at t) write-list.Post write-list-Inv-loop write-list-μ-loop
+write-list-returns-8 t c = rest-none (orderOf (c .before .before .before .before .before .args .order)) (classesIn (now (c .before .before .before .before .before .args .classes))) (now (c .before .before .before .before .before .args .table)) (c .before .loop .out) (c .before .before .before .before .before .args .depths) (c .before .loop .place .0) (c .before .loop .index) (c .loop-test .left) ∙ sym (c .before .loop .inv .3)
 
 pub +write-list-spec : {M : Type 1} → statement M
 +write-list-spec = close μ-write-list λ t. write-list-lts.spec (calls t)
@@ -279,15 +291,19 @@ pub +write-list-spec : {M : Type 1} → statement M
     (write-list-holds-list-requires t)
     (write-list-sub-write-list t)
     (write-list-write-list-requires t)
-    (write-list-shut-requires t)
-    (write-list-enum-known-wrote t)
+    (write-list-enum-known-inside t)
     (write-list-enum-told-3 t)
     (write-list-same-length-5 t)
     (write-list-returns-5 t)
-    (write-list-ends-list-requires t)
+    (write-list-shut-requires t)
+    (write-list-enum-known-wrote t)
+    (write-list-enum-told-4 t)
     (write-list-same-length-6 t)
     (write-list-returns-6 t)
-    (write-list-loop-less-2 t)
-    (write-list-loop-again-2 t)
+    (write-list-ends-list-requires t)
     (write-list-same-length-7 t)
     (write-list-returns-7 t)
+    (write-list-loop-less-2 t)
+    (write-list-loop-again-2 t)
+    (write-list-same-length-8 t)
+    (write-list-returns-8 t)
