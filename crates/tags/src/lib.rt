@@ -107,6 +107,22 @@ pub fn state(class: Class, gains: bool) -> u64
     if gains { read + 2 } else { read }
 }
 
+// A tag's first three numbers, by one test where all of them fit.
+fn put_first(table: &mut [u64], from: usize, code: u64, state: u64, count: u64)
+    requires { ⌜ (from < length (now table)) × (from < 2 ^ 60) ⌝ }
+    ensures { λ _. ⌜ now (table .exit) ≡ set (set (set (now (table .entry)) from code) (from + 1) state) (from + 2) count ⌝ }
+{
+    if 3 <= table.len() - from {
+        table[from] = code;
+        table[from + 1] = state;
+        table[from + 2] = count;
+        return;
+    }
+    table::put(table, from, code);
+    table::put(table, from + 1, state);
+    table::put(table, from + 2, count);
+}
+
 // A tag's numbers, with a header of this size: its values are stored first, behind its code, its state and their count. The walk that counts has no room
 // for any of them.
 pub fn show_tag(
@@ -127,9 +143,8 @@ pub fn show_tag(
     }
     let gains = long_on_short(size, body.len() as u32);
     let number = state(class, gains);
-    table::put(table, from, code as u64);
-    table::put(table, from + 1, number);
-    table::put(table, from + 2, (index_behind(shown) - (from + 3)) as u64);
+    let count = (index_behind(shown) - (from + 3)) as u64;
+    put_first(table, from, code as u64, number, count);
     shown
 }
 
