@@ -152,15 +152,19 @@ module _ (o : Order) (b : List ℕ) (y : Body) where
 -- ---- by the code
 module _ (o : Order) (b t : List ℕ) (k code : ℕ) {u : List ℕ} (items : Run) {s : Shown} where
   -- a leaf
-  pub leaf-shows : {block : Bool} → block ≡ isBlock code → runLeaves u items ≡ shownOver t k (readPart o b (bodyBy block code) 0) → Finishes o b items false s → Shows t k (readBody o (leafBody code) b) false u s
-  unfolding leafBody
-  leaf-shows {block} e h done = body-shows o b (bodyBy (isBlock code) code) t k items false (h ∙ ap (λ (v : Bool). shownOver t k (readPart o b (bodyBy v code) 0)) e) done
+  pub leaf-shows : (block : Bool) → runLeaves u items ≡ shownOver t k (readPart o b (bodyBy block code) 0) → Finishes o b items false s → Shows t k (readBody o (bodyBy block code) b) false u s
+  leaf-shows block h done = body-shows o b (bodyBy block code) t k items false h done
 
   -- a container with items
   pub items-shows : (code ≡ 15 → ⊥) → runLeaves u items ≡ shownOver t k (readPart o b (bodyBy false code) 0) → Finishes o b items true s
       → Shows t k (ownPart o (containerBody code) b) (hasListIn o (containerBody code) b) u s
   unfolding containerBody
   items-shows z h done = rw (ne-eqb code 15 z) (body-shows o b (bodyBy false code) t k items true h done)
+
+-- a leaf by its code alone
+pub leaf-code : (o : Order) (b t : List ℕ) (k code : ℕ) {u : List ℕ} {s : Shown} {block : Bool} → block ≡ isBlock code → Shows t k (readBody o (bodyBy block code) b) false u s → Shows t k (readBody o (leafBody code) b) false u s
+unfolding leafBody
+leaf-code o b t k code {u} {s} e h = subst (λ (v : Bool). Shows t k (readBody o (bodyBy v code) b) false u s) e h
 
 pub container-group : (o : Order) (b t : List ℕ) (k code : ℕ) {u : List ℕ} {s : Shown} → code ≡ 15 → Shows t k (ownPart o group b) (hasListIn o group b) u s
     → Shows t k (ownPart o (containerBody code) b) (hasListIn o (containerBody code) b) u s

@@ -94,13 +94,28 @@ fn finish(order: Order, body: &[u8], items: Run, list: bool) -> Shown
     }
 }
 
-// The body of a leaf tag: its items, zero bits up to a whole byte (15), and nothing more (18).
+// The body of a leaf tag, an attribute block or another: its items, zero bits up to a whole byte (15), and nothing more (18).
+pub fn read_leaf(
+    order: Order,
+    block: bool,
+    code: u32,
+    body: &[u8],
+    table: &mut [u64],
+    from: usize,
+) -> Shown
+    requires { ⌜ (length (now body) < 2 ^ 60) × (from < 2 ^ 61) ⌝ }
+    ensures { λ r. ⌜ Shows (now (table .entry)) from (readBody (orderOf order) (bodyBy block code) (now (body .entry))) false (now (table .exit)) r ⌝ }
+{
+    let items = read_part(order, block, code, body, table, from);
+    finish(order, body, items, false)
+}
+
+// The same, by its code alone.
 pub fn read_body(order: Order, code: u32, body: &[u8], table: &mut [u64], from: usize) -> Shown
     requires { ⌜ (length (now body) < 2 ^ 60) × (from < 2 ^ 61) ⌝ }
     ensures { λ r. ⌜ Shows (now (table .entry)) from (readBody (orderOf order) (leafBody code) (now (body .entry))) false (now (table .exit)) r ⌝ }
 {
-    let items = read_part(order, is_block(code), code, body, table, from);
-    finish(order, body, items, false)
+    read_leaf(order, is_block(code), code, body, table, from)
 }
 
 // A ShapeGroup: it has a list where the flag of its last attribute, the TagBlock, is set: digit 8 of its flag numbers. The walk that counts stores no values, so the

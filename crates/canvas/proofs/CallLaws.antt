@@ -23,8 +23,9 @@ use Rattle.bodies.specs.declared.Shown.{Shown}
 use Rattle.classes.specs.Classes.{Classed}
 use Rattle.classes.specs.declared.Scope.the-variants.{All}
 use Rattle.bits.specs.declared.BytePlace.{BytePlace}
-use Rattle.lists.specs.Lists.{classesIn}
-use Rattle.lists.proofs.ListLaws.{piece, piece-rest, class-level}
+use Rattle.tags.specs.Lent.{classesIn}
+use Rattle.lists.proofs.ListLaws.{piece, piece-rest}
+use Rattle.tags.proofs.LentLaws.{class-level}
 use Rattle.canvas.specs.Canvas.{Seen, found, none, refused, Canvas, canvas, canvasIn, canvasOf, canvasFile}
 use Rattle.canvas.specs.Looking.{bodyAt, Stands, Looks, Bounds, zeros, bare, told, filled}
 use Rattle.canvas.specs.declared.CanvasSize.{CanvasSize}

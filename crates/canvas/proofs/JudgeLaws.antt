@@ -26,7 +26,8 @@ use Rattle.headers.specs.declared.Header.{Header}
 use Rattle.tags.specs.Shown.{valuesOf, listOf}
 use Rattle.tags.proofs.TagLaws.{values-le}
 use Rattle.bits.specs.declared.BytePlace.{BytePlace}
-use Rattle.lists.specs.Lists.{byteAt, ownerOf, classIn}
+use Rattle.lists.specs.Lists.{byteAt, ownerOf}
+use Rattle.tags.specs.Lent.{classIn}
 use Rattle.lists.specs.declared.Owner.{Owner}
 use Rattle.canvas.specs.Looking.{isLooked, judgedClass, judgedBy, standsAt, judgedEnd, judgedAt, judgedIn, afterEnd}
 use Rattle.canvas.specs.declared.Body.{Body}

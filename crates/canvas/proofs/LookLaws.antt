@@ -35,9 +35,11 @@ use Rattle.headers.proofs.HeadLaws.{head-by}
 use Rattle.tags.specs.Shown.{valuesOf, listOf}
 use Rattle.tags.proofs.TagLaws.{list-container, values-le}
 use Rattle.bits.specs.declared.BytePlace.{BytePlace}
-use Rattle.lists.specs.Lists.{byteAt, ownerOf, classIn, classesIn, Tabled}
+use Rattle.lists.specs.Lists.{byteAt, ownerOf}
+use Rattle.tags.specs.Lent.{classIn, classesIn, Tabled}
 use Rattle.lists.specs.declared.Owner.{Owner}
-use Rattle.lists.proofs.ListLaws.{piece, length-piece, drop-take, pred-is, positive, walkOf, insideOf, fair-in, with-named, within-is}
+use Rattle.lists.proofs.ListLaws.{piece, length-piece, drop-take, pred-is, positive, walkOf, insideOf, within-is}
+use Rattle.tags.proofs.LentLaws.{fair-in, with-named}
 use Rattle.canvas.specs.Canvas.{isCanvas, Seen, found, none, refused, Canvas, canvas, more, seenIn, canvasIn, canvasOf}
 use Rattle.canvas.specs.Looking.{isLooked, judgedClass, standsAt, judgedBy, judgedEnd, judgedAt, judgedIn, afterEnd, bodyAt, Stands, Looks, Bounds}
 use Rattle.canvas.specs.declared.Body.{Body}
@@ -114,6 +116,10 @@ canvas-class ns k = subst (λ (c : Class). (c ≡ Opaque) ⊎ (c ≡ Fixed)) (sy
 pub leaf-is : leafBody 3 ≡ fixed compositionAttributes
 unfolding leafBody fixedOf
 leaf-is = refl
+
+items-are : fixed (fixedOf 3) ≡ fixed compositionAttributes
+unfolding fixedOf
+items-are = refl
 
 looked-fixed : (ns : List ℕ) → Tabled ns → (code : ℕ) → isLooked (classIn ns code) code ≡ true → (code ≡ 3) × (classIn ns code ≡ Fixed)
 looked-fixed ns k code h = go (eqb code 3) refl h
@@ -276,7 +282,7 @@ module _ (o : Order) (ns : List ℕ) (depths : ℕ) (own : paper.Owner) (a : ℕ
       values-canvas : isLooked c code ≡ true → valuesOf o c code body ≡ readBody o (fixed compositionAttributes) body
       values-canvas h =
           let l : (code ≡ 3) × (c ≡ Fixed) = looked-fixed ns tabled code h in
-          ap₂ (λ (d : Class) (k : ℕ). valuesOf o d k body) (l .1) (l .0) ∙ ap (λ (y : bodies.Body). readBody o y body) leaf-is
+          ap₂ (λ (d : Class) (k : ℕ). valuesOf o d k body) (l .1) (l .0) ∙ ap (λ (y : bodies.Body). readBody o y body) items-are
 
       fault-reason : {e : ℕ} → z ≡ Fault e → looks ≡ true → 13 ≤ e
       fault-reason {e} q n =

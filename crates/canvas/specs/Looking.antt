@@ -18,7 +18,8 @@ use Rattle.classes.specs.Classes as classes
 use Rattle.classes.specs.declared.Class.{Class}
 use Rattle.classes.specs.declared.Class.the-variants as class
 use Rattle.headers.specs.Heads.{headBy}
-use Rattle.lists.specs.Lists.{byteAt, ownerOf, classIn}
+use Rattle.lists.specs.Lists.{byteAt, ownerOf}
+use Rattle.tags.specs.Lent.{classIn}
 use Rattle.lists.specs.declared.Owner.{Owner}
 use Rattle.tags.specs.Shown.{valuesOf, listOf}
 use Rattle.canvas.specs.Canvas as wanted

@@ -6,7 +6,8 @@ ghost use Rattle.format.specs.FileAndTags.{head, walkList};
 ghost use Rattle.bits.specs.Places.{orderOf};
 ghost use Rattle.bodies.specs.Shown.{shownEnd, isOpen, opens};
 ghost use Rattle.tags.specs.Shown.{valuesOf, listOf};
-ghost use Rattle.lists.specs.Lists.{ownerOf, classesIn, Tabled};
+ghost use Rattle.lists.specs.Lists.{ownerOf};
+ghost use Rattle.tags.specs.Lent.{classesIn, Tabled};
 ghost use Rattle.canvas.specs.Canvas.{canvasOf, canvasFile};
 ghost use Rattle.canvas.specs.Looking.{isLooked, judgedBy, standsAt, judgedAt, judgedIn, afterEnd, Looks, Bounds, bare, filled, told};
 use bits::BytePlace;
@@ -110,8 +111,8 @@ fn judge_values(order: Order, class: Class, code: u32, body: &[u8]) -> Shown
         Class::Opaque => Shown::Done(BytePlace(0), 0),
         Class::End => Shown::Done(BytePlace(0), 0),
         Class::Container => bodies::read_container(order, code, body, &mut none[..0], 0),
-        Class::Fixed => bodies::read_body(order, code, body, &mut none[..0], 0),
-        Class::Attributes => bodies::read_body(order, code, body, &mut none[..0], 0),
+        Class::Fixed => bodies::read_leaf(order, false, code, body, &mut none[..0], 0),
+        Class::Attributes => bodies::read_leaf(order, true, code, body, &mut none[..0], 0),
     }
 }
 

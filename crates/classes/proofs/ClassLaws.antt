@@ -77,38 +77,27 @@ past-codes level code h = go (ltb level code) refl
 
 -- ---- By its name and the code: one test over the listed codes, which antt computes, serves every level.
 
--- the class with this name, if y has the bodies and l the containers of the codes
-abbrev pub spelt : (ℕ → Body) → (ℕ → paper.Class) → Class → ℕ → paper.Class
-spelt y l Opaque code = opaque
-spelt y l End code = end
-spelt y l Container code = l code
-spelt y l Fixed code = known (y code)
-spelt y l Attributes code = known (y code)
+-- the class with this name, if y has the fixed bodies, w the blocks and l the own parts of containers, by their codes
+abbrev pub spelt : (y w l : ℕ → Body) → Class → ℕ → paper.Class
+spelt y w l Opaque code = opaque
+spelt y w l End code = end
+spelt y w l Container code = container (l code)
+spelt y w l Fixed code = known (y code)
+spelt y w l Attributes code = known (w code)
 
--- y and l are right at each listed code
-abbrev pub Right : (ℕ → Body) → (ℕ → paper.Class) → Type 0
-Right y l = codes ≡ tab (λ k. spelt y l (named (getD codes k opaque)) k) 0 28
+-- they are right at each listed code
+abbrev pub Right : (y w l : ℕ → Body) → Type 0
+Right y w l = codes ≡ tab (λ k. spelt y w l (named (getD codes k opaque)) k) 0 28
 
-pub by-code : (y : ℕ → Body) (l : ℕ → paper.Class) → Right y l → (level code : ℕ) → classOf level code ≡ spelt y l (classAt level code) code
-by-code y l r level code = go (ltb level code) refl (ltb code 28) refl
+pub by-code : (y w l : ℕ → Body) → Right y w l → (level code : ℕ) → classOf level code ≡ spelt y w l (classAt level code) code
+by-code y w l r level code = go (ltb level code) refl (ltb code 28) refl
   where
-    go : (z : Bool) → ltb level code ≡ z → (z′ : Bool) → ltb code 28 ≡ z′ → classOf level code ≡ spelt y l (classAt level code) code
+    go : (z : Bool) → ltb level code ≡ z → (z′ : Bool) → ltb code 28 ≡ z′ → classOf level code ≡ spelt y w l (classAt level code) code
     go true e z′ e′ = rw (above-level level code (ltb-true level code e))
     go false e false e′ = rw (past-codes level code (ltb-false code 28 e′))
     go false e true e′ =
         rw (up-to-level level code (ltb-false level code e))
-        (at (λ k. spelt y l (named (getD codes k opaque)) k) opaque 28 codes r code (ltb-true code 28 e′))
-
--- as a caller has it: any y and l that pass the test
-module _ (y : ℕ → Body) (l : ℕ → paper.Class) (r : Right y l) (level code : ℕ) where
-  pub fixed-by : classAt level code ≡ Fixed → classOf level code ≡ known (y code)
-  fixed-by e = by-code y l r level code ∙ ap (λ c. spelt y l c code) e
-
-  pub attributes-by : classAt level code ≡ Attributes → classOf level code ≡ known (y code)
-  attributes-by e = by-code y l r level code ∙ ap (λ c. spelt y l c code) e
-
-  pub container-by : classAt level code ≡ Container → classOf level code ≡ l code
-  container-by e = by-code y l r level code ∙ ap (λ c. spelt y l c code) e
+        (at (λ k. spelt y w l (named (getD codes k opaque)) k) opaque 28 codes r code (ltb-true code 28 e′))
 
 -- ---- How much a walk reads.
 
@@ -151,8 +140,8 @@ fair-by o scope level code = go scope (classOf level code) (fair-class o level c
     go Lists (known y) h = tt
 
 -- by its name and the code
-module _ (y l : ℕ → Body) where
-  spelt-skimmed : (scope : Scope) (class : Class) (code : ℕ) → skimmed scope (spelt y (λ k. container (l k)) class code) ≡ spelt y (λ k. container (l k)) (takenAs scope class) code
+module _ (y w l : ℕ → Body) where
+  spelt-skimmed : (scope : Scope) (class : Class) (code : ℕ) → skimmed scope (spelt y w l class code) ≡ spelt y w l (takenAs scope class) code
   spelt-skimmed All class code = refl
   spelt-skimmed Lists Opaque code = refl
   spelt-skimmed Lists End code = refl
@@ -160,11 +149,10 @@ module _ (y l : ℕ → Body) where
   spelt-skimmed Lists Fixed code = refl
   spelt-skimmed Lists Attributes code = refl
 
-  pub taken-by : Right y (λ k. container (l k)) → (scope : Scope) (level code : ℕ)
-      → classBy scope level code ≡ spelt y (λ k. container (l k)) (named (classBy scope level code)) code
+  pub taken-by : Right y w l → (scope : Scope) (level code : ℕ) → classBy scope level code ≡ spelt y w l (named (classBy scope level code)) code
   taken-by r scope level code =
-      ap (skimmed scope) (by-code y (λ k. container (l k)) r level code) ∙ spelt-skimmed scope (classAt level code) code
-      ∙ ap (λ (c : Class). spelt y (λ k. container (l k)) c code) (sym (named-skimmed scope (classOf level code)))
+      ap (skimmed scope) (by-code y w l r level code) ∙ spelt-skimmed scope (classAt level code) code
+      ∙ ap (λ (c : Class). spelt y w l c code) (sym (named-skimmed scope (classOf level code)))
 
 -- ---- From the table.
 

@@ -5,7 +5,7 @@ use mathlib.Core.List.{List, [], _∷_, _++_}
 use mathlib.Core.Path.{_≡_, _∙_, refl, ap, sym}
 use native.Mathlib.Omega.{arith}
 use native.Mathlib.Nat.{zero-add}
-use lib.ListN.{length, getD, set, replicate, drop}
+use lib.ListN.{length, getD, set, replicate, drop, length-replicate}
 use lib.Seq.{sets, sets-eq, length-sets, getD-take, getD-drop, getD-append-add, take-append-seam}
 use lib.Dec.{ltb}
 use borrow.Author.Tests.{ltb-true, ltb-false}
@@ -58,7 +58,7 @@ module _ (f : ℕ → ℕ) (n : ℕ) (l : List ℕ) (fits : n ≤ length l) (zer
           ap (λ (m : ℕ). getD (tab f 0 n ++ drop n l) m 0) q ∙ getD-append-add (tab f 0 n) (drop n l) (code - n) 0
           ∙ getD-drop n l (code - n) 0 ∙ zeros (n + (code - n)) ∙ past h
 
-pub zeros : (n j : ℕ) → getD {A = ℕ} (replicate n 0) j 0 ≡ 0
+zeros : (n j : ℕ) → getD {A = ℕ} (replicate n 0) j 0 ≡ 0
 zeros zero j = refl
 zeros (suc n) zero = refl
 zeros (suc n) (suc j) = zeros n j
@@ -74,11 +74,17 @@ past-first : (scope : Scope) (level code : ℕ) → 32 ≤ code → 0 ≡ number
 past-first All level code h = rw (past-codes level code (omega arith))
 past-first Lists level code h = rw (past-codes level code (omega arith))
 
--- so a table of opaque's number, whose first row is stored, has the class of every code
-pub classed : (scope : Scope) (level : ℕ) (l ns : List ℕ) → length l ≡ 1024 → ((j : ℕ) → getD l j 0 ≡ 0) → ns ≡ sets l 0 (tab (numberBy scope level) 0 32) → Classed scope level ns
-classed scope level l ns size none e = record {
+-- so a table of 1,024 times opaque's number, whose first row is stored, has the class of every code
+pub classed : (scope : Scope) (level : ℕ) {ns : List ℕ} → ns ≡ sets (replicate 1024 0) 0 (tab (numberBy scope level) 0 32) → Classed scope level ns
+classed scope level e = record {
   size = ap length e ∙ length-sets l 0 (tab (numberBy scope level) 0 32) ∙ size;
   each = λ code. ap (λ (m : List ℕ). numbered (getD m code 0)) e
-      ∙ ap numbered (entry (numberBy scope level) 32 l (omega (arith, size)) none code (past-first scope level code))
+      ∙ ap numbered (entry (numberBy scope level) 32 l (omega (arith, size)) (zeros 1024) code (past-first scope level code))
       ∙ numbered-number (named (classBy scope level code));
 }
+  where
+    l : List ℕ
+    l = replicate 1024 0
+
+    size : length l ≡ 1024
+    size = length-replicate {A = ℕ} 1024 0

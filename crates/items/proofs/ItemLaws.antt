@@ -6,6 +6,7 @@ use mathlib.Core.Bool.{Bool, true, false}
 use lib.ListN.{length}
 use lib.Dec.{ltb, leb, eqb, lit≤}
 use borrow.Author.Tests.{ltb-true, ltb-false, leb-true, eqb-true, eqb-false, eq-eqb, ne-eqb}
+use native.Mathlib.Nat.{add-zero}
 use native.Mathlib.Omega.{arith}
 use Rattle.format.specs.Tests.{pick, _and_}
 use Rattle.format.specs.Bits.{Order, ub}
@@ -20,9 +21,11 @@ use Rattle.bits.proofs.FieldLaws.{num-one}
 use Rattle.bits.specs.declared.BitPlace.{BitPlace}
 use Rattle.bits.specs.declared.Got.{Got}
 use Rattle.bits.specs.declared.Got.the-variants.{Value, Fault}
-use Rattle.items.specs.Kinds.{formatOf, spelt, rangeFault}
+use Rattle.items.specs.Kinds.{formatOf, spelt, rangeFault, byBits, Told}
 use Rattle.items.specs.declared.Item.{Item}
 use Rattle.items.specs.declared.Item.the-variants.{U32, I32, Time, Float, Uint16, Byte, Enum, BlendMode, Count}
+use Rattle.items.specs.declared.Spelled.{Spelled}
+use Rattle.items.specs.declared.Spelled.the-variants as spelled
 use Rattle.items.proofs.VarLaws.{IsByte, byte-is, room-is, room-not, Below, var-below}
 
 -- ---- what an answer tells a caller
@@ -42,6 +45,20 @@ shown-one a b e = num-one a b (go (numOf a) (numOf b) (ap (λ (r : Reading). r .
     go (num v p) (bad e) c z = clash cc
     go (bad e) (num v p) c z = clash cc
     go (bad e) (bad f) c z = let d : e ≡ f = cc in ap bad d
+
+-- and none that names the whole byte behind the number, in both counts
+pub spelled-one : (a b : Spelled) → Told a → Told b → showNum (numOf (byBits a)) ≡ showNum (numOf (byBits b)) → a ≡ b
+spelled-one a b s t e = go a b s t (ap numOf (shown-one (byBits a) (byBits b) e))
+  where
+    go : (a b : Spelled) → Told a → Told b → numOf (byBits a) ≡ numOf (byBits b) → a ≡ b
+    go (spelled.Value v w) (spelled.Value x y) s t e =
+        let d : v ≡ x = cc in
+        let f : w .bit .0 ≡ y .bit .0 = cc in
+        let g : w .byte .0 ≡ y .byte .0 = omega arith in
+        λ i. spelled.Value (d i) (record { byte = record { 0 = g i }; bit = record { 0 = f i } })
+    go (spelled.Value v w) (spelled.Fault z) s t e = clash cc
+    go (spelled.Fault z) (spelled.Value v w) s t e = clash cc
+    go (spelled.Fault y) (spelled.Fault z) s t e = let d : y ≡ z = cc in ap spelled.Fault d
 
 -- ---- a Float and a Uint16: bytes, lowest first
 module _ (o : Order) (s : List ℕ) where
@@ -171,10 +188,22 @@ module _ (o : Order) (b : List ℕ) (p : ℕ) (k : Item) {q : ℕ} {r : Got} (sk
   item-out {v} {e} h f n = sym (item-clean o b p k (numOf r) skip bytes ∙ rw (h, ← f, ne-eqb e 0 n))
 
 -- a Time has no range
-pub item-time : (o : Order) (b : List ℕ) (p : ℕ) {q : ℕ} (r : Got) → readAlign o b p ≡ shows [] q → numOf r ≡ spelt o Time b q → showNum (numOf r) ≡ run o b (formatOf Time) p
+item-time : (o : Order) (b : List ℕ) (p : ℕ) {q : ℕ} (r : Got) → readAlign o b p ≡ shows [] q → numOf r ≡ spelt o Time b q → showNum (numOf r) ≡ run o b (formatOf Time) p
 unfolding rangeFault
 item-time o b p (Value v z) skip bytes = item-in o b p Time skip bytes refl refl
 item-time o b p (Fault e) skip bytes = item-bad o b p Time skip bytes refl
+
+-- from a whole byte on nothing is skipped
+whole-skips : (o : Order) (b : List ℕ) (i p : ℕ) → p ≡ 8 * i → readAlign o b p ≡ shows [] p
+unfolding ub
+whole-skips o b i p at = let z : skipped p ≡ 0 = omega arith in rw (z, add-zero p)
+
+pub time-whole : (o : Order) (b : List ℕ) (i p : ℕ) (r : Got) → p ≡ 8 * i → numOf r ≡ spelt o Time b p → showNum (numOf r) ≡ run o b (formatOf Time) p
+time-whole o b i p r at bytes = item-time o b p r (whole-skips o b i p at) bytes
+
+-- a kind is read from a place as from the whole byte that it is aligned to
+pub item-aligned : (o : Order) (b : List ℕ) (i p q : ℕ) (k : Item) → readAlign o b p ≡ shows [] q → q ≡ 8 * i → run o b (formatOf k) p ≡ run o b (formatOf k) q
+item-aligned o b i p q k skip at = item-clean o b p k (spelt o k b q) skip refl ∙ sym (item-clean o b q k (spelt o k b q) (whole-skips o b i q at) refl)
 
 -- ---- bounds of the numbers that are shown
 spelt-below : (o : Order) (k : Item) (b : List ℕ) (q : ℕ) → Below (2 ^ 64) (spelt o k b q)

@@ -30,6 +30,10 @@ module _ (s : List ℕ) (i p : ℕ) (at : p ≡ 8 * i) where
 pub byte-is : (o : Order) (s : List ℕ) (i p : ℕ) → p ≡ 8 * i → {x : ℕ} → IsByte s i x → ub o s p 8 ≡ x
 byte-is o s i p at y = rw at (sym (ub-first o s i y))
 
+-- a number's place may be any that is equal
+pub num-at : {v p q : ℕ} {w : Num} → q ≡ p → num v p ≡ w → num v q ≡ w
+num-at e h = rw e h
+
 -- ---- what a spelling of at most k + 1 bytes stays below
 cap-two : (k top : ℕ) → 1 ≤ top → 2 ≤ cap k top
 cap-two zero top t = omega arith

@@ -2,14 +2,19 @@
 use Prim.Native.Nat.{ℕ, zero, suc, _*_, _+_}
 use mathlib.Core.Bool.{Bool}
 use mathlib.Core.List.{List}
+use mathlib.Core.Path.{_≡_}
 use lib.Dec.{ltb, leb}
 use Rattle.format.specs.Tests.{pick, _and_, _or_}
 use Rattle.format.specs.Bits.{Order}
 use Rattle.format.specs.Formats.{Format}
 use Rattle.format.specs.Items.{Num, u32, i32, time, float, uint16, byte, enum, count, readU32, readU64, readLE, readUB, mapNum, notOne, sign}
 use Rattle.format.specs.Bodies.{blendMode}
+use Rattle.bits.specs.declared.Got.{Got}
+use Rattle.bits.specs.declared.Got.the-variants as got
 use Rattle.items.specs.declared.Item.{Item}
 use Rattle.items.specs.declared.Item.the-variants.{U32, I32, Time, Float, Uint16, Byte, Enum, BlendMode, Count}
+use Rattle.items.specs.declared.Spelled.{Spelled}
+use Rattle.items.specs.declared.Spelled.the-variants.{Value, Fault}
 
 -- the format of a kind; a Count goes to 4,096
 abbrev pub formatOf : Item → Format
@@ -59,3 +64,13 @@ canEnd k top b = ltb 0 b and (ltb 0 k or leb b top)
 abbrev pub cap : ℕ → ℕ → ℕ
 cap zero top = top + 1
 cap (suc k) top = 128 * cap k top
+
+-- an answer with its bit place alone
+abbrev pub byBits : Spelled → Got
+byBits (Value v w) = got.Value v (w .bit)
+byBits (Fault e) = got.Fault e
+
+-- the place behind a number is the same in both counts
+abbrev pub Told : Spelled → Type 0
+Told (Value v w) = w .bit .0 ≡ 8 * w .byte .0
+Told (Fault e) = Unit {0}

@@ -4,7 +4,7 @@ ghost use Prim.Native.Nat.{_+_, _*_, _^_, _≤_, _<_};
 ghost use lib.ListN.{length};
 ghost use Rattle.format.specs.Items.{num, showNum, run, readLE, readUB};
 ghost use Rattle.bits.specs.Places.{PlaceIn, numOf, orderOf, InEither};
-ghost use Rattle.items.specs.Kinds.{formatOf, spelt, between as within, rangeFault};
+ghost use Rattle.items.specs.Kinds.{formatOf, spelt, between as within, rangeFault, byBits, Told};
 ghost use Rattle.items.specs.declared.Item.the-variants.{Time};
 
 mod var;
@@ -14,6 +14,7 @@ use bits::BitPlace;
 use bits::BytePlace;
 use bits::Got;
 use bits::Order;
+use bits::Whole;
 
 // An Enum goes from 0 to its top, a Count from its least to 4,096. Each is one byte, so that a kind is two: counted, it is handed on in a register so.
 pub enum Item {
@@ -26,6 +27,12 @@ pub enum Item {
     Enum(u8),
     BlendMode,
     Count(u8),
+}
+
+// A number and the whole byte behind it, in both counts; or a reason.
+pub enum Spelled {
+    Value(u64, Whole),
+    Fault(u32),
 }
 
 // One byte. Whole bytes are the same in either order.
@@ -153,13 +160,10 @@ pub fn read_item(order: Order, kind: Item, body: &[u8], at: BitPlace) -> Got
     }
 }
 
-// A Time, as `read_item` reads it, for many of them in turn: nothing asks for its kind. By `read_var`, since `read_u64` with a second caller would not come in line.
-pub fn read_time(order: Order, body: &[u8], at: BitPlace) -> Got
-    requires { ⌜ PlaceIn (now body) (at .0) ⌝ }
-    ensures { λ r. ⌜ showNum (numOf r) ≡ run (orderOf order) (now (body .entry)) (formatOf Time) (at .0) ⌝ }
+// A Time from a whole byte on, for many of them in turn: nothing asks for its kind. By `read_var`, since `read_u64` with a second caller would not come in line.
+pub fn read_time(body: &[u8], at: Whole) -> Spelled
+    requires { ⌜ PlaceIn (now body) (at .bit .0) × (at .bit .0 ≡ 8 * at .byte .0) ⌝ }
+    ensures { λ r. ⌜ InEither (λ o. showNum (numOf (byBits r)) ≡ run o (now (body .entry)) (formatOf Time) (at .bit .0)) × Told r ⌝ }
 {
-    match bits::align(order, body, at) {
-        Aligned::Clean(byte, bit) => var::read_var(body, byte, bit, 9, 1),
-        Aligned::Unclean => Got::Fault(15),
-    }
+    var::read_var(body, at.byte, at.bit, 9, 1)
 }

@@ -13,30 +13,30 @@ use Rattle.format.specs.Tests.{pick}
 use Rattle.format.specs.Bits.{Order}
 use Rattle.format.specs.Reading.{Ending, At, Fault, Reading}
 use Rattle.format.specs.Items.{toByte}
-use Rattle.format.specs.Bodies.{toEnd, readBody}
+use Rattle.format.specs.Bodies.{fixed, attributes, toEnd, readBody}
 use Rattle.format.specs.FileAndTags as paper
-use Rattle.format.specs.FileAndTags.{le16, container, isEnd, isContainer, isRead, stateOf, Tag, Outcome, whole, fault, Walk, noTags, broken, chain, head, noHead, readHead, blame, atEnd, afterTag, TagInside, endAt, leaf, opened, within, tagThen, walkList}
+use Rattle.format.specs.FileAndTags.{le16, stateOf, Tag, Outcome, whole, fault, Walk, noTags, broken, chain, head, noHead, readHead, blame, atEnd, afterTag, TagInside, endAt, leaf, opened, within, tagThen, walkList}
 use Rattle.format.specs.TableOfNumbers.{numbers, tagTable}
 use Rattle.format.proofs.EngineLaws.{chain-chain, numbers-append, tagTable-append}
 use Rattle.format.proofs.ListLaws.{list-nil, list-fault, list-tag}
-use Rattle.format.proofs.RoomLaws.{FairClass, Room, walk-room, tag-table-length}
+use Rattle.format.proofs.RoomLaws.{Room, walk-room, tag-table-length}
 use Rattle.format.proofs.WalkLaws.{Fits, head-fits}
 use Rattle.format.proofs.Absurd.{clash}
 use Rattle.table.proofs.EngineLaws.{sets-append}
 use Rattle.attributes.specs.Rows.{attributesOf}
 use Rattle.fixed.specs.Fixed.{fixedOf}
-use Rattle.bodies.specs.Leaf.{leafBody, containerBody, hasListIn}
-use Rattle.classes.specs.Classes.{bare, ends, contains, classBy, Classed}
+use Rattle.bodies.specs.Leaf.{containerBody, hasListIn}
+use Rattle.classes.specs.Classes.{bare, ends, contains}
 use Rattle.classes.specs.declared.Class.{Class}
 use Rattle.classes.specs.declared.Class.the-variants.{Opaque, End, Container, Fixed, Attributes}
-use Rattle.classes.specs.declared.Scope.{Scope}
-use Rattle.classes.proofs.ClassLaws.{Right, spelt, fair-by, taken-by}
 use Rattle.headers.specs.Heads.{headBy}
 use Rattle.headers.proofs.HeadLaws.{head-by}
 use Rattle.tags.specs.Shown.{valuesOf, listOf}
+use Rattle.tags.specs.Lent.{classWith, classIn, classesIn, Tabled}
 use Rattle.tags.proofs.TagLaws.{values-le}
+use Rattle.tags.proofs.LentLaws.{fair-in, with-named}
 use Rattle.bits.specs.declared.BytePlace.{BytePlace}
-use Rattle.lists.specs.Lists.{ownerOf, byteAt, classWith, classIn, classesIn, Tabled, tagShown, stepOf, Stepped, stepped, tagAt, lastOf, Listed, listed, walkedOf, walkOver, Bounds}
+use Rattle.lists.specs.Lists.{ownerOf, byteAt, tagShown, stepOf, Stepped, stepped, tagAt, lastOf, Listed, listed, walkedOf, walkOver, Bounds}
 use Rattle.lists.specs.declared.Owner.{Owner}
 use Rattle.lists.specs.declared.Opened.{Opened}
 use Rattle.lists.specs.declared.Step.{Step}
@@ -80,34 +80,6 @@ abbrev pub insideOf : Order → (paper.Owner → ℕ → List ℕ → Walk) → 
 insideOf o R c code a s body =
     record { values = valuesOf o c code body .shown; walk = walkOf R (listOf o c code body) a s body (valuesOf o c code body .ended) }
 
--- the bodies of the codes are the classes'
-pub right : Right leafBody (λ code. container (containerBody code))
-unfolding leafBody containerBody fixedOf attributesOf
-right = refl
-
--- the classes of a table are those of its level, and no list needs more room by them
-with-spelt : (c : Class) (code : ℕ) → classWith c code ≡ spelt leafBody (λ code. container (containerBody code)) c code
-with-spelt Opaque code = refl
-with-spelt End code = refl
-with-spelt Container code = refl
-with-spelt Fixed code = refl
-with-spelt Attributes code = refl
-
-pub class-level : (ns : List ℕ) (scope : Scope) (level : ℕ) → Classed scope level ns → (code : ℕ) → classesIn ns code ≡ classBy scope level code
-class-level ns scope level k code =
-    with-spelt (classIn ns code) code ∙ ap (λ (c : Class). spelt leafBody (λ code. container (containerBody code)) c code) (k .each code) ∙ sym (taken-by leafBody containerBody right scope level code)
-
-pub fair-in : (o : Order) {ns : List ℕ} → Tabled ns → (code : ℕ) → FairClass o (classesIn ns code)
-fair-in o {ns} k code = subst (FairClass o) (sym (class-level ns (k .scope) (k .level) (k .classed) code)) (fair-by o (k .scope) (k .level) code)
-
--- the rules that look at the name alone
-pub with-named : (c : Class) (code : ℕ) → (isEnd (classWith c code) ≡ ends c) × (isContainer (classWith c code) ≡ contains c) × (isRead (classWith c code) ≡ isRead (bare c))
-with-named Opaque code = (refl, refl, refl)
-with-named End code = (refl, refl, refl)
-with-named Container code = (refl, refl, refl)
-with-named Fixed code = (refl, refl, refl)
-with-named Attributes code = (refl, refl, refl)
-
 pub within-is : (o : Order) (R : paper.Owner → ℕ → List ℕ → Walk) (ns : List ℕ) (code a s : ℕ) (body : List ℕ)
     → within o R (classesIn ns code) a s body ≡ insideOf o R (classIn ns code) code a s body
 within-is o R ns code a s body = go (classIn ns code)
@@ -132,8 +104,8 @@ within-is o R ns code a s body = go (classIn ns code)
     go Opaque = refl
     go End = refl
     go Container = own (hasListIn o (containerBody code) body) (toEnd o body (containerBody code)) (readBody o (containerBody code) body)
-    go Fixed = leaf-is (readBody o (leafBody code) body)
-    go Attributes = leaf-is (readBody o (leafBody code) body)
+    go Fixed = leaf-is (readBody o (fixed (fixedOf code)) body)
+    go Attributes = leaf-is (readBody o (attributes (attributesOf code)) body)
 
 -- what a step says of the class c and of the walk w inside the tag, whose body stands from `start` up to `stop` of the list at place a
 abbrev Follows : (paper.Owner → ℕ → List ℕ → Walk) → ℕ → ℕ → ℕ → ℕ → List ℕ → Class → Walk → ℕ → Step → Type 0

@@ -23,7 +23,8 @@ use Rattle.classes.specs.declared.Class.{Class}
 use Rattle.headers.specs.Heads.{asHead, headBy}
 use Rattle.headers.specs.declared.Head.the-variants as heads
 use Rattle.headers.specs.declared.Header.{Header}
-use Rattle.lists.specs.Lists.{ownerOf, byteAt, classIn, tagShown, nextBy, stepOf, Stepped, stepped, tagAt, tagIn, lastOf}
+use Rattle.lists.specs.Lists.{ownerOf, byteAt, tagShown, nextBy, stepOf, Stepped, stepped, tagAt, tagIn, lastOf}
+use Rattle.tags.specs.Lent.{classIn}
 use Rattle.tags.specs.Shown.{valuesOf, listOf, headed}
 use Rattle.tags.proofs.TagLaws.{values-le}
 use Rattle.lists.specs.declared.Owner.{Owner}

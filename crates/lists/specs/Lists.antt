@@ -2,7 +2,7 @@
 use Prim.Native.Nat.{ℕ, _+_, _-_, _*_, _/_, _≤_}
 use mathlib.Core.Bool.{Bool}
 use mathlib.Core.List.{List, [], _∷_}
-use lib.ListN.{length, getD, take, drop}
+use lib.ListN.{length, take, drop}
 use lib.Seq.{sets}
 use lib.Dec.{eqb}
 use Rattle.format.specs.Bits.{Order}
@@ -13,13 +13,12 @@ use Rattle.format.specs.Items.{toByte}
 use Rattle.format.specs.FileAndTags as paper
 use Rattle.format.specs.FileAndTags.{le16, stateOf, Outcome, whole, fault, Walk, blame}
 use Rattle.format.specs.TableOfNumbers.{numbers, tagTable}
-use Rattle.bodies.specs.Leaf.{leafBody, containerBody}
-use Rattle.classes.specs.Classes.{bare, numbered, Classed}
-use Rattle.classes.specs.declared.Scope.{Scope}
+use Rattle.classes.specs.Classes.{bare}
 use Rattle.classes.specs.declared.Class.{Class}
 use Rattle.classes.specs.declared.Class.the-variants.{Opaque, End, Container, Fixed, Attributes}
 use Rattle.headers.specs.Heads.{headBy}
 use Rattle.bits.specs.declared.BytePlace.{BytePlace}
+use Rattle.tags.specs.Lent.{classIn}
 use Rattle.tags.specs.Shown.{valuesOf, listOf, headed}
 use Rattle.lists.specs.declared.Owner.{Owner}
 use Rattle.lists.specs.declared.Owner.the-variants.{File, Container}
@@ -35,28 +34,6 @@ ownerOf (Container c) = paper.inside (c .0)
 -- the byte place n
 abbrev pub byteAt : ℕ → BytePlace
 byteAt n = record { 0 = n }
-
--- ---- the classes that a walk goes by, lent as numbers
-
--- the class of this name that a code has
-abbrev pub classWith : Class → ℕ → paper.Class
-classWith Opaque code = paper.opaque
-classWith End code = paper.end
-classWith Container code = paper.container (containerBody code)
-classWith Fixed code = paper.known (leafBody code)
-classWith Attributes code = paper.known (leafBody code)
-
-abbrev pub classIn : List ℕ → ℕ → Class
-classIn ns code = numbered (getD ns code 0)
-
-abbrev pub classesIn : List ℕ → ℕ → paper.Class
-classesIn ns code = classWith (classIn ns code) code
-
--- they are those of a level
-pub record Tabled (ns : List ℕ) : Type 0 where
-  pub scope : Scope
-  pub level : ℕ
-  pub classed : Classed scope level ns
 
 -- ---- one tag
 

@@ -22,10 +22,12 @@ use Rattle.classes.specs.Classes.{classBy, Classed}
 use Rattle.classes.specs.declared.Scope.{Scope}
 use Rattle.classes.specs.declared.Scope.the-variants.{Lists}
 use Rattle.bits.specs.declared.BytePlace.{BytePlace}
-use Rattle.lists.specs.Lists.{byteAt, classesIn, Listed, listed, walkedOf, walkOver, Bounds}
+use Rattle.lists.specs.Lists.{byteAt, Listed, listed, walkedOf, walkOver, Bounds}
+use Rattle.tags.specs.Lent.{classesIn}
 use Rattle.lists.specs.declared.Walked.{Walked}
 use Rattle.lists.specs.declared.Walked.the-variants.{Next, Fault}
-use Rattle.lists.proofs.ListLaws.{piece, piece-rest, length-piece, class-level}
+use Rattle.lists.proofs.ListLaws.{piece, piece-rest, length-piece}
+use Rattle.tags.proofs.LentLaws.{class-level}
 use Rattle.reader.specs.Survey.{surveyed}
 use Rattle.reader.proofs.SkimLaws.{skim-rows}
 

@@ -113,6 +113,17 @@ module _ (o : Order) (b : List ℕ) (t : List ℕ) (k : ℕ) where
   times-stop zero f p h e = absurd (omega arith)
   times-stop (suc n) f p h e = sym (then-stop f (λ xs. times n f) p e)
 
+  -- none of them
+  pub times-none : (n : ℕ) (f : Format) (p : ℕ) → n ≡ 0 → state t k (At p) ≡ shownOver t k (run o b (times n f) p)
+  unfolding times run
+  times-none n f p e = rw e (sym (after-none t k p))
+
+-- n times a format is read alike from where one is
+pub times-alike : (o : Order) (b : List ℕ) (n : ℕ) (f : Format) (p q : ℕ) → 0 < n → run o b f p ≡ run o b f q → run o b (times n f) p ≡ run o b (times n f) q
+unfolding times run
+times-alike o b zero f p q h e = absurd (omega arith)
+times-alike o b (suc n) f p q h e = rw e
+
 -- ---- a format that takes a bit at least for every number keeps the index in bounds
 pub fits-after : (o : Order) (b t : List ℕ) (f : Format) {u : List ℕ} {p k j q : ℕ} → Fair o 0 f → Fits b p k → state u j (At q) ≡ shownOver t k (run o b f p) → Fits b q j
 unfolding shownOver

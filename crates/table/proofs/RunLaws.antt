@@ -2,11 +2,11 @@
 use Prim.Native.Nat.{ℕ, zero, suc, _+_, _-_, _<_}
 use mathlib.Core.List.{List, [], _∷_}
 use mathlib.Core.Path.{_≡_, refl, ap, sym, _∙_}
-use lib.ListN.{length}
+use lib.ListN.{length, set}
 use lib.Seq.{length-sets}
 use native.Mathlib.Omega.{arith}
 use Rattle.format.specs.Bits.{Order}
-use Rattle.format.specs.Reading.{Ending, At, shows, stop}
+use Rattle.format.specs.Reading.{Ending, At, Fault, shows, stop}
 use Rattle.format.specs.Formats.{Item, Format, nothing, item, _▹_, _▸_, times}
 use Rattle.format.specs.Items.{run, readItem, u32, byte}
 use Rattle.format.proofs.SizeLaws.{Fair, fair-byte, fair-only}
@@ -16,6 +16,7 @@ use Rattle.bits.specs.declared.Aligned.the-variants.{Clean, Unclean}
 use Rattle.bits.specs.declared.BitPlace.{BitPlace}
 use Rattle.bits.specs.declared.BytePlace.{BytePlace}
 use Rattle.bits.proofs.FieldLaws.{align-clean, align-unclean}
+use Rattle.items.proofs.ItemLaws.{item-unclean, item-aligned}
 use Rattle.items.specs.Kinds.{formatOf}
 use Rattle.items.specs.declared.Item.{Item as Kind}
 use Rattle.items.specs.declared.Item.the-variants.{U32, I32, Time, Float, Uint16, Byte, Enum, BlendMode, Count}
@@ -24,7 +25,7 @@ use Rattle.table.specs.Run.{runLeaves}
 use Rattle.table.specs.Fields.{Fits}
 use Rattle.table.specs.declared.Run.{Run}
 use Rattle.table.specs.declared.Run.the-variants.{Done, Stop}
-use Rattle.table.proofs.EngineLaws.{state, after-none, one-stored, then-done, then-stop, fits-after}
+use Rattle.table.proofs.EngineLaws.{state, after-none, one-stored, one-stopped, then-done, then-stop, times-stop, times-alike, fits-after}
 
 -- a call that read f, and g after it
 module _ (o : Order) (b t : List ℕ) (k : ℕ) (f : Format) (p : ℕ) {u : List ℕ} {R : Run} (ran : runLeaves u R ≡ shownOver t k (run o b f p)) where
@@ -59,6 +60,13 @@ module _ (o : Order) {s t₀ : List ℕ} {k p₀ : ℕ} {t : List ℕ} {p j : �
 
     pub going-stop : {u : List ℕ} {R : Run} {e i : ℕ} → R ≡ Stop e i → runLeaves u R ≡ shownOver t j (run o s f p) → runLeaves u R ≡ shownOver t₀ k (run o s whole p₀)
     going-stop e ran = run-stop o s t j f p ran (λ xs. more) e ∙ sym whole-is
+
+    -- the same where f is one item: it showed a number, which is stored; it stopped
+    pub going-one : {u : List ℕ} {v q : ℕ} → Fair o 0 f → run o s f p ≡ shows (v ∷ []) q → u ≡ set t j v → Going o s t₀ k whole p₀ u q (j + 1) more
+    going-one {q = q} h e d = going-next {R = Done (record { 0 = q }) (j + 1)} {q = record { 0 = q }} h refl (one-stored t j e d)
+
+    pub going-never : {e : ℕ} → run o s f p ≡ stop e → state t j (Fault e) ≡ shownOver t₀ k (run o s whole p₀)
+    going-never {e} h = going-stop {R = Stop e j} refl (one-stopped t j h)
 
   pub going-done : rest ≡ nothing → state t j (At p) ≡ shownOver t₀ k (run o s whole p₀)
   unfolding run
@@ -102,6 +110,13 @@ module _ (o : Order) (b : List ℕ) (p : ℕ) where
 
   pub align-fits : {i : BytePlace} {q : BitPlace} {k : ℕ} → alignedAt o b p ≡ Clean i q → Fits b p k → Fits b (q .0) k
   align-fits e h = let f = align-clean o b p e in ((omega (arith, f .1, f .2, f .3, h .0 .0), h .0 .1), omega (arith, f .2, h .1))
+
+  -- n items of a kind, one at least: read as from the whole byte, or not at all
+  pub align-items : (kind : Kind) (n : ℕ) {i : BytePlace} {q : BitPlace} → 0 < n → alignedAt o b p ≡ Clean i q → run o b (times n (formatOf kind)) p ≡ run o b (times n (formatOf kind)) (q .0)
+  align-items kind n {i} {q} h e = let f = align-clean o b p e in times-alike o b n (formatOf kind) p (q .0) h (item-aligned o b (i .0) p (q .0) kind (f .0) (f .1))
+
+  pub align-no-items : (kind : Kind) (n : ℕ) (t : List ℕ) (k : ℕ) → 0 < n → alignedAt o b p ≡ Unclean → state t k (Fault 15) ≡ shownOver t k (run o b (times n (formatOf kind)) p)
+  align-no-items kind n t k h e = sym (times-stop o b t k n (formatOf kind) p h (one-stopped t k (item-unclean o b p kind (align-unclean o b p e))))
 
 -- ---- no second answer fits an engine's promise: what a run left, seen as a state, tells the table and the answer
 pub one-run : (t u : List ℕ) (a b : Run) → runLeaves t a ≡ runLeaves u b → (t ≡ u) × (a ≡ b)

@@ -1,6 +1,6 @@
 // Items of one kind in turn.
 ghost use mathlib.Core.Path.{_≡_};
-ghost use Prim.Native.Nat.{_≤_, _<_, _^_};
+ghost use Prim.Native.Nat.{_*_, _≤_, _<_, _^_};
 ghost use Rattle.format.specs.Formats.{times};
 ghost use Rattle.format.specs.Items.{run, float};
 ghost use Rattle.items.specs.Kinds.{formatOf};
@@ -8,15 +8,17 @@ ghost use Rattle.items.specs.declared.Item.the-variants.{Time};
 ghost use Rattle.table.specs.State.{shownOver};
 ghost use Rattle.table.specs.Run.{runLeaves};
 ghost use Rattle.table.specs.Fields.{Fits};
-ghost use Rattle.bits.specs.Places.{orderOf};
+ghost use Rattle.bits.specs.Places.{orderOf, InEither};
 use crate::Run;
 use crate::put;
 use crate::read_one;
 use crate::room_for;
+use bits::Aligned;
 use bits::BitPlace;
-use bits::Got;
 use bits::Order;
+use bits::Whole;
 use items::Item;
+use items::Spelled;
 
 // n items, one by one.
 pub fn read_items(
@@ -46,22 +48,30 @@ pub fn read_items(
     Run::Done(place, index)
 }
 
-// One Time.
-fn read_one_time(order: Order, body: &[u8], at: BitPlace, table: &mut [u64], from: usize) -> Run
-    requires { ⌜ Fits (now body) (at .0) from ⌝ }
-    ensures { λ r. ⌜ runLeaves (now (table .exit)) r ≡ shownOver (now (table .entry)) from (run (orderOf order) (now (body .entry)) (formatOf Time) (at .0)) ⌝ }
+// n Times from a whole byte on: each ends on one, so that none is aligned, and the place is held in both counts. Whole bytes are the same in either order.
+fn read_times_at(count: usize, body: &[u8], at: Whole, table: &mut [u64], from: usize) -> Run
+    requires { ⌜ Fits (now body) (at .bit .0) from × (at .bit .0 ≡ 8 * at .byte .0) ⌝ }
+    ensures { λ r. ⌜ InEither (λ o. runLeaves (now (table .exit)) r ≡ shownOver (now (table .entry)) from (run o (now (body .entry)) (times count (formatOf Time)) (at .bit .0))) ⌝ }
 {
-    let got = items::read_time(order, body, at);
-    match got {
-        Got::Value(value, next) => {
-            put(table, from, value);
-            Run::Done(next, from + 1)
+    let mut place = at;
+    let mut index = from;
+    let mut left = count;
+    while 0 < left {
+        match items::read_time(body, place) {
+            Spelled::Value(value, next) => {
+                put(table, index, value);
+                place = next;
+                index += 1;
+                left -= 1;
+            }
+            Spelled::Fault(why) => return Run::Stop(why, index),
         }
-        Got::Fault(why) => Run::Stop(why, from),
     }
+    let end = place.bit;
+    Run::Done(end, index)
 }
 
-// n Times, one by one: as `read_items` reads them, but nothing asks each for its kind.
+// n Times: as `read_items` reads them, but nothing asks each for its kind, and only the first is aligned.
 pub fn read_times(
     order: Order,
     count: usize,
@@ -73,19 +83,14 @@ pub fn read_times(
     requires { ⌜ Fits (now body) (at .0) from ⌝ }
     ensures { λ r. ⌜ runLeaves (now (table .exit)) r ≡ shownOver (now (table .entry)) from (run (orderOf order) (now (body .entry)) (times count (formatOf Time)) (at .0)) ⌝ }
 {
-    let mut place = at;
-    let mut index = from;
-    let mut left = count;
-    while 0 < left {
-        let run = read_one_time(order, body, place, table, index);
-        let Run::Done(next, behind) = run else {
-            return run;
-        };
-        place = next;
-        index = behind;
-        left -= 1;
+    // Where there is no Time, nothing is skipped.
+    if count == 0 {
+        return Run::Done(at, from);
     }
-    Run::Done(place, index)
+    match bits::align(order, body, at) {
+        Aligned::Clean(byte, bit) => read_times_at(count, body, Whole { byte, bit }, table, from),
+        Aligned::Unclean => Run::Stop(15, from),
+    }
 }
 
 // n Floats. Where all of them stand on whole bytes they show whatever these are, so only those are read that there is room for.

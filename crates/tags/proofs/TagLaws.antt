@@ -11,12 +11,14 @@ use borrow.Author.Tests.{eqb-true}
 use Rattle.format.specs.Bits.{Order}
 use Rattle.format.specs.Tests.{pick}
 use Rattle.format.specs.Reading.{Ending, At, Fault, Reading, shows}
-use Rattle.format.specs.Bodies.{Body, toEnd, usedUp, readBody}
+use Rattle.format.specs.Bodies.{Body, fixed, attributes, toEnd, usedUp, readBody}
 use Rattle.format.specs.FileAndTags.{le64, eights, packed}
 use Rattle.format.proofs.BodyLaws.{end-le}
 use Rattle.format.proofs.PackLaws.{length-eights, eights-at}
 use Rattle.format.proofs.Absurd.{clash}
-use Rattle.bodies.specs.Leaf.{leafBody, containerBody, hasListIn}
+use Rattle.attributes.specs.Rows.{attributesOf}
+use Rattle.fixed.specs.Fixed.{fixedOf}
+use Rattle.bodies.specs.Leaf.{containerBody, hasListIn}
 use Rattle.table.specs.State.{State, shownOver}
 use Rattle.bits.proofs.StoreLaws.{sets-out}
 use Rattle.table.proofs.EngineLaws.{state-eq, after-none}
@@ -96,8 +98,8 @@ values-le o Container code body p e = go (hasListIn o (containerBody code) body)
     go : (list : Bool) → pick list (toEnd o body (containerBody code)) (readBody o (containerBody code) body) .ended ≡ At p → p ≤ 8 * length body
     go true e = end-le o (containerBody code) body p e
     go false e = body-le o (containerBody code) body p e
-values-le o Fixed code body p e = body-le o (leafBody code) body p e
-values-le o Attributes code body p e = body-le o (leafBody code) body p e
+values-le o Fixed code body p e = body-le o (fixed (fixedOf code)) body p e
+values-le o Attributes code body p e = body-le o (attributes (attributesOf code)) body p e
 
 -- ---- an index never falls
 pub index-le : (t : List ℕ) (k : ℕ) (r : Reading) {u : List ℕ} (R : Shown) → shownLeaves u R ≡ shownOver t k r → k ≤ shownIndex R

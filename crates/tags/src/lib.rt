@@ -63,8 +63,8 @@ fn read_tag_values(
         Class::Opaque => pack_bytes(body, table, from),
         Class::End => Shown::Done(BytePlace(0), from),
         Class::Container => bodies::read_container(order, code, body, table, from),
-        Class::Fixed => bodies::read_body(order, code, body, table, from),
-        Class::Attributes => bodies::read_body(order, code, body, table, from),
+        Class::Fixed => bodies::read_leaf(order, false, code, body, table, from),
+        Class::Attributes => bodies::read_leaf(order, true, code, body, table, from),
     }
 }
 
@@ -107,6 +107,22 @@ pub fn state(class: Class, gains: bool) -> u64
     if gains { read + 2 } else { read }
 }
 
+// A tag's first three numbers, by one test where all of them fit.
+fn put_first(table: &mut [u64], from: usize, code: u64, state: u64, count: u64)
+    requires { ⌜ (from < length (now table)) × (from < 2 ^ 60) ⌝ }
+    ensures { λ _. ⌜ now (table .exit) ≡ set (set (set (now (table .entry)) from code) (from + 1) state) (from + 2) count ⌝ }
+{
+    if 3 <= table.len() - from {
+        table[from] = code;
+        table[from + 1] = state;
+        table[from + 2] = count;
+        return;
+    }
+    table::put(table, from, code);
+    table::put(table, from + 1, state);
+    table::put(table, from + 2, count);
+}
+
 // A tag's numbers, with a header of this size: its values are stored first, behind its code, its state and their count. The walk that counts has no room
 // for any of them.
 pub fn show_tag(
@@ -127,9 +143,8 @@ pub fn show_tag(
     }
     let gains = long_on_short(size, body.len() as u32);
     let number = state(class, gains);
-    table::put(table, from, code as u64);
-    table::put(table, from + 1, number);
-    table::put(table, from + 2, (index_behind(shown) - (from + 3)) as u64);
+    let count = (index_behind(shown) - (from + 3)) as u64;
+    put_first(table, from, code as u64, number, count);
     shown
 }
 
@@ -156,6 +171,15 @@ pub fn show_row(
     ensures { λ r. ⌜ now (rows .exit) ≡ sets (now (rows .entry)) row (depth ∷ code ∷ place .0 ∷ size ∷ len ∷ []) ⌝ }
 {
     if rows.len() <= row {
+        return;
+    }
+    // A whole row by one test; one that the end of the tag table cuts, number by number.
+    if 5 <= rows.len() - row {
+        rows[row] = depth;
+        rows[row + 1] = code;
+        rows[row + 2] = place.0 as u32;
+        rows[row + 3] = size;
+        rows[row + 4] = len;
         return;
     }
     put_row(rows, row, depth);

@@ -11,7 +11,7 @@ use Rattle.format.specs.Bits.{AllBytes, Order, orderNamed}
 use Rattle.format.specs.Reading.{Ending, At, Fault}
 use Rattle.format.specs.Bodies.{Body}
 use Rattle.format.specs.FileAndTags as paper
-use Rattle.format.specs.FileAndTags.{container, classOf, Tag, Outcome, whole, fault, Walk, head, rawHead, walkList}
+use Rattle.format.specs.FileAndTags.{classOf, Tag, Outcome, whole, fault, Walk, head, rawHead, walkList}
 use Rattle.format.specs.FileAndTags.{file as ownFile}
 use Rattle.format.specs.Levels.{endOf}
 use Rattle.format.specs.Reasons.{startFault, walkFile}
@@ -19,12 +19,12 @@ use Rattle.format.proofs.Absurd.{clash}
 use Rattle.format.proofs.ByteLaws.{bytes-drop}
 use Rattle.format.proofs.HeadLaws.{HeadIf, Spelling, head-there}
 use Rattle.format.proofs.StartLaws.{GoodStart, good-start, whole-start}
-use Rattle.bodies.specs.Leaf.{leafBody, containerBody, hasListIn, ownPart}
+use Rattle.bodies.specs.Leaf.{containerBody, hasListIn, ownPart}
 use Rattle.classes.specs.Classes.{classAt}
 use Rattle.classes.specs.declared.Class.{Class}
 use Rattle.classes.specs.declared.Class.the-variants.{Opaque, End, Container, Fixed, Attributes}
 use Rattle.classes.proofs.ClassLaws.{spelt, by-code}
-use Rattle.lists.proofs.ListLaws.{right}
+use Rattle.tags.proofs.LentLaws.{itemsOf, rowsOf, right}
 use Rattle.tally.specs.Places.{listStart, listIn, nextBy}
 use Rattle.table.specs.State.{State, shownOver}
 use Rattle.bits.specs.declared.BytePlace.{BytePlace}
@@ -62,9 +62,9 @@ module _ (order level : ℕ) (f : List ℕ) (ended : walkFile order level f .end
 -- ---- the next place, by the name of the class
 module _ (o : Order) (level : ℕ) (f : List ℕ) where
   pub leads-by : (code len s b : ℕ) → Leads o f (classOf level code) s len b → nextBy o (classAt level code) code len s f ≡ b
-  leads-by code len s b x = go (classAt level code) (subst (λ (c : paper.Class). Leads o f c s len b) (by-code leafBody (λ k. container (containerBody k)) right level code) x)
+  leads-by code len s b x = go (classAt level code) (subst (λ (c : paper.Class). Leads o f c s len b) (by-code itemsOf rowsOf containerBody right level code) x)
     where
-      go : (c : Class) → Leads o f (spelt leafBody (λ k. container (containerBody k)) c code) s len b → nextBy o c code len s f ≡ b
+      go : (c : Class) → Leads o f (spelt itemsOf rowsOf containerBody c code) s len b → nextBy o c code len s f ≡ b
       go Opaque x = sym x
       go End x = sym x
       go Container x = sym x

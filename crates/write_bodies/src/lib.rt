@@ -12,7 +12,7 @@ use bits::Order;
 use sink::Body;
 
 // A body that is no attribute block, from a byte place on. No file is longer than 16,777,216 bytes.
-fn write_items(order: Order, code: u32, values: &[u64], out: &mut [u8], at: BytePlace) -> Body
+pub fn write_items(order: Order, code: u32, values: &[u64], out: &mut [u8], at: BytePlace) -> Body
     requires { ⌜ at .0 ≤ 16777218 ⌝ }
     ensures { λ r. ⌜ lainAs (now (out .exit)) r ≡ lies (now (out .entry)) (at .0) (writeBody (orderOf order) (fixed (fixedOf code)) (now (values .entry))) ⌝ }
 {
@@ -40,8 +40,8 @@ pub fn write_body(order: Order, code: u32, values: &[u64], out: &mut [u8], at: B
     }
 }
 
-// The same of a tag that is mostly no block: a fixed one, or a container up to its list, which ends on a whole byte, as a body does. Apart from `write_body`, so that
-// such a body does not pay for the memory of a block, and no depth of lists has it on the stack.
+// The own part of a container, which is mostly no block: up to its list it ends on a whole byte, as a body does. Apart from `write_body`, so that it does not pay for the
+// memory of a block, and no depth of lists has it on the stack.
 pub fn write_plain(order: Order, code: u32, values: &[u64], out: &mut [u8], at: BytePlace) -> Body
     requires { ⌜ at .0 ≤ 16777218 ⌝ }
     ensures { λ r. ⌜ lainAs (now (out .exit)) r ≡ lies (now (out .entry)) (at .0) (writeBody (orderOf order) (leafBody code) (now (values .entry))) ⌝ }

@@ -10,9 +10,10 @@ use lib.ListN.{length, getD, take, drop, drop-of-length-le}
 use lib.Seq.{getD-drop, drop-cons, length-take-le}
 use Rattle.format.specs.Tests.{pick, _and_}
 use Rattle.format.specs.Bits.{Order}
+use Rattle.format.specs.Bodies.{fixed}
 use Rattle.format.specs.FileAndTags as paper
 use Rattle.format.specs.Formats.{the}
-use Rattle.format.specs.FileAndTags.{container, classOf, isEnd, isRead, hasList}
+use Rattle.format.specs.FileAndTags.{container, isEnd, isRead, hasList}
 use Rattle.format.specs.Possible.{Possible, this, cannot}
 use Rattle.format.specs.WritingBodies.{writeBody}
 use Rattle.format.specs.WritingFiles.{Made, made, unpackedAs, claims, fitsState, spellHead, fitsHead, bodyOf, fronted, fill, outTag, headed, unwalkList}
@@ -21,30 +22,31 @@ use Rattle.format.proofs.ListTrip.{ListIf, list-back}
 use Rattle.format.proofs.Absurd.{clash}
 use Rattle.classes.specs.declared.Class.{Class}
 use Rattle.classes.specs.declared.Class.the-variants.{Opaque, End, Container, Fixed, Attributes}
-use Rattle.classes.specs.Classes.{bare, ends, contains, classAt}
-use Rattle.classes.proofs.ClassLaws.{ends-named, spelt, Right, by-code}
+use Rattle.classes.specs.Classes.{bare, ends, contains}
+use Rattle.classes.proofs.ClassLaws.{spelt, Right, taken-by}
+use Rattle.tags.specs.Lent.{classIn, classesIn, Tabled}
+use Rattle.tags.proofs.LentLaws.{itemsOf, class-level, with-named}
 use Rattle.attributes.specs.Rows.{attributesOf}
 use Rattle.fixed.specs.Fixed.{fixedOf}
 use Rattle.bodies.specs.Leaf.{leafBody}
 use Rattle.sink.specs.Lain.{longest}
-use Rattle.write_lists.specs.declared.Wrote.the-variants.{Impossible}
 use Rattle.write_heads.specs.Heads.{keptBytes}
 use Rattle.write_lists.specs.Stood.{Stood, stood, over}
 use Rattle.write_lists.specs.Tags.{hidden, valuesIn, listIn, tooDeep, begun, listOf, shut}
 use Rattle.write_lists.proofs.StoodLaws.{Parts, stood-index, andThen, parts-then, again, over-then}
-use Rattle.write_lists.proofs.TagLaws.{shut-over, shut-place, parts-shut, parts-begun}
+use Rattle.write_lists.proofs.TagLaws.{shut-fell, shut-place, parts-shut, parts-begun}
 
 -- ---- the class of a code, by its name
 
 abbrev holder : ℕ → paper.Class
 holder code = container (leafBody code)
 
-listed : Right leafBody holder
+listed : Right itemsOf leafBody leafBody
 unfolding leafBody fixedOf attributesOf
 listed = refl
 
 abbrev classBy : Class → ℕ → paper.Class
-classBy class code = spelt leafBody holder class code
+classBy class code = spelt itemsOf leafBody leafBody class code
 
 -- ---- a tag of the definitions, as this crate writes it
 
@@ -109,7 +111,7 @@ module _ (o : Order) (code left s n : ℕ) (vs ys : List ℕ) (W : List ℕ → 
           ≡ withList c W (bodyOf (code ∷ s ∷ n ∷ vs) (writeBody o (leafBody code) vs) ys)
       own true = go (writeBody o (leafBody code) vs) (W ys) refl
       own false = leaf-body (writeBody o (leafBody code) vs)
-  fill-is Fixed h = leaf-body (writeBody o (leafBody code) vs)
+  fill-is Fixed h = leaf-body (writeBody o (fixed (fixedOf code)) vs)
   fill-is Attributes h = leaf-body (writeBody o (leafBody code) vs)
 
 -- whether a tag of this class is read, by its name
@@ -144,9 +146,9 @@ module _ (o : Order) (code left : ℕ) (W : List ℕ → Possible Made) where
       go false f = refl
 
 -- ---- the list from index k on, put from place a on
-module _ (o : Order) (level : ℕ) where
+module _ (o : Order) (classes : ℕ → paper.Class) where
   abbrev pub list : ℕ → List ℕ → Possible Made
-  list left ns = unwalkList o (classOf level) left ns
+  list left ns = unwalkList o classes left ns
 
   abbrev pub rest : List ℕ → ℕ → List ℕ → ℕ → ℕ → Possible Stood
   rest t left out a k = over out a k (list left (drop k t))
@@ -156,9 +158,9 @@ module _ (o : Order) (level : ℕ) where
   inner claim class left ns = withList (listOf class ns) (list (left - 1)) (begun o claim class ns)
 
   pub parts-list : (left : ℕ) (ns : List ℕ) → Parts ns (list left ns)
-  parts-list left ns = go (list left ns) (list-back o (classOf level) (length ns) left ns (omega arith))
+  parts-list left ns = go (list left ns) (list-back o classes (length ns) left ns (omega arith))
     where
-      go : (m : Possible Made) → ListIf o (classOf level) left ns m → Parts ns m
+      go : (m : Possible Made) → ListIf o classes left ns m → Parts ns m
       go (this (made xs b ys)) h = h .0
       go cannot h = tt
 
@@ -172,55 +174,60 @@ module _ (o : Order) (level : ℕ) where
   -- the numbers are used up, and End did not come
   pub rest-none : (t out : List ℕ) (left a k : ℕ) → length t ≤ k → cannot ≡ rest t left out a k
   unfolding over
-  rest-none t out left a k h = sym (ap (λ (ns : List ℕ). over out a k (list left ns)) (drop-of-length-le t h) ∙ ap (over out a k) (unlist-nil o (classOf level) left))
+  rest-none t out left a k h = sym (ap (λ (ns : List ℕ). over out a k (list left ns)) (drop-of-length-le t h) ∙ ap (over out a k) (unlist-nil o classes left))
 
   -- what stands in the tag at index k, by its code
   within : List ℕ → ℕ → ℕ → ℕ → Possible Made
-  within t left k code = outTag o (list (pred left)) left (classOf level code) (drop (suc k) t)
+  within t left k code = outTag o (list (pred left)) left (classes code) (drop (suc k) t)
 
   list-one : (t : List ℕ) (left k code : ℕ) → k < length t → code ≡ getD t k 0
-      → list left (drop k t) ≡ headed (claims (the (drop (suc k) t))) code (isEnd (classOf level code)) (within t left k code) (list left)
+      → list left (drop k t) ≡ headed (claims (the (drop (suc k) t))) code (isEnd (classes code)) (within t left k code) (list left)
   unfolding within
   list-one t left k code h is =
-      ap (list left) (drop-cons t k 0 h ∙ ap (λ (x : ℕ). x ∷ drop (suc k) t) (sym is)) ∙ unlist-one o (classOf level) left code (drop (suc k) t)
+      ap (list left) (drop-cons t k 0 h ∙ ap (λ (x : ℕ). x ∷ drop (suc k) t) (sym is)) ∙ unlist-one o classes left code (drop (suc k) t)
 
   pub turn-high : (t out : List ℕ) (left a k : ℕ) → k < length t → 1023 < getD t k 0 → cannot ≡ rest t left out a k
   unfolding over
   turn-high t out left a k h q =
       sym (ap (over out a k)
       (list-one t left k (getD t k 0) h refl
-      ∙ headed-high (claims (the (drop (suc k) t))) (getD t k 0) (isEnd (classOf level (getD t k 0))) (within t left k (getD t k 0)) (list left) q))
+      ∙ headed-high (claims (the (drop (suc k) t))) (getD t k 0) (isEnd (classes (getD t k 0))) (within t left k (getD t k 0)) (list left) q))
 
 -- ---- one turn: the tag at index k, with its code, the name of its class and its claim
-pub record Tag (level : ℕ) (t : List ℕ) (k code : ℕ) (class : Class) (claim : Bool) : Type 0 where
+pub record Tag (cs t : List ℕ) (k code : ℕ) (class : Class) (claim : Bool) : Type 0 where
   pub there : k < length t
   pub is : code ≡ getD t k 0
   pub low : code < 1024
-  pub classed : class ≡ classAt level code
+  pub tabled : Tabled cs
+  pub classed : class ≡ classIn cs code
   pub claimed : claim ≡ claims (getD t (k + 1) 0)
 
-module _ (o : Order) {level : ℕ} {t : List ℕ} {k code : ℕ} {class : Class} {claim : Bool} (g : Tag level t k code class claim) (out : List ℕ) (left a : ℕ) where
+module _ (o : Order) {cs t : List ℕ} {k code : ℕ} {class : Class} {claim : Bool} (g : Tag cs t k code class claim) (out : List ℕ) (left a : ℕ) where
   cons : drop k t ≡ code ∷ drop (suc k) t
   cons = drop-cons t k 0 (g .there) ∙ ap (λ (x : ℕ). x ∷ drop (suc k) t) (sym (g .is))
 
-  class-is : classOf level code ≡ classBy class code
-  class-is = by-code leafBody holder listed level code ∙ ap (λ (c : Class). classBy c code) (sym (g .classed))
+  class-is : classesIn cs code ≡ classBy class code
+  class-is =
+      let m = g .tabled in
+      class-level cs (m .scope) (m .level) (m .classed) code
+      ∙ taken-by itemsOf leafBody leafBody listed (m .scope) (m .level) code
+      ∙ ap (λ (c : Class). classBy c code) (sym (m .classed .each code) ∙ sym (g .classed))
 
   claim-is : claim ≡ claims (the (drop (suc k) t))
   claim-is =
       let n : k + 1 ≡ suc k + 0 = omega arith in
       g .claimed ∙ ap (λ (x : ℕ). claims (getD t x 0)) n ∙ ap claims (sym (getD-drop (suc k) t 0 0))
 
-  one : list o level left (drop k t) ≡ headed claim code (ends class) (within o level t left k code) (list o level left)
+  one : list o (classesIn cs) left (drop k t) ≡ headed claim code (ends class) (within o (classesIn cs) t left k code) (list o (classesIn cs) left)
   one =
-      let e : isEnd (classOf level code) ≡ ends class = ends-named (classOf level code) ∙ ap ends (sym (g .classed)) in
-      list-one o level t left k code (g .there) (g .is) ∙ ap₂ (λ (c b : Bool). headed c code b (within o level t left k code) (list o level left)) (sym claim-is) e
+      let e : isEnd (classesIn cs code) ≡ ends class = with-named (classIn cs code) code .0 ∙ ap ends (sym (g .classed)) in
+      list-one o (classesIn cs) t left k code (g .there) (g .is) ∙ ap₂ (λ (c b : Bool). headed c code b (within o (classesIn cs) t left k code) (list o (classesIn cs) left)) (sym claim-is) e
 
-  last : ends class ≡ true → list o level left (drop k t) ≡ shut claim code (coded code (within o level t left k code))
-  last e = one ∙ rw e (headed-last claim code (within o level t left k code) (list o level left))
+  last : ends class ≡ true → list o (classesIn cs) left (drop k t) ≡ shut claim code (coded code (within o (classesIn cs) t left k code))
+  last e = one ∙ rw e (headed-last claim code (within o (classesIn cs) t left k code) (list o (classesIn cs) left))
 
-  more : ends class ≡ false → list o level left (drop k t) ≡ andThen (shut claim code (coded code (within o level t left k code))) (list o level left)
-  more e = one ∙ rw e (headed-then claim code (within o level t left k code) (list o level left))
+  more : ends class ≡ false → list o (classesIn cs) left (drop k t) ≡ andThen (shut claim code (coded code (within o (classesIn cs) t left k code))) (list o (classesIn cs) left)
+  more e = one ∙ rw e (headed-then claim code (within o (classesIn cs) t left k code) (list o (classesIn cs) left))
 
   -- the bytes kept for its header
   abbrev from : ℕ
@@ -230,15 +237,15 @@ module _ (o : Order) {level : ℕ} {t : List ℕ} {k code : ℕ} {class : Class}
   values = begun o claim class (drop k t)
 
   abbrev whole : Possible Made
-  whole = inner o level claim class left (drop k t)
+  whole = inner o (classesIn cs) claim class left (drop k t)
 
   -- ---- what was put of it: its own values; then, from there, its list, if it has one; last its header
   pub values-alone : listOf class (drop k t) ≡ false → {x : Possible Stood} → x ≡ over out from k values → x ≡ over out from k whole
   values-alone h put = put ∙ rw h
 
-  pub values-list : listOf class (drop k t) ≡ true → {y x : Possible Stood} → y ≡ over out from k values → x ≡ again (list o level (left - 1)) t y → x ≡ over out from k whole
+  pub values-list : listOf class (drop k t) ≡ true → {y x : Possible Stood} → y ≡ over out from k values → x ≡ again (list o (classesIn cs) (left - 1)) t y → x ≡ over out from k whole
   values-list h put e =
-      e ∙ ap (again (list o level (left - 1)) t) put ∙ sym (rw h (over-then t out from k values (list o level (left - 1)) (parts-begun o claim class (drop k t))))
+      e ∙ ap (again (list o (classesIn cs) (left - 1)) t) put ∙ sym (rw h (over-then t out from k values (list o (classesIn cs) (left - 1)) (parts-begun o claim class (drop k t))))
 
   -- ---- an opaque one was put whole
   opaque-is : (c : Class) → hidden c ≡ true → c ≡ Opaque
@@ -250,9 +257,9 @@ module _ (o : Order) {level : ℕ} {t : List ℕ} {k code : ℕ} {class : Class}
 
   pub opaque-put : hidden class ≡ true → {x : Possible Stood} → ((o′ : Order) → x ≡ over out a k (shut claim code (begun o′ claim Opaque (drop k t)))) → x ≡ over out a k (shut claim code whole)
   opaque-put h e =
-      e o ∙ ap (λ (m : Possible Made). over out a k (shut claim code m)) (sym (opaque-alone (drop k t))) ∙ ap (λ (c : Class). over out a k (shut claim code (inner o level claim c left (drop k t)))) (sym (opaque-is class h))
+      e o ∙ ap (λ (m : Possible Made). over out a k (shut claim code m)) (sym (opaque-alone (drop k t))) ∙ ap (λ (c : Class). over out a k (shut claim code (inner o (classesIn cs) claim c left (drop k t)))) (sym (opaque-is class h))
     where
-      opaque-alone : (ns : List ℕ) → withList (listOf Opaque ns) (list o level (left - 1)) (begun o claim Opaque ns) ≡ begun o claim Opaque ns
+      opaque-alone : (ns : List ℕ) → withList (listOf Opaque ns) (list o (classesIn cs) (left - 1)) (begun o claim Opaque ns) ≡ begun o claim Opaque ns
       opaque-alone [] = refl
       opaque-alone (x ∷ []) = refl
       opaque-alone (x ∷ s ∷ []) = refl
@@ -268,46 +275,46 @@ module _ (o : Order) {level : ℕ} {t : List ℕ} {k code : ℕ} {class : Class}
   pub tag-index : (u : List ℕ) (p j : ℕ) → this (stood u p j) ≡ over out a k (shut claim code whole) → (j ≤ length t) × (a + 2 ≤ p) × (p ≤ longest)
   tag-index u p j e =
       let h : k < length t = g .there in
-      let x = stood-index t out a k u p j (shut claim code whole) (omega arith) (parts-shut (drop k t) claim code whole (parts-inner o level claim class left (drop k t))) e in
+      let x = stood-index t out a k u p j (shut claim code whole) (omega arith) (parts-shut (drop k t) claim code whole (parts-inner o (classesIn cs) claim class left (drop k t))) e in
       let y = shut-place out u a k claim code p j whole e in
       (x .1, y .0, y .1)
 
   -- ---- and what follows it
   module _ (deep : Deep class left) where
-    whole-is : coded code (within o level t left k code) ≡ whole
+    whole-is : coded code (within o (classesIn cs) t left k code) ≡ whole
     unfolding within
     whole-is =
         let d : pred left ≡ left - 1 = below left in
-        rw (class-is, d) (tag-is o code left (list o level (left - 1)) claim class (drop (suc k) t) deep claim-is)
-        ∙ ap (λ (ns : List ℕ). inner o level claim class left ns) (sym cons)
+        rw (class-is, d) (tag-is o code left (list o (classesIn cs) (left - 1)) claim class (drop (suc k) t) deep claim-is)
+        ∙ ap (λ (ns : List ℕ). inner o (classesIn cs) claim class left ns) (sym cons)
       where
         below : (n : ℕ) → pred n ≡ n - 1
         below zero = refl
         below (suc n) = omega arith
 
-    pub turn-last : ends class ≡ true → {x : Possible Stood} → x ≡ over out a k (shut claim code whole) → x ≡ rest o level t left out a k
+    pub turn-last : ends class ≡ true → {x : Possible Stood} → x ≡ over out a k (shut claim code whole) → x ≡ rest o (classesIn cs) t left out a k
     turn-last e put = put ∙ sym (ap (over out a k) (last e ∙ ap (shut claim code) whole-is))
 
-    pub turn-more : ends class ≡ false → {x : Possible Stood} → x ≡ over out a k (shut claim code whole) → rest o level t left out a k ≡ again (list o level left) t x
+    pub turn-more : ends class ≡ false → {x : Possible Stood} → x ≡ over out a k (shut claim code whole) → rest o (classesIn cs) t left out a k ≡ again (list o (classesIn cs) left) t x
     turn-more e put =
-        ap (over out a k) (more e ∙ ap (λ (m : Possible Made). andThen (shut claim code m) (list o level left)) whole-is)
-        ∙ over-then t out a k (shut claim code whole) (list o level left) (parts-shut (drop k t) claim code whole (parts-inner o level claim class left (drop k t)))
-        ∙ ap (again (list o level left) t) (sym put)
+        ap (over out a k) (more e ∙ ap (λ (m : Possible Made). andThen (shut claim code m) (list o (classesIn cs) left)) whole-is)
+        ∙ over-then t out a k (shut claim code whole) (list o (classesIn cs) left) (parts-shut (drop k t) claim code whole (parts-inner o (classesIn cs) claim class left (drop k t)))
+        ∙ ap (again (list o (classesIn cs) left) t) (sym put)
 
-    pub turn-fell : cannot ≡ over out a k (shut claim code whole) → cannot ≡ rest o level t left out a k
+    pub turn-fell : cannot ≡ over out a k (shut claim code whole) → cannot ≡ rest o (classesIn cs) t left out a k
     turn-fell put = go (ends class) refl
       where
-        go : (c : Bool) → ends class ≡ c → cannot ≡ rest o level t left out a k
+        go : (c : Bool) → ends class ≡ c → cannot ≡ rest o (classesIn cs) t left out a k
         go true e = turn-last e put
         go false e = sym (turn-more e put)
 
   -- a container without a depth for its list
-  pub turn-deep : contains class ≡ true → left ≡ 0 → cannot ≡ rest o level t left out a k
+  pub turn-deep : contains class ≡ true → left ≡ 0 → cannot ≡ rest o (classesIn cs) t left out a k
   unfolding over within
   turn-deep holds z =
       let is : class ≡ Container = container-is class holds in
-      let e : within o level t left k code ≡ cannot = rw (class-is, is) (tag-deep o code left (list o level (pred left)) (drop (suc k) t) z) in
-      sym (ap (over out a k) (more (ap ends is) ∙ ap (λ (m : Possible Made). andThen (shut claim code (coded code m)) (list o level left)) e))
+      let e : within o (classesIn cs) t left k code ≡ cannot = rw (class-is, is) (tag-deep o code left (list o (classesIn cs) (pred left)) (drop (suc k) t) z) in
+      sym (ap (over out a k) (more (ap ends is) ∙ ap (λ (m : Possible Made). andThen (shut claim code (coded code m)) (list o (classesIn cs) left)) e))
     where
       container-is : (c : Class) → contains c ≡ true → c ≡ Container
       container-is Opaque e = cc
@@ -317,10 +324,10 @@ module _ (o : Order) {level : ℕ} {t : List ℕ} {k code : ℕ} {class : Class}
       container-is Attributes e = cc
 
   -- as the code asks
-  pub turn-too-deep : {c : Bool} → c ≡ tooDeep class left → c ≡ true → cannot ≡ rest o level t left out a k
+  pub turn-too-deep : {c : Bool} → c ≡ tooDeep class left → c ≡ true → cannot ≡ rest o (classesIn cs) t left out a k
   turn-too-deep e h = go (contains class) refl (eqb left 0) refl (sym e ∙ h)
     where
-      go : (c : Bool) → contains class ≡ c → (z : Bool) → eqb left 0 ≡ z → c and z ≡ true → cannot ≡ rest o level t left out a k
+      go : (c : Bool) → contains class ≡ c → (z : Bool) → eqb left 0 ≡ z → c and z ≡ true → cannot ≡ rest o (classesIn cs) t left out a k
       go true p true q d = turn-deep p (eqb-true left 0 q)
       go true p false q d = clash cc
       go false p z q d = clash cc
@@ -332,8 +339,8 @@ module _ (o : Order) {level : ℕ} {t : List ℕ} {k code : ℕ} {class : Class}
       clash cc
 
   -- its own values could not be put
-  pub values-fell : Deep class left → cannot ≡ over out from k values → cannot ≡ rest o level t left out a k
-  values-fell deep put = turn-fell deep (shut-over out out a k claim code Impossible whole (go (listOf class (drop k t)) refl))
+  pub values-fell : Deep class left → cannot ≡ over out from k values → cannot ≡ rest o (classesIn cs) t left out a k
+  values-fell deep put = turn-fell deep (shut-fell out a k claim code whole (go (listOf class (drop k t)) refl))
     where
       go : (c : Bool) → listOf class (drop k t) ≡ c → cannot ≡ over out from k whole
       go false h = values-alone h put

@@ -23,7 +23,6 @@ use Rattle.classes.specs.Classes.{bare}
 use Rattle.table.proofs.EngineLaws.{sets-append}
 use Rattle.sink.specs.declared.Body.{Body}
 use Rattle.sink.specs.declared.Body.the-variants.{To, No}
-use Rattle.bits.specs.declared.BytePlace.{BytePlace}
 use Rattle.sink.specs.Lain.{longest, lain, lies, lainAs}
 use Rattle.write_heads.specs.Heads.{keptBytes, underHead, Closed}
 use Rattle.write_opaque.specs.Headers.{underHeader}
@@ -32,7 +31,7 @@ use Rattle.write_heads.proofs.StoreLaws.{sets-taken, sets-cover}
 use Rattle.write_lists.specs.declared.Wrote.{Wrote}
 use Rattle.write_lists.specs.declared.Wrote.the-variants.{Done, Impossible}
 use Rattle.write_lists.specs.Stood.{stood, over, stoodAs}
-use Rattle.write_lists.specs.Tags.{valuesIn, listIn, listBy, bodyIn, begun, listOf, shut, headAt, shutAs, After, ValuesThere, ValuesEnd}
+use Rattle.write_lists.specs.Tags.{valuesIn, listIn, listBy, bodyIn, begun, listOf, shut, headAt, ValuesThere, ValuesEnd}
 use Rattle.write_lists.proofs.StoodLaws.{StoodBy, stood-by, Parts, parts-of}
 
 -- no tag starts after the longest file's end
@@ -52,31 +51,25 @@ kept-bounds true = (omega arith, omega arith)
 kept-bounds false = (omega arith, omega arith)
 
 -- ---- the header, from the answer of `close`
-module _ (l : List ℕ) (a : ℕ) (claim : Bool) (code : ℕ) (end : BytePlace) (j : ℕ) {W : Wrote} (told : W ≡ Done end j) where
-  abbrev stop : ℕ
-  stop = end .0
-
+module _ (l : List ℕ) (a : ℕ) (claim : Bool) (code stop j : ℕ) where
   abbrev len : ℕ
   len = stop - (a + keptBytes claim)
 
-  pub shut-from : After a claim W → (a + keptBytes claim ≤ stop) × (stop ≤ longest)
-  shut-from h = rw told at h
-
   -- the claim is for a body of 63 bytes or more
-  pub shut-claim : claim ≡ true → 62 < len → cannot ≡ shutAs l a claim code W
-  shut-claim c h = sym (ap (shutAs l a claim code) told ∙ rw (head-long claim code len c h))
+  pub shut-claim : claim ≡ true → 62 < len → cannot ≡ headAt l a claim code len j
+  shut-claim c h = sym (rw (head-long claim code len c h))
 
-  module _ (low : code < 1024) (after : After a claim W) (short : claim ≡ true → len < 63) where
+  module _ (low : code < 1024) (small : stop ≤ longest) (short : claim ≡ true → len < 63) where
     fits : fitsHead claim code len ≡ true
-    fits = head-fits claim code len low (omega (arith, shut-from after .1)) short
+    fits = head-fits claim code len low (omega arith) short
 
-    pub shut-late : {u : List ℕ} {next : ℕ} → Closed l a claim code len u next → longest < next → cannot ≡ shutAs l a claim code W
+    pub shut-late : {u : List ℕ} {next : ℕ} → Closed l a claim code len u next → longest < next → cannot ≡ headAt l a claim code len j
     shut-late {u} {next} c h =
-        sym (ap (shutAs l a claim code) told ∙ rw (fits, lt-leb (a + length (spellHead claim code len) + len) longest (rw (← c .place) h)))
+        sym (rw (fits, lt-leb (a + length (spellHead claim code len) + len) longest (rw (← c .place) h)))
 
-    pub shut-done : {u : List ℕ} {next : ℕ} → Closed l a claim code len u next → next ≤ longest → this (stood u next j) ≡ shutAs l a claim code W
+    pub shut-done : {u : List ℕ} {next : ℕ} → Closed l a claim code len u next → next ≤ longest → this (stood u next j) ≡ headAt l a claim code len j
     shut-done {u} {next} c h =
-        sym (ap (shutAs l a claim code) told ∙ rw (fits, le-leb (a + length (spellHead claim code len) + len) longest (rw (← c .place) h), ← c .put, ← c .place))
+        sym (rw (fits, le-leb (a + length (spellHead claim code len) + len) longest (rw (← c .place) h), ← c .put, ← c .place))
 
 -- the header takes as many bytes as were kept for it, or more
 head-kept : (claim : Bool) (code n : ℕ) → keptBytes claim ≤ length (spellHead claim code n)
@@ -111,11 +104,21 @@ head-over out a k claim code xs b ys = go (fitsHead claim code (length b))
         rw (under-head out b a claim code, q)
 
 -- THE law of the header: what stands behind the bytes kept from a on gets it
-pub shut-over : (out l : List ℕ) (a k : ℕ) (claim : Bool) (code : ℕ) (W : Wrote) (m : Possible Made) → stoodAs l W ≡ over out (a + keptBytes claim) k m
-    → shutAs l a claim code W ≡ over out a k (shut claim code m)
+pub shut-over : (out l : List ℕ) (a k : ℕ) (claim : Bool) (code p j : ℕ) (m : Possible Made) → this (stood l p j) ≡ over out (a + keptBytes claim) k m
+    → headAt l a claim code (p - (a + keptBytes claim)) j ≡ over out a k (shut claim code m)
+shut-over out l a k claim code p j m e =
+    let s : StoodBy out (a + keptBytes claim) k l p j m = stood-by out (a + keptBytes claim) k l p j m e in
+    let n : p - (a + keptBytes claim) ≡ length (s .b) = omega (arith, s .place) in
+    ap (λ (x : List ℕ). headAt x a claim code (p - (a + keptBytes claim)) j) (s .laid)
+    ∙ ap₂ (λ (x y : ℕ). headAt (sets out (a + keptBytes claim) (s .b)) a claim code x y) n (s .index)
+    ∙ head-over out a k claim code (s .xs) (s .b) (s .ys)
+    ∙ sym (ap (λ (x : Possible Made). over out a k (shut claim code x)) (s .is))
+
+-- and what no file has, none has with a header
+pub shut-fell : (out : List ℕ) (a k : ℕ) (claim : Bool) (code : ℕ) (m : Possible Made) → cannot ≡ over out (a + keptBytes claim) k m → cannot ≡ over out a k (shut claim code m)
 unfolding over
-shut-over out l a k claim code Impossible cannot e = refl
-shut-over out l a k claim code Impossible (this (made xs b ys)) e = go (leb (a + keptBytes claim + length b) longest) refl e (fitsHead claim code (length b))
+shut-fell out a k claim code cannot e = refl
+shut-fell out a k claim code (this (made xs b ys)) e = go (leb (a + keptBytes claim + length b) longest) refl e (fitsHead claim code (length b))
   where
     go : (c : Bool) → leb (a + keptBytes claim + length b) longest ≡ c
         → cannot ≡ pick c (this (stood (sets out (a + keptBytes claim) b) (a + keptBytes claim + length b) (k + length xs))) cannot
@@ -125,18 +128,10 @@ shut-over out l a k claim code Impossible (this (made xs b ys)) e = go (leb (a +
     go false q w true =
         rw (lt-leb (a + length (spellHead claim code (length b) ++ b)) longest
         (rw length-append (omega (arith, leb-false (a + keptBytes claim + length b) longest q, head-kept claim code (length b)))))
-shut-over out l a k claim code (Done p j) m e =
-    let s : StoodBy out (a + keptBytes claim) k l (p .0) j m = stood-by out (a + keptBytes claim) k l (p .0) j m e in
-    let n : p .0 - (a + keptBytes claim) ≡ length (s .b) = omega (arith, s .place) in
-    ap (λ (x : List ℕ). headAt x a claim code (p .0 - (a + keptBytes claim)) j) (s .laid)
-    ∙ ap₂ (λ (x y : ℕ). headAt (sets out (a + keptBytes claim) (s .b)) a claim code x y) n (s .index)
-    ∙ head-over out a k claim code (s .xs) (s .b) (s .ys)
-    ∙ sym (ap (λ (x : Possible Made). over out a k (shut claim code x)) (s .is))
 
 -- what the header's code asks for
-pub shut-after : (out l : List ℕ) (a k : ℕ) (claim : Bool) (W : Wrote) (m : Possible Made) → stoodAs l W ≡ over out (a + keptBytes claim) k m → After a claim W
-shut-after out l a k claim Impossible m e = tt
-shut-after out l a k claim (Done p j) m e = let s = stood-by out (a + keptBytes claim) k l (p .0) j m e in (omega (arith, s .place), s .small)
+pub shut-after : (out l : List ℕ) (a k : ℕ) (claim : Bool) (p j : ℕ) (m : Possible Made) → this (stood l p j) ≡ over out (a + keptBytes claim) k m → (a + keptBytes claim ≤ p) × (p ≤ longest)
+shut-after out l a k claim p j m e = let s = stood-by out (a + keptBytes claim) k l p j m e in (omega (arith, s .place), s .small)
 
 -- a whole tag takes two bytes at least
 pub shut-place : (out u : List ℕ) (a k : ℕ) (claim : Bool) (code p j : ℕ) (m : Possible Made) → this (stood u p j) ≡ over out a k (shut claim code m) → (a + 2 ≤ p) × (p ≤ longest)

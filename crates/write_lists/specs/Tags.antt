@@ -7,6 +7,7 @@ use lib.Dec.{leb, eqb}
 use lib.ListN.{length, getD, take, drop}
 use Rattle.format.specs.Tests.{pick, _and_}
 use Rattle.format.specs.Bits.{Order}
+use Rattle.format.specs.Bodies.{fixed}
 use Rattle.format.specs.FileAndTags.{isRead, hasList}
 use Rattle.format.specs.Possible.{Possible, this, cannot}
 use Rattle.format.specs.WritingBodies.{writeBody}
@@ -14,11 +15,10 @@ use Rattle.format.specs.WritingFiles.{Made, made, unpackedAs, bodyOf, fitsHead,
 use Rattle.classes.specs.declared.Class.{Class}
 use Rattle.classes.specs.declared.Class.the-variants.{Opaque, End, Container, Fixed, Attributes}
 use Rattle.classes.specs.Classes.{bare, contains}
+use Rattle.fixed.specs.Fixed.{fixedOf}
 use Rattle.bodies.specs.Leaf.{isBlock, leafBody}
 use Rattle.sink.specs.Lain.{longest}
-use Rattle.write_heads.specs.Heads.{keptBytes, underHead}
-use Rattle.write_lists.specs.declared.Wrote.{Wrote}
-use Rattle.write_lists.specs.declared.Wrote.the-variants.{Done, Impossible}
+use Rattle.write_heads.specs.Heads.{underHead}
 use Rattle.write_lists.specs.Stood.{Stood, stood}
 
 -- whether a tag of this class is opaque
@@ -34,7 +34,7 @@ abbrev pub valuesIn : Order → Class → ℕ → List ℕ → Possible (List �
 valuesIn o Opaque code vs = unpackedAs vs
 valuesIn o End code vs = pick (eqb (length vs) 0) (this []) cannot
 valuesIn o Container code vs = writeBody o (leafBody code) vs
-valuesIn o Fixed code vs = writeBody o (leafBody code) vs
+valuesIn o Fixed code vs = writeBody o (fixed (fixedOf code)) vs
 valuesIn o Attributes code vs = writeBody o (leafBody code) vs
 
 -- whether a list follows the values of a tag
@@ -87,16 +87,6 @@ headAt l a claim code n j =
     pick (fitsHead claim code n)
     (pick (leb (a + length (spellHead claim code n) + n) longest) (this (stood (underHead l a claim code n) (a + length (spellHead claim code n) + n) j)) cannot)
     cannot
-
--- what stands there up to the place of an answer
-abbrev pub shutAs : List ℕ → ℕ → Bool → ℕ → Wrote → Possible Stood
-shutAs l a claim code (Done p j) = headAt l a claim code (p .0 - (a + keptBytes claim)) j
-shutAs l a claim code Impossible = cannot
-
--- an answer whose place is behind the bytes kept from a on
-abbrev pub After : ℕ → Bool → Wrote → Type 0
-After a claim (Done p j) = (a + keptBytes claim ≤ p .0) × (p .0 ≤ longest)
-After a claim Impossible = Unit {0}
 
 -- the values of the tag at index k of the table t end before index e: all of them are there, and the state is one of its class
 pub record ValuesThere (claim : Bool) (class : Class) (t : List ℕ) (k e : ℕ) : Type 0 where

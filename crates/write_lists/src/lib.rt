@@ -3,17 +3,17 @@
 // body is not walked again to measure it: a byte moves at most once for each depth, and a body that claims the long header does not move for it.
 ghost use mathlib.Core.Path.{_≡_};
 ghost use mathlib.Core.Bool.{false};
-ghost use Prim.Native.Nat.{_+_, _≤_, _<_};
+ghost use Prim.Native.Nat.{_+_, _-_, _≤_, _<_};
 ghost use lib.ListN.{length, getD, drop};
-ghost use Rattle.format.specs.FileAndTags.{classOf};
 ghost use Rattle.format.specs.WritingFiles.{claims, unwalkList};
 ghost use Rattle.bits.specs.Places.{InEither, orderOf};
 ghost use Rattle.classes.specs.Classes.{ends};
 ghost use Rattle.classes.specs.declared.Class.the-variants.{Opaque};
+ghost use Rattle.tags.specs.Lent.{classesIn, Tabled};
 ghost use Rattle.sink.specs.Lain.{longest, lies, lainAs};
 ghost use Rattle.write_heads.specs.Heads.{keptBytes};
 ghost use Rattle.write_lists.specs.Stood.{over, stoodAs};
-ghost use Rattle.write_lists.specs.Tags.{hidden, valuesIn, listBy, tooDeep, begun, shut as shutBy, shutAs, After, ValuesEnd};
+ghost use Rattle.write_lists.specs.Tags.{hidden, valuesIn, listBy, tooDeep, begun, shut as shutBy, headAt, ValuesEnd};
 use bits::BytePlace;
 use bits::Order;
 use classes::Class;
@@ -46,7 +46,7 @@ fn write_tag_values(
             Body::No
         },
         Class::Container => write_bodies::write_plain(order, code, values, out, at),
-        Class::Fixed => write_bodies::write_plain(order, code, values, out, at),
+        Class::Fixed => write_bodies::write_items(order, code, values, out, at),
         Class::Attributes => write_bodies::write_body(order, code, values, out, at),
     }
 }
@@ -144,14 +144,18 @@ fn begin_tag(
     Wrote::Done(stop, behind)
 }
 
-// The header of the tag at a place, before what was put behind the bytes kept for it. The claim is for bodies below 63 bytes.
-fn shut(out: &mut [u8], place: BytePlace, claimed: bool, code: u32, wrote: Wrote) -> Wrote
-    requires { ⌜ After (place .0) claimed wrote × (code < 1024) ⌝ }
-    ensures { λ r. ⌜ stoodAs (now (out .exit)) r ≡ shutAs (now (out .entry)) (place .0) claimed code wrote ⌝ }
+// The header of the tag at a place, before what was put behind the bytes kept for it, up to `stop`. The claim is for bodies below 63 bytes.
+fn shut(
+    out: &mut [u8],
+    place: BytePlace,
+    claimed: bool,
+    code: u32,
+    stop: BytePlace,
+    behind: usize,
+) -> Wrote
+    requires { ⌜ (place .0 + keptBytes claimed ≤ stop .0) × (stop .0 ≤ longest) × (code < 1024) ⌝ }
+    ensures { λ r. ⌜ stoodAs (now (out .exit)) r ≡ headAt (now (out .entry)) (place .0) claimed code (stop .0 - (place .0 + keptBytes claimed)) behind ⌝ }
 {
-    let Wrote::Done(stop, behind) = wrote else {
-        return wrote;
-    };
     let from = place.0 + write_heads::kept(claimed);
     if claimed {
         if 62 < stop.0 - from {
@@ -222,9 +226,9 @@ fn ends_list(class: Class) -> bool
 }
 
 // The tag list whose numbers start at an index; so many `depths` may lie below it. It calls itself for the list in a container, which comes
-// between the container's own values and its header.
+// between the container's own values and its header. The classes of the 1,024 codes are lent as numbers: they were made once, for all lists.
 pub fn write_list(
-    level: u32,
+    classes: &[u8],
     order: Order,
     depths: u32,
     out: &mut [u8],
@@ -232,10 +236,9 @@ pub fn write_list(
     table: &[u64],
     from: usize,
 ) -> Wrote
-    requires { ⌜ (at .0 ≤ longest) × (from ≤ length (now table)) ⌝ }
-    ensures { λ r. ⌜ stoodAs (now (out .exit)) r ≡ over (now (out .entry)) (at .0) from (unwalkList (orderOf order) (classOf level) depths (drop from (now (table .entry)))) ⌝ }
+    requires { ⌜ Tabled (now classes) × (at .0 ≤ longest) × (from ≤ length (now table)) ⌝ }
+    ensures { λ r. ⌜ stoodAs (now (out .exit)) r ≡ over (now (out .entry)) (at .0) from (unwalkList (orderOf order) (classesIn (now (classes .entry))) depths (drop from (now (table .entry)))) ⌝ }
 {
-    let classes = classes::all();
     let mut place = at;
     let mut index = from;
     while index < table.len() {
@@ -244,8 +247,7 @@ pub fn write_list(
             return Wrote::Impossible;
         }
         let code = number as u32;
-        let listed = classes[(code / 32) as usize][(code % 32) as usize];
-        let class = classes::at_level(level, code, listed);
+        let class = classes::class_numbered(classes[code as usize]);
         let claimed = claims_long(table, index);
         if is_opaque(class) {
             let whole = write_opaque_tag(code, out, place, claimed, table, index);
@@ -261,18 +263,24 @@ pub fn write_list(
         }
         let begun = begin_tag(order, class, code, out, place, claimed, table, index);
         let Wrote::Done(start, first) = begun else {
-            return begun;
+            return Wrote::Impossible;
         };
-        let mut inside = begun;
+        let mut stop = start;
+        let mut last = first;
         if holds_list(class, code, table[first - 1]) {
-            inside = write_list(level, order, depths - 1, out, start, table, first);
+            let inside = write_list(classes, order, depths - 1, out, start, table, first);
+            let Wrote::Done(end, after) = inside else {
+                return Wrote::Impossible;
+            };
+            stop = end;
+            last = after;
         }
-        let wrote = shut(out, place, claimed, code, inside);
+        let wrote = shut(out, place, claimed, code, stop, last);
         let Wrote::Done(next, behind) = wrote else {
-            return wrote;
+            return Wrote::Impossible;
         };
         if ends_list(class) {
-            return wrote;
+            return Wrote::Done(next, behind);
         }
         place = next;
         index = behind;

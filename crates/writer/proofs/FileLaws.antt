@@ -11,7 +11,7 @@ use lib.ListN.{length, set, getD, drop, length-append, length-drop, drop-of-leng
 use lib.Seq.{sets, sets-eq, drop-cons}
 use Rattle.format.specs.Tests.{pick}
 use Rattle.format.specs.Bits.{Order, orderNamed}
-use Rattle.format.specs.FileAndTags.{classOf}
+use Rattle.format.specs.FileAndTags.{Class, classOf}
 use Rattle.format.specs.Possible.{Possible, this, cannot}
 use Rattle.format.specs.WritingFiles.{Made, made, spell32, unwalkList, wholeFile, writeFile}
 use Rattle.format.specs.Reasons as paper
@@ -19,11 +19,15 @@ use Rattle.format.specs.Reasons.{Left, accepted, refusesWith, FileOf, Writes, t
 use Rattle.format.proofs.RoundTrip.{back, no-file}
 use Rattle.format.proofs.Absurd.{clash}
 use Rattle.table.proofs.EngineLaws.{sets-append}
+use Rattle.classes.specs.Classes.{Classed}
+use Rattle.classes.specs.declared.Scope.the-variants.{All}
+use Rattle.tags.specs.Lent.{classesIn}
+use Rattle.tags.proofs.LentLaws.{class-level}
 use Rattle.sink.specs.Lain.{longest}
 use Rattle.write_heads.proofs.StoreLaws.{sets-comm}
 use Rattle.write_lists.specs.declared.Wrote.{Wrote}
 use Rattle.write_lists.specs.declared.Wrote.the-variants.{Done, Impossible}
-use Rattle.write_lists.specs.Stood.{stood, over, stoodAs}
+use Rattle.write_lists.specs.Stood.{Stood, stood, over, stoodAs}
 use Rattle.write_lists.proofs.StoodLaws.{StoodBy, stood-by, parts-of}
 use Rattle.write_lists.proofs.ListLaws.{parts-list}
 use Rattle.writer.specs.Files.{start}
@@ -38,6 +42,10 @@ nothing-lent l h = drop-of-length-le l {i = 0} (omega arith)
 -- the tags that follow the compression byte
 abbrev pub tags : Order → ℕ → List ℕ → Possible Made
 tags o level t = unwalkList o (classOf level) 8 (drop 1 t)
+
+-- by the classes of the level, which are lent
+pub lent : (o : Order) (level : ℕ) (t u : List ℕ) {ns : List ℕ} {x : Possible Stood} → Classed All level ns → x ≡ over u 9 1 (unwalkList o (classesIn ns) 8 (drop 1 t)) → x ≡ over u 9 1 (tags o level t)
+lent o level t u {ns} k e = e ∙ ap (λ (class : ℕ → Class). over u 9 1 (unwalkList o class 8 (drop 1 t))) (λ i. λ code. class-level ns All level k code i)
 
 module _ (order level : ℕ) (t : List ℕ) where
   -- ---- what the definition's two answers promise
@@ -96,7 +104,7 @@ module _ (order level : ℕ) (t : List ℕ) where
 
         left : length (s .ys) + k ≡ length t
         left =
-            let d : drop 1 t ≡ s .xs ++ s .ys = parts-of (drop 1 t) (s .xs) (s .b) (s .ys) (tags o level t) (s .is) (parts-list o level 8 (drop 1 t)) in
+            let d : drop 1 t ≡ s .xs ++ s .ys = parts-of (drop 1 t) (s .xs) (s .b) (s .ys) (tags o level t) (s .is) (parts-list o (classOf level) 8 (drop 1 t)) in
             omega (arith, ap length d, length-append (s .xs) (s .ys), length-drop 1 t, s .index)
 
         pub small : n ≤ longest

@@ -2,10 +2,10 @@ use Prim.Native.Nat.{ℕ}
 use denote.Ref.{now}
 use mathlib.Core.Path.{sym, _∙_}
 use native.Mathlib.Omega.{arith}
-use lib.ListN.{replicate, length-replicate}
+use lib.ListN.{length-replicate}
 use Rattle.bits.specs.Places.{orderOf}
 use Rattle.classes.specs.declared.Scope.the-variants.{All}
-use Rattle.classes.proofs.NumberLaws.{zeros, classed}
+use Rattle.classes.proofs.NumberLaws.{classed}
 use Rattle.reader.proofs.FileLaws.{fair-file}
 use Rattle.canvas.proofs.CallLaws.{call-start, call-bounds, call-places, call-length, call-whole, call-fault, call-found}
 use borrow.Author.Needs.{needs}
@@ -62,7 +62,7 @@ slice-aggregate-look-in c = search needs
 
 -- src/lib.rt:274:11
 look-in-requires : tie.Need-look-in-requires
-look-in-requires c κs = let a = c .before .before .before .before .before .before .before .before .before .args in (record { scope = All; level = a .level; classed = (classed All (a .level) (replicate {A = ℕ} 1024 0) _ (length-replicate {A = ℕ} 1024 0) (zeros 1024) (c .before .before .before .number-first .ensures)) }, call-bounds (now (a .file)) ((fair-file (a .order) (a .level) (now (a .file)) (sym (c .before .before .before .before .before .before .before .start-fault .ensures) ∙ c .before .before .before .before .before .before .if1 .left)) .0) ((fair-file (a .order) (a .level) (now (a .file)) (sym (c .before .before .before .before .before .before .before .start-fault .ensures) ∙ c .before .before .before .before .before .before .if1 .left)) .1))
+look-in-requires c κs = let a = c .before .before .before .before .before .before .before .before .before .args in (record { scope = All; level = a .level; classed = (classed All (a .level) (c .before .before .before .number-first .ensures)) }, call-bounds (now (a .file)) ((fair-file (a .order) (a .level) (now (a .file)) (sym (c .before .before .before .before .before .before .before .start-fault .ensures) ∙ c .before .before .before .before .before .before .if1 .left)) .0) ((fair-file (a .order) (a .level) (now (a .file)) (sym (c .before .before .before .before .before .before .before .start-fault .ensures) ∙ c .before .before .before .before .before .before .if1 .left)) .1))
 
 -- src/lib.rt:275:23
 enum-known-headers : tie.Need-enum-known-headers
@@ -86,31 +86,31 @@ enum-known-spot c = search needs
 
 -- src/lib.rt:283:25
 sub-with : tie.Need-sub-with
-sub-with c = let a = c .before .before .before .before .before .before .before .before .before .before .before .before .before .args in call-places (a .order) (a .level) (now (a .file)) (sym (c .before .before .before .before .before .before .before .before .before .before .before .start-fault .ensures) ∙ c .before .before .before .before .before .before .before .before .before .before .if1 .left) (orderOf (c .before .before .before .before .before .before .before .before .before .order-named .result)) (c .before .before .before .before .before .before .before .before .before .order-named .ensures) (classed All (a .level) (replicate {A = ℕ} 1024 0) _ (length-replicate {A = ℕ} 1024 0) (zeros 1024) (c .before .before .before .before .before .before .before .number-first .ensures)) (c .before .before .before .look-in .result) (c .before .before .before .look-in .ensures) (c .before .spot .given .1) .0
+sub-with c = let a = c .before .before .before .before .before .before .before .before .before .before .before .before .before .args in call-places (a .order) (a .level) (now (a .file)) (sym (c .before .before .before .before .before .before .before .before .before .before .before .start-fault .ensures) ∙ c .before .before .before .before .before .before .before .before .before .before .if1 .left) (orderOf (c .before .before .before .before .before .before .before .before .before .order-named .result)) (c .before .before .before .before .before .before .before .before .before .order-named .ensures) (classed All (a .level) (c .before .before .before .before .before .before .before .number-first .ensures)) (c .before .before .before .look-in .result) (c .before .before .before .look-in .ensures) (c .before .spot .given .1) .0
 
 -- src/lib.rt:283:25
 part-with-start : tie.Need-part-with-start
-part-with-start c = let a = c .before .before .before .before .before .before .before .before .before .before .before .before .before .args in call-places (a .order) (a .level) (now (a .file)) (sym (c .before .before .before .before .before .before .before .before .before .before .before .start-fault .ensures) ∙ c .before .before .before .before .before .before .before .before .before .before .if1 .left) (orderOf (c .before .before .before .before .before .before .before .before .before .order-named .result)) (c .before .before .before .before .before .before .before .before .before .order-named .ensures) (classed All (a .level) (replicate {A = ℕ} 1024 0) _ (length-replicate {A = ℕ} 1024 0) (zeros 1024) (c .before .before .before .before .before .before .before .number-first .ensures)) (c .before .before .before .look-in .result) (c .before .before .before .look-in .ensures) (c .before .spot .given .1) .0
+part-with-start c = let a = c .before .before .before .before .before .before .before .before .before .before .before .before .before .args in call-places (a .order) (a .level) (now (a .file)) (sym (c .before .before .before .before .before .before .before .before .before .before .before .start-fault .ensures) ∙ c .before .before .before .before .before .before .before .before .before .before .if1 .left) (orderOf (c .before .before .before .before .before .before .before .before .before .order-named .result)) (c .before .before .before .before .before .before .before .before .before .order-named .ensures) (classed All (a .level) (c .before .before .before .before .before .before .before .number-first .ensures)) (c .before .before .before .look-in .result) (c .before .before .before .look-in .ensures) (c .before .spot .given .1) .0
 
 -- src/lib.rt:283:25
 part-with-end : tie.Need-part-with-end
-part-with-end c = let a = c .before .before .before .before .before .before .before .before .before .before .before .before .before .args in call-places (a .order) (a .level) (now (a .file)) (sym (c .before .before .before .before .before .before .before .before .before .before .before .start-fault .ensures) ∙ c .before .before .before .before .before .before .before .before .before .before .if1 .left) (orderOf (c .before .before .before .before .before .before .before .before .before .order-named .result)) (c .before .before .before .before .before .before .before .before .before .order-named .ensures) (classed All (a .level) (replicate {A = ℕ} 1024 0) _ (length-replicate {A = ℕ} 1024 0) (zeros 1024) (c .before .before .before .before .before .before .before .number-first .ensures)) (c .before .before .before .look-in .result) (c .before .before .before .look-in .ensures) (c .before .spot .given .1) .1
+part-with-end c = let a = c .before .before .before .before .before .before .before .before .before .before .before .before .before .args in call-places (a .order) (a .level) (now (a .file)) (sym (c .before .before .before .before .before .before .before .before .before .before .before .start-fault .ensures) ∙ c .before .before .before .before .before .before .before .before .before .before .if1 .left) (orderOf (c .before .before .before .before .before .before .before .before .before .order-named .result)) (c .before .before .before .before .before .before .before .before .before .order-named .ensures) (classed All (a .level) (c .before .before .before .before .before .before .before .number-first .ensures)) (c .before .before .before .look-in .result) (c .before .before .before .look-in .ensures) (c .before .spot .given .1) .1
 
 -- src/lib.rt:283:13
 with-requires : tie.Need-with-requires
-with-requires c κs = let a = c .before .before .before .before .before .before .before .before .before .before .before .before .before .before .args in call-length (a .order) (a .level) (now (a .file)) (sym (c .before .before .before .before .before .before .before .before .before .before .before .before .start-fault .ensures) ∙ c .before .before .before .before .before .before .before .before .before .before .before .if1 .left) (orderOf (c .before .before .before .before .before .before .before .before .before .before .order-named .result)) (c .before .before .before .before .before .before .before .before .before .before .order-named .ensures) (classed All (a .level) (replicate {A = ℕ} 1024 0) _ (length-replicate {A = ℕ} 1024 0) (zeros 1024) (c .before .before .before .before .before .before .before .before .number-first .ensures)) (c .before .before .before .before .look-in .result) (c .before .before .before .before .look-in .ensures) (c .before .before .spot .given .1)
+with-requires c κs = let a = c .before .before .before .before .before .before .before .before .before .before .before .before .before .before .args in call-length (a .order) (a .level) (now (a .file)) (sym (c .before .before .before .before .before .before .before .before .before .before .before .before .start-fault .ensures) ∙ c .before .before .before .before .before .before .before .before .before .before .before .if1 .left) (orderOf (c .before .before .before .before .before .before .before .before .before .before .order-named .result)) (c .before .before .before .before .before .before .before .before .before .before .order-named .ensures) (classed All (a .level) (c .before .before .before .before .before .before .before .before .number-first .ensures)) (c .before .before .before .before .look-in .result) (c .before .before .before .before .look-in .ensures) (c .before .before .spot .given .1)
 
 -- src/lib.rt:263:1
 returns-2 : tie.Need-returns-2
-returns-2 c = let a = c .before .before .before .before .before .before .before .before .before .before .before .before .before .before .args in c .without2 .ensures ∙ call-whole (a .order) (a .level) (now (a .file)) (sym (c .before .before .before .before .before .before .before .before .before .before .before .before .start-fault .ensures) ∙ c .before .before .before .before .before .before .before .before .before .before .before .if1 .left) (orderOf (c .before .before .before .before .before .before .before .before .before .before .order-named .result)) (c .before .before .before .before .before .before .before .before .before .before .order-named .ensures) (classed All (a .level) (replicate {A = ℕ} 1024 0) _ (length-replicate {A = ℕ} 1024 0) (zeros 1024) (c .before .before .before .before .before .before .before .before .number-first .ensures)) (c .before .before .before .before .look-in .result) (c .before .before .before .before .look-in .ensures) (c .before .before .headers .given .1)
+returns-2 c = let a = c .before .before .before .before .before .before .before .before .before .before .before .before .before .before .args in c .without2 .ensures ∙ call-whole (a .order) (a .level) (now (a .file)) (sym (c .before .before .before .before .before .before .before .before .before .before .before .before .start-fault .ensures) ∙ c .before .before .before .before .before .before .before .before .before .before .before .if1 .left) (orderOf (c .before .before .before .before .before .before .before .before .before .before .order-named .result)) (c .before .before .before .before .before .before .before .before .before .before .order-named .ensures) (classed All (a .level) (c .before .before .before .before .before .before .before .before .number-first .ensures)) (c .before .before .before .before .look-in .result) (c .before .before .before .before .look-in .ensures) (c .before .before .headers .given .1)
 
 -- src/lib.rt:263:1
 returns-3 : tie.Need-returns-3
-returns-3 c = let a = c .before .before .before .before .before .before .before .before .before .before .before .before .before .before .args in c .without3 .ensures ∙ call-fault (a .order) (a .level) (now (a .file)) (sym (c .before .before .before .before .before .before .before .before .before .before .before .before .start-fault .ensures) ∙ c .before .before .before .before .before .before .before .before .before .before .before .if1 .left) (orderOf (c .before .before .before .before .before .before .before .before .before .before .order-named .result)) (c .before .before .before .before .before .before .before .before .before .before .order-named .ensures) (classed All (a .level) (replicate {A = ℕ} 1024 0) _ (length-replicate {A = ℕ} 1024 0) (zeros 1024) (c .before .before .before .before .before .before .before .before .number-first .ensures)) (c .before .before .before .before .look-in .result) (c .before .before .before .before .look-in .ensures) (c .before .before .fault .given .1)
+returns-3 c = let a = c .before .before .before .before .before .before .before .before .before .before .before .before .before .before .args in c .without3 .ensures ∙ call-fault (a .order) (a .level) (now (a .file)) (sym (c .before .before .before .before .before .before .before .before .before .before .before .before .start-fault .ensures) ∙ c .before .before .before .before .before .before .before .before .before .before .before .if1 .left) (orderOf (c .before .before .before .before .before .before .before .before .before .before .order-named .result)) (c .before .before .before .before .before .before .before .before .before .before .order-named .ensures) (classed All (a .level) (c .before .before .before .before .before .before .before .before .number-first .ensures)) (c .before .before .before .before .look-in .result) (c .before .before .before .before .look-in .ensures) (c .before .before .fault .given .1)
 
 -- src/lib.rt:263:1
 returns-4 : tie.Need-returns-4
-returns-4 c = let a = c .before .before .before .before .before .before .before .before .before .before .before .before .before .before .before .args in call-found (a .order) (a .level) (now (a .file)) (sym (c .before .before .before .before .before .before .before .before .before .before .before .before .before .start-fault .ensures) ∙ c .before .before .before .before .before .before .before .before .before .before .before .before .if1 .left) (orderOf (c .before .before .before .before .before .before .before .before .before .before .before .order-named .result)) (c .before .before .before .before .before .before .before .before .before .before .before .order-named .ensures) (classed All (a .level) (replicate {A = ℕ} 1024 0) _ (length-replicate {A = ℕ} 1024 0) (zeros 1024) (c .before .before .before .before .before .before .before .before .before .number-first .ensures)) (c .before .before .before .before .before .look-in .result) (c .before .before .before .before .before .look-in .ensures) (c .before .before .before .spot .given .1) (c .with .ensures)
+returns-4 c = let a = c .before .before .before .before .before .before .before .before .before .before .before .before .before .before .before .args in call-found (a .order) (a .level) (now (a .file)) (sym (c .before .before .before .before .before .before .before .before .before .before .before .before .before .start-fault .ensures) ∙ c .before .before .before .before .before .before .before .before .before .before .before .before .if1 .left) (orderOf (c .before .before .before .before .before .before .before .before .before .before .before .order-named .result)) (c .before .before .before .before .before .before .before .before .before .before .before .order-named .ensures) (classed All (a .level) (c .before .before .before .before .before .before .before .before .before .number-first .ensures)) (c .before .before .before .before .before .look-in .result) (c .before .before .before .before .before .look-in .ensures) (c .before .before .before .spot .given .1) (c .with .ensures)
 
 pub canvas-spec : {M : Type 1} → statement M
 canvas-spec =

@@ -6,7 +6,7 @@ use lib.ListN.{drop}
 use Rattle.format.specs.FileAndTags.{le16}
 use Rattle.bits.specs.Places.{orderOf}
 use Rattle.headers.proofs.HeadLaws.{coded-fits, stands-at, head-none, head-passes, head-fails}
-use Rattle.lists.specs.Lists.{classIn}
+use Rattle.tags.specs.Lent.{classIn}
 use Rattle.canvas.specs.Looking.{judgedAt}
 use Rattle.canvas.proofs.JudgeLaws.{judged-none, judged-stands, judged-in}
 use borrow.Author.Needs.{needs}

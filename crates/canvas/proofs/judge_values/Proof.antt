@@ -10,7 +10,7 @@ use Rattle.canvas.proofs.judge_values.Statement.{statement}
 use Rattle.canvas.proofs.judge_values.Tie as tie
 use Rattle.canvas.proofs.judge_values.Reads as reads
 use Rattle.canvas.proofs.judge_values.Lts as lts
-use Rattle.bodies.proofs.read_body.Reads as read-body-reads
+use Rattle.bodies.proofs.read_leaf.Reads as read-leaf-reads
 use Rattle.bodies.proofs.read_container.Reads as read-container-reads
 
 -- src/lib.rt:110:38
@@ -46,12 +46,12 @@ array-borrow-prefix-none-2 : tie.Need-array-borrow-prefix-none-2
 array-borrow-prefix-none-2 c = search needs
 
 -- src/lib.rt:113:62
-slice-aggregate-read-body : tie.Need-slice-aggregate-read-body
-slice-aggregate-read-body c = search needs
+slice-aggregate-read-leaf : tie.Need-slice-aggregate-read-leaf
+slice-aggregate-read-leaf c = search needs
 
 -- src/lib.rt:113:25
-read-body-requires : tie.Need-read-body-requires
-read-body-requires c κs = search needs
+read-leaf-requires : tie.Need-read-leaf-requires
+read-leaf-requires c κs = search needs
 
 -- src/lib.rt:114:67
 enum-told-5 : tie.Need-enum-told-5
@@ -62,12 +62,12 @@ array-borrow-prefix-none-3 : tie.Need-array-borrow-prefix-none-3
 array-borrow-prefix-none-3 c = search needs
 
 -- src/lib.rt:114:67
-slice-aggregate-read-body-2 : tie.Need-slice-aggregate-read-body-2
-slice-aggregate-read-body-2 c = search needs
+slice-aggregate-read-leaf-2 : tie.Need-slice-aggregate-read-leaf-2
+slice-aggregate-read-leaf-2 c = search needs
 
 -- src/lib.rt:114:30
-read-body-requires-2 : tie.Need-read-body-requires-2
-read-body-requires-2 c κs = search needs
+read-leaf-requires-2 : tie.Need-read-leaf-requires-2
+read-leaf-requires-2 c κs = search needs
 
 -- src/lib.rt:104:1
 returns : tie.Need-returns
@@ -83,11 +83,11 @@ returns-3 c = let a = c .before .before .before .before .before .before .args in
 
 -- src/lib.rt:104:1
 returns-4 : tie.Need-returns-4
-returns-4 c = let a = c .before .before .before .before .before .before .args in values-told (orderOf (a .order)) (now (a .body)) (a .code) (c .before .read-body .result) Fixed (c .before .before .before .enum-told4 .given .1) (values-by _ 0 (c .before .read-body .result) (c .before .read-body .ensures))
+returns-4 c = let a = c .before .before .before .before .before .before .args in values-told (orderOf (a .order)) (now (a .body)) (a .code) (c .before .read-leaf .result) Fixed (c .before .before .before .enum-told4 .given .1) (values-by _ 0 (c .before .read-leaf .result) (c .before .read-leaf .ensures))
 
 -- src/lib.rt:104:1
 returns-5 : tie.Need-returns-5
-returns-5 c = let a = c .before .before .before .before .before .before .args in values-told (orderOf (a .order)) (now (a .body)) (a .code) (c .before .read-body2 .result) Attributes (c .before .before .before .enum-told5 .given .1) (values-by _ 0 (c .before .read-body2 .result) (c .before .read-body2 .ensures))
+returns-5 c = let a = c .before .before .before .before .before .before .args in values-told (orderOf (a .order)) (now (a .body)) (a .code) (c .before .read-leaf2 .result) Attributes (c .before .before .before .enum-told5 .given .1) (values-by _ 0 (c .before .read-leaf2 .result) (c .before .read-leaf2 .ensures))
 
 pub judge-values-spec : {M : Type 1} → statement M
 judge-values-spec =
@@ -101,12 +101,12 @@ judge-values-spec =
     read-container-requires
     enum-told-4
     array-borrow-prefix-none-2
-    slice-aggregate-read-body
-    read-body-requires
+    slice-aggregate-read-leaf
+    read-leaf-requires
     enum-told-5
     array-borrow-prefix-none-3
-    slice-aggregate-read-body-2
-    read-body-requires-2
+    slice-aggregate-read-leaf-2
+    read-leaf-requires-2
     returns
     returns-2
     returns-3

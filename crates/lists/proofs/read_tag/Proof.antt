@@ -7,7 +7,8 @@ use lib.ListN.{drop}
 use Rattle.bits.specs.Places.{orderOf}
 use Rattle.format.specs.FileAndTags.{le16}
 use Rattle.headers.proofs.HeadLaws.{coded-fits, stands-at, head-none, head-passes, head-fails}
-use Rattle.lists.specs.Lists.{tagAt, classIn}
+use Rattle.lists.specs.Lists.{tagAt}
+use Rattle.tags.specs.Lent.{classIn}
 use Rattle.lists.proofs.StepLaws.{tag-none, tag-stands, tag-in}
 use borrow.Author.Needs.{needs}
 use Rattle.lists.proofs.read_tag.Statement.{statement}

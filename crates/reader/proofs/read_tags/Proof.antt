@@ -2,9 +2,9 @@
 use Prim.Native.Nat.{ℕ}
 use denote.Ref.{now}
 use native.Mathlib.Omega.{arith}
-use lib.ListN.{replicate, length-replicate}
+use lib.ListN.{length-replicate}
 use Rattle.bits.specs.Places.{orderOf}
-use Rattle.classes.proofs.NumberLaws.{zeros, classed}
+use Rattle.classes.proofs.NumberLaws.{classed}
 use Rattle.reader.proofs.FileLaws.{tags-bounds, tags-read}
 use borrow.Author.Needs.{needs}
 use Rattle.reader.proofs.read_tags.Statement.{statement}
@@ -31,7 +31,7 @@ slice-aggregate-read-list c = search needs
 read-list-requires : tie.Need-read-list-requires
 read-list-requires c κs =
     let a = c .before .before .before .before .before .before .before .before .before .before .args in
-    (record { scope = a .scope; level = a .level; classed = classed (a .scope) (a .level) (replicate {A = ℕ} 1024 0) _ (length-replicate {A = ℕ} 1024 0) (zeros 1024) (c .before .before .before .before .before .number-first .ensures) }, tags-bounds 0 (a .level) (now (a .file)) (c .before .before .before .before .before .before .before .before .before .before .pre .0) (c .before .before .before .before .before .before .before .before .before .before .pre .1))
+    (record { scope = a .scope; level = a .level; classed = classed (a .scope) (a .level) (c .before .before .before .before .before .number-first .ensures) }, tags-bounds 0 (a .level) (now (a .file)) (c .before .before .before .before .before .before .before .before .before .before .pre .0) (c .before .before .before .before .before .before .before .before .before .before .pre .1))
 
 same-length : tie.Need-same-length
 same-length c = search needs
@@ -42,7 +42,7 @@ same-length-2 c = search needs
 returns : tie.Need-returns
 returns c =
     let a = c .before .before .before .before .before .before .before .before .before .before .before .before .before .before .before .args in
-    tags-read 0 (a .level) (now (a .file)) (orderOf (a .order)) (a .scope) (now (a .table)) (now (a .rows)) _ (classed (a .scope) (a .level) (replicate {A = ℕ} 1024 0) _ (length-replicate {A = ℕ} 1024 0) (zeros 1024) (c .before .before .before .before .before .before .before .before .before .before .number-first .ensures)) (c .before .before .before .before .read-list .ensures)
+    tags-read 0 (a .level) (now (a .file)) (orderOf (a .order)) (a .scope) (now (a .table)) (now (a .rows)) _ (classed (a .scope) (a .level) (c .before .before .before .before .before .before .before .before .before .before .number-first .ensures)) (c .before .before .before .before .read-list .ensures)
 
 pub read-tags-spec : {M : Type 1} → statement M
 read-tags-spec =

@@ -7,7 +7,7 @@ use Rattle.tags.proofs.read_tag_values.Statement.{statement}
 use Rattle.tags.proofs.read_tag_values.Tie as tie
 use Rattle.tags.proofs.read_tag_values.Reads as reads
 use Rattle.tags.proofs.read_tag_values.Lts as lts
-use Rattle.bodies.proofs.read_body.Reads as read-body-reads
+use Rattle.bodies.proofs.read_leaf.Reads as read-leaf-reads
 use Rattle.tags.proofs.pack_bytes.Reads as pack-bytes-reads
 use Rattle.bodies.proofs.read_container.Reads as read-container-reads
 
@@ -29,14 +29,14 @@ read-container-requires c κs = search needs
 enum-told-4 : tie.Need-enum-told-4
 enum-told-4 c = search needs
 
-read-body-requires : tie.Need-read-body-requires
-read-body-requires c κs = search needs
+read-leaf-requires : tie.Need-read-leaf-requires
+read-leaf-requires c κs = search needs
 
 enum-told-5 : tie.Need-enum-told-5
 enum-told-5 c = search needs
 
-read-body-requires-2 : tie.Need-read-body-requires-2
-read-body-requires-2 c κs = search needs
+read-leaf-requires-2 : tie.Need-read-leaf-requires-2
+read-leaf-requires-2 c κs = search needs
 
 same-length : tie.Need-same-length
 same-length c = search needs
@@ -57,13 +57,13 @@ same-length-3 : tie.Need-same-length-3
 same-length-3 c = search needs
 
 returns-4 : tie.Need-returns-4
-returns-4 c = let a = c .before .before .before .before .before .before .before .before .args in values-of (orderOf (a .order)) (now (a .body)) (now (a .table)) (a .from) (a .code) Fixed (c .before .before .before .before .enum-told4 .given .1) (c .before .before .read-body .ensures)
+returns-4 c = let a = c .before .before .before .before .before .before .before .before .args in values-of (orderOf (a .order)) (now (a .body)) (now (a .table)) (a .from) (a .code) Fixed (c .before .before .before .before .enum-told4 .given .1) (c .before .before .read-leaf .ensures)
 
 same-length-4 : tie.Need-same-length-4
 same-length-4 c = search needs
 
 returns-5 : tie.Need-returns-5
-returns-5 c = let a = c .before .before .before .before .before .before .before .before .args in values-of (orderOf (a .order)) (now (a .body)) (now (a .table)) (a .from) (a .code) Attributes (c .before .before .before .before .enum-told5 .given .1) (c .before .before .read-body2 .ensures)
+returns-5 c = let a = c .before .before .before .before .before .before .before .before .args in values-of (orderOf (a .order)) (now (a .body)) (now (a .table)) (a .from) (a .code) Attributes (c .before .before .before .before .enum-told5 .given .1) (c .before .before .read-leaf2 .ensures)
 
 pub read-tag-values-spec : {M : Type 1} → statement M
 read-tag-values-spec =
@@ -75,9 +75,9 @@ read-tag-values-spec =
     enum-told-3
     read-container-requires
     enum-told-4
-    read-body-requires
+    read-leaf-requires
     enum-told-5
-    read-body-requires-2
+    read-leaf-requires-2
     same-length
     returns
     returns-2

@@ -1,7 +1,7 @@
 use Prim.Native.Nat.{ℕ, _+_, _-_}
 use Rattle.bits.specs.Places.{orderOf}
 use denote.Ref.{now}
-use mathlib.Core.Path.{ap, _∙_}
+use mathlib.Core.Path.{refl, ap, _∙_}
 use mathlib.Core.Bool.{Bool}
 use native.Mathlib.Omega.{arith}
 use lib.ListN.{length}
@@ -13,13 +13,6 @@ use Rattle.tags.proofs.TagLaws.{index-le, headed-stored, headed-out}
 use borrow.Author.Needs.{needs}
 use Rattle.tags.proofs.show_tag.Statement.{statement}
 use Rattle.tags.proofs.show_tag.Tie as tie
-use Rattle.tags.proofs.show_tag.Reads as reads
-use Rattle.tags.proofs.show_tag.Lts as lts
-use Rattle.table.proofs.put.Reads as put-reads
-use Rattle.tags.proofs.index_behind.Reads as index-behind-reads
-use Rattle.tags.proofs.read_tag_values.Reads as read-tag-values-reads
-use Rattle.tags.proofs.long_on_short.Reads as long-on-short-reads
-use Rattle.tags.proofs.state.Reads as state-reads
 
 add-read-tag-values : tie.Need-add-read-tag-values
 add-read-tag-values c = search needs
@@ -31,8 +24,7 @@ same-length : tie.Need-same-length
 same-length c = search needs
 
 returns : tie.Need-returns
-returns c = let a = c .before .before .before .before .before .before .before .args in
-    headed-out (now (a .table)) (a .from) (a .code) (stateOf (bare (a .class)) (a .size) (length (now (a .body)))) (valuesOf (orderOf (a .order)) (a .class) (a .code) (now (a .body))) (listOf (orderOf (a .order)) (a .class) (a .code) (now (a .body))) (c .before .before .before .read-tag-values .result) (c .before .before .before .read-tag-values .ensures) (c .if1 .taken)
+returns c = let a = c .before .before .before .before .before .before .before .args in headed-out (now (a .table)) (a .from) (a .code) (stateOf (bare (a .class)) (a .size) (length (now (a .body)))) (valuesOf (orderOf (a .order)) (a .class) (a .code) (now (a .body))) (listOf (orderOf (a .order)) (a .class) (a .code) (now (a .body))) (c .before .before .before .read-tag-values .result) (c .before .before .before .read-tag-values .ensures) (c .if1 .taken)
 
 cast-long-on-short : tie.Need-cast-long-on-short
 cast-long-on-short c = search needs
@@ -43,42 +35,23 @@ long-on-short-requires c κs = search needs
 state-requires : tie.Need-state-requires
 state-requires c κs = search needs
 
-put-requires : tie.Need-put-requires
-put-requires c κs = search needs
-
-add-put : tie.Need-add-put
-add-put c = search needs
-
-put-requires-2 : tie.Need-put-requires-2
-put-requires-2 c κs = search needs
-
-add-put-2 : tie.Need-add-put-2
-add-put-2 c = search needs
-
 index-behind-requires : tie.Need-index-behind-requires
 index-behind-requires c κs = search needs
 
-add-put-3 : tie.Need-add-put-3
-add-put-3 c = search needs
+add-count : tie.Need-add-count
+add-count c = search needs
 
-sub-put : tie.Need-sub-put
-sub-put c =
-    let a = c .before .before .before .before .before .before .before .before .before .before .before .before .before .before .before .before .before .before .before .args in
-    let shown = c .before .before .before .before .before .before .before .before .before .before .before .before .before .before .before .read-tag-values in
-    omega (arith, c .index-behind .ensures, index-le (now (a .table)) (a .from + 3) (valuesOf (orderOf (a .order)) (a .class) (a .code) (now (a .body))) (shown .result) (shown .ensures .left))
+sub-count : tie.Need-sub-count
+sub-count c = let a = c .before .before .before .before .before .before .before .before .before .before .args in let shown = c .before .before .before .before .before .before .read-tag-values in omega (arith, c .index-behind .ensures, index-le (now (a .table)) (a .from + 3) (valuesOf (orderOf (a .order)) (a .class) (a .code) (now (a .body))) (shown .result) (shown .ensures .left))
 
-put-requires-3 : tie.Need-put-requires-3
-put-requires-3 c κs = search needs
+put-first-requires : tie.Need-put-first-requires
+put-first-requires c κs = search needs
 
 same-length-2 : tie.Need-same-length-2
 same-length-2 c = search needs
 
 returns-2 : tie.Need-returns-2
-returns-2 c =
-    let a = c .before .before .before .before .before .before .before .before .before .before .before .before .before .before .before .before .before .before .before .before .before .before .args in
-    let shown = c .before .before .before .before .before .before .before .before .before .before .before .before .before .before .before .before .before .before .read-tag-values in
-    headed-stored (now (a .table)) (a .from) (a .code) (stateOf (bare (a .class)) (a .size) (length (now (a .body)))) (valuesOf (orderOf (a .order)) (a .class) (a .code) (now (a .body))) (listOf (orderOf (a .order)) (a .class) (a .code) (now (a .body))) (shown .result) (shown .ensures)
-    (c .before .before .before .before .before .before .before .before .before .before .before .put .ensures) (c .before .before .before .before .before .before .before .before .before .before .before .before .before .state .ensures ∙ ap (λ (g : Bool). isRead (bare (a .class)) + pick g 2 0) (c .before .before .before .before .before .before .before .before .before .before .before .before .before .before .long-on-short .ensures)) (c .before .before .before .before .before .before .before .put2 .ensures) (ap (λ (z : ℕ). z - (a .from + 3)) (c .before .before .before .index-behind .ensures)) (c .before .before .put3 .ensures)
+returns-2 c = let a = c .before .before .before .before .before .before .before .before .before .before .before .before .before .before .args in let shown = c .before .before .before .before .before .before .before .before .before .before .read-tag-values in headed-stored (now (a .table)) (a .from) (a .code) (stateOf (bare (a .class)) (a .size) (length (now (a .body)))) (valuesOf (orderOf (a .order)) (a .class) (a .code) (now (a .body))) (listOf (orderOf (a .order)) (a .class) (a .code) (now (a .body))) (shown .result) (shown .ensures) refl (c .before .before .before .before .before .state .ensures ∙ ap (λ (g : Bool). isRead (bare (a .class)) + pick g 2 0) (c .before .before .before .before .before .before .long-on-short .ensures)) refl (ap (λ (z : ℕ). z - (a .from + 3)) (c .before .before .before .before .index-behind .ensures)) (c .before .before .put-first .ensures)
 
 pub show-tag-spec : {M : Type 1} → statement M
 show-tag-spec =
@@ -91,13 +64,9 @@ show-tag-spec =
     cast-long-on-short
     long-on-short-requires
     state-requires
-    put-requires
-    add-put
-    put-requires-2
-    add-put-2
     index-behind-requires
-    add-put-3
-    sub-put
-    put-requires-3
+    add-count
+    sub-count
+    put-first-requires
     same-length-2
     returns-2)

@@ -22,8 +22,8 @@ write-plain-requires c κs = search needs
 enum-told-4 : tie.Need-enum-told-4
 enum-told-4 c = search needs
 
-write-plain-requires-2 : tie.Need-write-plain-requires-2
-write-plain-requires-2 c κs = search needs
+write-items-requires : tie.Need-write-items-requires
+write-items-requires c κs = search needs
 
 enum-told-5 : tie.Need-enum-told-5
 enum-told-5 c = search needs
@@ -50,7 +50,7 @@ same-length-2 : tie.Need-same-length-2
 same-length-2 c = search needs
 
 returns-5 : tie.Need-returns-5
-returns-5 c = values-of (orderOf (c .before .before .before .before .before .before .before .before .args .order)) (now (c .before .before .before .before .before .before .before .before .args .out)) (c .before .before .before .before .before .before .before .before .args .at .0) (now (c .before .before .before .before .before .before .before .before .args .values)) (c .before .before .before .before .before .before .before .before .args .code) Fixed (c .before .before .before .before .enum-told4 .given .1) (c .before .before .write-plain2 .ensures)
+returns-5 c = values-of (orderOf (c .before .before .before .before .before .before .before .before .args .order)) (now (c .before .before .before .before .before .before .before .before .args .out)) (c .before .before .before .before .before .before .before .before .args .at .0) (now (c .before .before .before .before .before .before .before .before .args .values)) (c .before .before .before .before .before .before .before .before .args .code) Fixed (c .before .before .before .before .enum-told4 .given .1) (c .before .before .write-items .ensures)
 
 same-length-3 : tie.Need-same-length-3
 same-length-3 c = search needs
@@ -67,7 +67,7 @@ write-tag-values-spec =
     enum-told-3
     write-plain-requires
     enum-told-4
-    write-plain-requires-2
+    write-items-requires
     enum-told-5
     write-body-requires
     returns

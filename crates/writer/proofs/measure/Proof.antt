@@ -6,23 +6,16 @@ use Rattle.writer.proofs.FileLaws.{nothing-lent}
 use borrow.Author.Needs.{needs}
 use Rattle.writer.proofs.measure.Statement.{statement}
 use Rattle.writer.proofs.measure.Tie as tie
-use Rattle.writer.proofs.measure.Reads as reads
-use Rattle.writer.proofs.measure.Lts as lts
-use Rattle.write_lists.proofs.write_list.Reads as write-list-reads
 
--- src/lib.rt:33:39
 array-borrow-prefix-none : tie.Need-array-borrow-prefix-none
 array-borrow-prefix-none c = search needs
 
--- src/lib.rt:33:39
 slice-aggregate-write-list : tie.Need-slice-aggregate-write-list
 slice-aggregate-write-list c = search needs
 
--- src/lib.rt:33:5
 write-list-requires : tie.Need-write-list-requires
 write-list-requires c κs = search needs
 
--- src/lib.rt:28:1
 returns : tie.Need-returns
 returns c = ap (λ (l : List ℕ). stoodAs l (c .before .write-list .result)) (sym (nothing-lent _ (c .before .write-list .kept .1 .1 .1 .0))) ∙ c .before .write-list .ensures
 

@@ -1,82 +1,65 @@
+use Prim.Native.Nat.{_<_}
 use denote.Ref.{now}
-use mathlib.Core.Path.{refl}
+use mathlib.Core.Path.{ap, sym, _∙_}
 use native.Mathlib.Omega.{arith}
-use borrow.Author.Needs.{needs}
 use Rattle.bits.specs.Places.{orderOf}
-use Rattle.format.specs.Formats.{times}
+use Rattle.bits.proofs.FieldLaws.{align-clean}
+use Rattle.format.specs.Reading.{Reading}
 use Rattle.items.specs.Kinds.{formatOf}
 use Rattle.items.specs.declared.Item.the-variants.{Time}
-use Rattle.table.proofs.RunLaws.{Going, going-size, going-next, going-stop, going-done, times-more, times-zero, fair-kind}
+use Rattle.table.specs.State.{shownOver}
+use Rattle.table.proofs.EngineLaws.{times-none}
+use Rattle.table.proofs.RunLaws.{align-fits, align-items, align-no-items}
+use borrow.Author.Needs.{needs}
 use Rattle.table.proofs.in_turn.read_times.Statement.{statement}
 use Rattle.table.proofs.in_turn.read_times.Tie as tie
 use Rattle.table.proofs.in_turn.read_times.Reads as reads
 use Rattle.table.proofs.in_turn.read_times.Lts as lts
-use Rattle.table.proofs.in_turn.read_one_time.Reads as read-one-time-reads
+use Rattle.bits.proofs.align.Reads as align-reads
+use Rattle.table.proofs.in_turn.read_times_at.Reads as read-times-at-reads
 
-abbrev Inv-loop : tie.InvT-loop
-Inv-loop order count body table₀ from place₀ index₀ left₀ table place index left = Going (orderOf order) body table₀ from (times count (formatOf Time)) (place₀ .0) table (place .0) index (times left (formatOf Time))
+-- src/in_turn.rt:88:9
+returns : tie.Need-returns
+returns c = let a = c .before .before .before .args in times-none (orderOf (a .order)) (now (a .body)) (now (a .table)) (a .from) (a .count) (formatOf Time) (a .at .0) (c .if1 .taken)
 
-abbrev μ-loop : tie.MeasureT-loop
-μ-loop order count body table₀ from place₀ index₀ left₀ table place index left = left
+-- src/in_turn.rt:90:11
+align-requires : tie.Need-align-requires
+align-requires c κs = search needs
 
--- src/in_turn.rt:79:5
-loop-holds : tie.Need-loop-holds Inv-loop μ-loop
-loop-holds c = record { size = refl; same = refl; fits = c .before .before .pre }
+-- src/in_turn.rt:91:24
+enum-known-byte : tie.Need-enum-known-byte
+enum-known-byte c = search needs
 
--- src/in_turn.rt:80:13
-read-one-time-requires : tie.Need-read-one-time-requires Inv-loop μ-loop
-read-one-time-requires c κs = c .before .before .loop .inv .fits
+-- src/in_turn.rt:91:38
+read-times-at-requires : tie.Need-read-times-at-requires
+read-times-at-requires c κs = let a = c .before .before .before .before .before .before .before .before .args in let e = sym (c .before .before .before .before .align .ensures) ∙ c .before .before .byte .given .1 in (align-fits (orderOf (a .order)) (now (a .body)) (a .at .0) e (c .before .before .before .before .before .before .before .before .pre), align-clean (orderOf (a .order)) (now (a .body)) (a .at .0) e .1)
 
--- src/in_turn.rt:81:23
-enum-known-run : tie.Need-enum-known-run Inv-loop μ-loop
-enum-known-run c = search needs
-
--- src/in_turn.rt:82:13
-enum-told : tie.Need-enum-told Inv-loop μ-loop
+-- src/in_turn.rt:92:29
+enum-told : tie.Need-enum-told
 enum-told c = search needs
 
--- src/in_turn.rt:82:13
-same-length : tie.Need-same-length Inv-loop μ-loop
-same-length c = going-size (orderOf (c .before .before .before .before .before .before .before .before .before .before .args .order)) (c .before .before .before .before .before .before .before .loop .inv) (times-more (c .before .before .before .before .before .before .before .loop .left) (formatOf Time) (c .before .before .before .before .before .before .loop-test .taken)) (c .before .before .before .before .read-one-time .ensures)
+-- src/in_turn.rt:75:1
+same-length : tie.Need-same-length
+same-length c = search needs
 
--- src/in_turn.rt:82:13
-returns : tie.Need-returns Inv-loop μ-loop
-returns c = going-stop (orderOf (c .before .before .before .before .before .before .before .before .before .before .args .order)) (c .before .before .before .before .before .before .before .loop .inv) (times-more (c .before .before .before .before .before .before .before .loop .left) (formatOf Time) (c .before .before .before .before .before .before .loop-test .taken)) (c .enum-told .given .1) (c .before .before .before .before .read-one-time .ensures)
+-- src/in_turn.rt:75:1
+returns-2 : tie.Need-returns-2
+returns-2 c = let a = c .before .before .before .before .before .before .before .before .before .before .before .args in let some : 0 < a .count = omega (arith, c .before .before .before .before .before .before .before .before .if1 .left) in
+    c .before .before .read-times-at .ensures (orderOf (a .order)) ∙ ap (λ (r : Reading). shownOver (now (a .table)) (a .from) r) (sym (align-items (orderOf (a .order)) (now (a .body)) (a .at .0) Time (a .count) some (sym (c .before .before .before .before .before .before .before .align .ensures) ∙ c .before .before .before .before .before .byte .given .1)))
 
--- src/in_turn.rt:86:9
-sub-left : tie.Need-sub-left Inv-loop μ-loop
-sub-left c = omega arith
-
--- src/in_turn.rt:79:5
-loop-less : tie.Need-loop-less Inv-loop μ-loop
-loop-less c = omega arith
-
--- src/in_turn.rt:79:5
-loop-again : tie.Need-loop-again Inv-loop μ-loop
-loop-again c = going-next (orderOf (c .before .before .before .before .before .before .before .before .before .before .before .args .order)) (c .before .before .before .before .before .before .before .before .loop .inv) (times-more (c .before .before .before .before .before .before .before .before .loop .left) (formatOf Time) (c .before .before .before .before .before .before .before .loop-test .taken)) (fair-kind (orderOf (c .before .before .before .before .before .before .before .before .before .before .before .args .order)) Time) (c .before .run .given .1) (c .before .before .before .before .before .read-one-time .ensures)
-
--- src/in_turn.rt:65:1
-same-length-2 : tie.Need-same-length-2 Inv-loop μ-loop
-same-length-2 c = c .before .loop .inv .size
-
--- src/in_turn.rt:65:1
-returns-2 : tie.Need-returns-2 Inv-loop μ-loop
-returns-2 c = going-done (orderOf (c .before .before .before .before .args .order)) (c .before .loop .inv) (times-zero (c .before .loop .left) (formatOf Time) (omega arith))
+-- src/in_turn.rt:75:1
+returns-3 : tie.Need-returns-3
+returns-3 c = let a = c .before .before .before .before .before .before .args in align-no-items (orderOf (a .order)) (now (a .body)) (a .at .0) Time (a .count) (now (a .table)) (a .from) (omega (arith, c .before .before .before .if1 .left)) (sym (c .before .before .align .ensures) ∙ c .enum-told .given .1)
 
 pub read-times-spec : {M : Type 1} → statement M
 read-times-spec =
     tie.close
     (tie.spec
-    Inv-loop
-    μ-loop
-    loop-holds
-    read-one-time-requires
-    enum-known-run
+    returns
+    align-requires
+    enum-known-byte
+    read-times-at-requires
     enum-told
     same-length
-    returns
-    sub-left
-    loop-less
-    loop-again
-    same-length-2
-    returns-2)
+    returns-2
+    returns-3)
