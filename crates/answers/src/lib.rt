@@ -1,4 +1,6 @@
 // The answer of a public call, one of two cases: accepted with its count, or refused with reason and number.
+#![tactic(auto)]
+
 ghost use Rattle.format.specs.Reasons.{IsFile};
 
 #[derive(Drop)]

@@ -1,4 +1,6 @@
 // The attributes of a block, their flags, and what their kinds and data types tell.
+#![tactic(auto)]
+
 ghost use Rattle.std.specs.Prelude.{◌≡◌, ◌+◌, ◌≤◌, ◌<◌, length};
 ghost use Rattle.format.specs.Items.{run};
 ghost use Rattle.format.specs.Bodies.{flags_of, all_flags, dimensions as dimensions_of, curves as curves_of};

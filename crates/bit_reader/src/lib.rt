@@ -1,4 +1,6 @@
 // A bit reader for hosts: it holds the file's bytes, its bit order and its place, and reads UB and SB fields.
+#![tactic(auto)]
+
 ghost use Rattle.std.specs.Prelude.{◌≡◌, true, false, ◌<◌, ◌≤◌, length};
 ghost use Rattle.bits.specs.Places.{PlaceIn, num_of, order_of};
 ghost use Rattle.bit_reader.specs.Readers.{at_start, taken};

@@ -1,4 +1,6 @@
 // Places in the bytes of a body, and the bit fields that stand there.
+#![tactic(auto)]
+
 ghost use Rattle.std.specs.Prelude.{◌≡◌, ◌+◌, ◌*◌, ◌^◌, ◌<◌, slice_index};
 ghost use Rattle.format.specs.Bits.{order_named};
 ghost use Rattle.format.specs.Items.{skipped};

@@ -1,4 +1,6 @@
 // The body of a tag that is read: its values into the lent table, and its end.
+#![tactic(auto)]
+
 ghost use Rattle.std.specs.Prelude.{◌≡◌, false, ◌≤◌, ◌<◌, ◌^◌, length};
 ghost use Rattle.format.specs.Bodies.{read_part, read_body};
 ghost use Rattle.bits.specs.Places.{order_of};

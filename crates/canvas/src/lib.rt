@@ -1,4 +1,6 @@
 // The first CompositionAttributes of a file that isn't opaque: a walk that stops there, without judging the rest.
+#![tactic(auto)]
+
 ghost use Rattle.std.specs.Prelude.{◌≡◌, ◌+◌, ◌≤◌, ◌<◌, ◌^◌, length};
 ghost use Rattle.format.specs.FileAndTags.{head, walk_list};
 ghost use Rattle.bits.specs.Places.{order_of};

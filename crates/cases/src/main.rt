@@ -1,4 +1,6 @@
 // The listing of each case, or its refusal: the arguments are pairs of a level and a file's name.
+#![tactic(auto)]
+
 use printing::Input;
 
 // The most bytes that are listed; one more is read, to notice a longer file.

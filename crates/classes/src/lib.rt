@@ -1,4 +1,6 @@
 // The class of each of the 1,024 codes, from one table.
+#![tactic(auto)]
+
 ghost use Rattle.std.specs.Prelude.{◌≡◌, ltb, ◌<◌, length};
 ghost use Rattle.format.specs.Tests.{pick};
 ghost use Rattle.std.proofs.lemmas.List.Edits.{sets};

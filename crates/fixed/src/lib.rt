@@ -1,4 +1,6 @@
 // Bodies that are no attribute blocks: their items as constant rows, walked by one reader; and font tables.
+#![tactic(auto)]
+
 ghost use Rattle.std.specs.Prelude.{◌≡◌, ◌≤◌, ◌<◌, get_or};
 ghost use Rattle.format.specs.Formats.{times};
 ghost use Rattle.format.specs.Items.{run, string};

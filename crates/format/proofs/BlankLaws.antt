@@ -30,10 +30,12 @@ use Rattle.format.proofs.Absurd.{clash}
 -- ---- places outside of opaque bodies
 -- before tags, and past them
 before_tags : (n a b : ℕ) (ts : List Tag) → Between a b ts → n < a → InOpaque n ts → ⊥
+before_tags n a b [] h l x3 = elim x3 [ ]
 before_tags n a b (t ∷ ts) h l (here e p q) = omega (arith, h.0)
 before_tags n a b (t ∷ ts) h l (later i) = before_tags n a b ts h.3 l i
 
 past_tags : (n a b : ℕ) (ts : List Tag) → Between a b ts → b ≤ n → InOpaque n ts → ⊥
+past_tags n a b [] h l x3 = elim x3 [ ]
 past_tags n a b (t ∷ ts) h l (here e p q) = omega (arith, h.2)
 past_tags n a b (t ∷ ts) h l (later i) = past_tags n a b ts h.3 l i
 
@@ -364,10 +366,12 @@ numbers_agree k (suc (suc (suc j))) (t ∷ ts) h =
 
 -- which indices these are
 packed_zeroed : (i k : ℕ) (ts : List Tag) → InPacked i k ts → InPacked i k (map zeroed_tag ts)
+packed_zeroed i k [] x' = elim x' [ ]
 packed_zeroed i k (t ∷ ts) (in_this e l m) = in_this {t = zeroed_tag t} e l (rw (length_zeroed (is_opaque t.state) t.values) m)
 packed_zeroed i k (t ∷ ts) (in_next h) = in_next {k = k} {t = zeroed_tag t} {ts = map zeroed_tag ts} (rw (length_zeroed (is_opaque t.state) t.values) (packed_zeroed i (k + (3 + length t.values)) ts h))
 
 zeroed_packed_at : (i k : ℕ) (ts : List Tag) → InPacked i k (map zeroed_tag ts) → InPacked i k ts
+zeroed_packed_at i k [] x' = elim x' [ ]
 zeroed_packed_at i k (t ∷ ts) (in_this e l m) = in_this e l (rw (length_zeroed (is_opaque t.state) t.values) at m)
 zeroed_packed_at i k (t ∷ ts) (in_next h) = in_next (zeroed_packed_at i (k + (3 + length t.values)) ts (rw (length_zeroed (is_opaque t.state) t.values) at h))
 
@@ -486,10 +490,12 @@ module _ (order level : ℕ) (f g : List ℕ) (h : Blanked order level f g) wher
 
 -- ---- the same bytes are opaque to both, so either file is the other one blanked
 opaque_zeroed : (n : ℕ) (ts : List Tag) → InOpaque n ts → InOpaque n (map zeroed_tag ts)
+opaque_zeroed n [] x' = elim x' [ ]
 opaque_zeroed n (t ∷ ts) (here e l m) = here e l m
 opaque_zeroed n (t ∷ ts) (later i) = later (opaque_zeroed n ts i)
 
 zeroed_opaque : (n : ℕ) (ts : List Tag) → InOpaque n (map zeroed_tag ts) → InOpaque n ts
+zeroed_opaque n [] x' = elim x' [ ]
 zeroed_opaque n (t ∷ ts) (here e l m) = here e l m
 zeroed_opaque n (t ∷ ts) (later i) = later (zeroed_opaque n ts i)
 

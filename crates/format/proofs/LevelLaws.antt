@@ -81,6 +81,7 @@ module _ (lo : ℕ) (f : List ℕ) where
   hide_inside a e (t ∷ ts) us h = rw (lt-ltb t.place e (omega (arith, h.1, h.2))) (hide_inside a e ts us h.3)
 
   hidden_left : (n : ℕ) (ts us : List Tag) → InHidden lo n ts → InHidden lo n (ts ++ us)
+  hidden_left n [] us x' = elim x' [ ]
   hidden_left n (t ∷ ts) us (here c p q) = here c p q
   hidden_left n (t ∷ ts) us (later h) = later (hidden_left n ts us h)
 

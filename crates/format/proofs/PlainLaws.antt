@@ -88,7 +88,9 @@ module _ (f : List ℕ) where
             let n : length body ≡ len = length-take-le len (drop size (x ∷ r)) (rw length-drop (omega (arith, h.1))) in
             let q : Part f (a + size) body = part_take f (a + size) len (drop size (x ∷ r)) (part_drop f a size (x ∷ r) (omega (arith, h.1)) p) in
             let v : Part f (a + size + len) (drop (size + len) (x ∷ r)) = rw add_assoc (part_drop f a (size + len) (x ∷ r) h.1 p) in
-            shown_chain _ (within o (R (pred left)) (class code) a (a + size) body).walk.ended _
+            let t : Tag = record { depth = 8 - left; code = code; place = a; header_size = size; body_length = len; state = state_of (class code) size len; values = (within o (R (pred left)) (class code) a (a + size) body).values } in
+            shown_chain (t ∷ (within o (R (pred left)) (class code) a (a + size) body).walk.tags) (within o (R (pred left)) (class code) a (a + size) body).walk.ended
+            (after_tag (is_end (class code)) c (a + size + len) (drop (size + len) (x ∷ r)) (R left c))
             (shown_tag (R (pred left)) (class code) (8 - left) code a size len body n q, shown_within (R (pred left)) (u (pred left)) (class code) a (a + size) body q)
             (after u (is_end (class code)) (a + size + len) (drop (size + len) (x ∷ r)) v)
 

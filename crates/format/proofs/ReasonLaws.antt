@@ -1,6 +1,6 @@
 -- Every refusal has a reason: `read_reason` and `tags_reason` (1 to 7, 9 to 18, or 24) and `answer_reason` (19 too), at the end. None is 0, which
 -- means 'accepted' to a host, and none is 8 (C-11).
-use Prim.Native.Nat.{ℕ, zero, suc, pred, ◌+◌, ◌*◌, ◌/◌, ◌%◌, ◌≤◌}
+use Prim.Native.Nat.{ℕ, zero, suc, pred, ◌+◌, ◌-◌, ◌*◌, ◌/◌, ◌%◌, ◌≤◌}
 use mathlib.Core.List.{List, [], ◌∷◌}
 use mathlib.Core.Path.{◌≡◌, refl, subst}
 use mathlib.Core.Bool.{Bool, true, false}
@@ -15,7 +15,7 @@ use Rattle.format.specs.Reading.{Ending, At, Fault, Reading, follow}
 use Rattle.format.specs.Formats.{Item, Format, nothing, item, only, ◌▹◌, ◌▸◌, times, the}
 use Rattle.format.specs.Items.{skipped, room, Num, num, bad, show_num, map_num, sign_extend, read_ub, carry, read_var, sign, not_one, exist, read_flag, above, read_le, Text, text, cut, read_text, show_text, read_align, read_item, judge, run, byte_item, u32, i32, time, color, count, coordinates, point, scaled, path, uint16, gradient_color}
 use Rattle.format.specs.Bodies.{font_tables, composition_attributes, solid_color, Kind, Value, Fixed, BitFlag, Simple, Discrete, MultiDimension, Spatial, Custom, DataType, U32s, Times, Floats, Ratios, Bools, Bytes, BlendModes, Paths, Points, Colors, GradientColors, Enums, Dashes, TagBlocks, Attribute, flags_of, value, values, interpolation, interpolations, how_many, points, curves, spatial, has_spatial, animated, aligned, dashes, keyframed, content_of, all_flags, rows, hand_on, read_block, Body, fixed, attributes, read_part, to_end, used_up, read_body}
-use Rattle.format.specs.FileAndTags.{signature_right, version_right, length_right, Class, opaque, end, container, known, codes, class_of, is_end, is_container, Tag, Outcome, whole, fault, Walk, broken, chain, Head, head, no_head, le16, le32, raw_head, passes, read_head, Owner, file, inside, TagInside, end_at, has_list, opened, within, after_tag, one_tag, walk, walk_list}
+use Rattle.format.specs.FileAndTags.{signature_right, version_right, length_right, Class, opaque, end, container, known, codes, class_of, is_end, is_container, Tag, Outcome, whole, fault, Walk, broken, chain, state_of, Head, head, no_head, le16, le32, raw_head, passes, read_head, Owner, file, inside, TagInside, end_at, has_list, opened, within, after_tag, one_tag, walk, walk_list}
 use Rattle.format.specs.TableOfNumbers.{table, tag_table}
 use Rattle.format.specs.Reasons.{start_fault, walk_file, Result, gives, refuses, result, read_file, read_tags, Answer, accepted, refused, Left, into}
 use Rattle.format.proofs.Absurd.{either_way}
@@ -411,7 +411,9 @@ module _ (o : Order) where
       one : ((left : ℕ) (c : Owner) (a : ℕ) (r : List ℕ) → NamedWalk (R left c a r)) → (g : Head) → NamedHead g → NamedWalk (one_tag o class R left c a (x ∷ r) g)
       one u (no_head e) g = g
       one u (head code len size) g =
-          named_chain _ (within o (R (pred left)) (class code) a (a + size) (take len (drop size (x ∷ r)))).walk.ended _
+          let t : Tag = record { depth = 8 - left; code = code; place = a; header_size = size; body_length = len; state = state_of (class code) size len; values = (within o (R (pred left)) (class code) a (a + size) (take len (drop size (x ∷ r)))).values } in
+          named_chain (t ∷ (within o (R (pred left)) (class code) a (a + size) (take len (drop size (x ∷ r)))).walk.tags) (within o (R (pred left)) (class code) a (a + size) (take len (drop size (x ∷ r)))).walk.ended
+          (after_tag (is_end (class code)) c (a + size + len) (drop (size + len) (x ∷ r)) (R left c))
           (named_within (R (pred left)) (u (pred left)) (class code) (h code) a (a + size) (take len (drop size (x ∷ r))))
           (named_after (is_end (class code)) c (a + size + len) (drop (size + len) (x ∷ r)) (R left c) (u left c (a + size + len) (drop (size + len) (x ∷ r))))
 

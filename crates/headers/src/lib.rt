@@ -1,4 +1,6 @@
 // Tag headers: a little-endian 16-bit number, and a 32-bit body length after it where its length is 63.
+#![tactic(auto)]
+
 ghost use Rattle.std.specs.Prelude.{◌≡◌, ◌+◌, ◌<◌, ◌≤◌, ◌^◌, length, drop};
 ghost use Rattle.format.specs.FileAndTags.{le16, le32, raw_head};
 ghost use Rattle.headers.specs.Heads.{as_head, code_of, fault_by};

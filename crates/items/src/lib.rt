@@ -1,4 +1,6 @@
 // The items that show one number: each starts on a whole byte.
+#![tactic(auto)]
+
 ghost use Rattle.std.specs.Prelude.{◌≡◌, ◌+◌, ◌*◌, ◌^◌, ◌<◌, ◌≤◌, length};
 ghost use Rattle.format.specs.Items.{num, show_num, run, read_le, read_ub};
 ghost use Rattle.bits.specs.Places.{PlaceIn, num_of, order_of, InEither};

@@ -1,4 +1,6 @@
 // The listing: text made from the two tables.
+#![tactic(auto)]
+
 ghost use Rattle.std.specs.Prelude.{◌≡◌, ◌+◌, ◌-◌, ◌≤◌, ◌<◌, length, get_or};
 ghost use Rattle.listing.specs.Listing.{refusal, too_long};
 ghost use Rattle.listing.specs.Steps.{laid, lays, ender, byte_fields, first_step, after_head, head_step, value_step, step, part_of, part_leaves, text_over};

@@ -1,4 +1,6 @@
 // Tag lists: the tags of a list one after the other, each container's own list by a call to the same function.
+#![tactic(auto)]
+
 ghost use Rattle.std.specs.Prelude.{◌≡◌, ◌+◌, ◌<◌, ◌≤◌, ◌^◌, length};
 ghost use Rattle.format.specs.FileAndTags.{blame as blame_of, head, walk_list};
 ghost use Rattle.lists.specs.Lists.{owner_of, listed, walk_over, next_by, stepped, tag_at, tag_in, last_of, Bounds};

@@ -1,4 +1,6 @@
 // The opacity of a mask at a frame (C-22). The body is judged once; then the opacity's place is found, and its numbers are cut out where they stand.
+#![tactic(auto)]
+
 ghost use Rattle.std.specs.Prelude.{◌≡◌};
 ghost use Rattle.bits.specs.Places.{order_of};
 ghost use Rattle.opacity.specs.Opacity.{from_opacity, shown_at, opacity_at};

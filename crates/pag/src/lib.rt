@@ -1,4 +1,6 @@
 // The exports for hosts, over the proved calls. An answer is a plain struct here: reason 0 means accepted, and the number is the count.
+#![tactic(auto)]
+
 ghost use Rattle.std.specs.Prelude.{◌≡◌};
 ghost use Rattle.format.specs.Reasons.{read_file, read_tags, into};
 ghost use Rattle.bit_reader.specs.Fields.{field_of};

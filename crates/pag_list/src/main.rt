@@ -1,4 +1,6 @@
 // The listing of the file on standard input; with the argument --singles, path coordinates are printed as the bits of singles. What it prints is made by proved functions; this program only reads and writes.
+#![tactic(auto)]
+
 use libc::{STDERR_FILENO, STDIN_FILENO};
 use printing::Input;
 

@@ -1,5 +1,7 @@
 // The tally of the files that stand one after another on standard input, at level 1023 and high first. What it prints is made by proved functions; this
 // program only reads and writes.
+#![tactic(auto)]
+
 ghost use Rattle.std.specs.Prelude.{◌≡◌, ◌≤◌, length};
 ghost use Rattle.pag_tally.specs.Sizes.{size_of};
 

@@ -1,4 +1,6 @@
 // Path coordinates as the bits of singles, in place of their steps (C-23): among the values of a tag that is read.
+#![tactic(auto)]
+
 ghost use Rattle.std.specs.Prelude.{◌≡◌, suc, ◌+◌, ◌-◌, ◌≤◌, ◌<◌, ◌^◌, min, length, get_or, set, take, drop};
 ghost use Rattle.format.specs.Tests.{◌or◌};
 ghost use Rattle.format.specs.Items.{coordinates as coordinates_in};

@@ -1,4 +1,6 @@
 // What the programs share: reading a whole input, and printing a file's listing or refusal. What is printed is made by proved functions.
+#![tactic(auto)]
+
 ghost use Rattle.std.specs.Prelude.{◌≡◌, ◌≤◌, length};
 ghost use Rattle.format.specs.TableOfNumbers.{table as table_of};
 ghost use Rattle.format.specs.Reasons.{walk_file, read_file, read_tags, into};

@@ -1,4 +1,6 @@
 // Questions to an index of tags: how many tags have a code, and where is the k-th?
+#![tactic(auto)]
+
 ghost use Rattle.std.specs.Prelude.{◌≡◌, ◌+◌, ◌*◌, ◌≤◌, ◌<◌, length, true};
 ghost use Rattle.answers.specs.Answers.{answer_of};
 ghost use Rattle.tag_index.specs.Index.{tag_count, how_many, where_is, is_index, count_answer, place_answer};

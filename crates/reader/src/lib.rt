@@ -1,4 +1,6 @@
 // Whole files: the table of numbers, and the tag table.
+#![tactic(auto)]
+
 ghost use Rattle.std.specs.Prelude.{◌≡◌, ◌≤◌, length, drop};
 ghost use Rattle.format.specs.FileAndTags.{file as own_file, walk_list};
 ghost use Rattle.format.specs.Reasons.{start_fault, walk_file, read_file, read_tags, into};

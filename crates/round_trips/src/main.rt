@@ -1,6 +1,8 @@
 // Reads files and writes them back, and writes tables and reads them back: a line for each record on standard input.
 // What is lent is filled before each call. A refusal must leave all of it so, and an acceptance what is past its count: else the line says TOUCHED.
 // tests/reference/make_round_trips.py makes the records, and what has to be printed.
+#![tactic(auto)]
+
 ghost use Rattle.std.specs.Prelude.{◌+◌, ◌≤◌, ◌<◌, length};
 
 use answers::Answer;

@@ -1,4 +1,6 @@
 // The single-precision value of a path step, as its bits (C-23): by whole numbers alone.
+#![tactic(auto)]
+
 ghost use Rattle.std.specs.Prelude.{◌≡◌, ◌*◌, ◌^◌, ◌≤◌, ◌<◌};
 ghost use Rattle.answers.specs.Answers.{answer_of};
 ghost use Rattle.singles.specs.Single.{product, behind, nearest, magnitude as magnitude_of, of_step, single as single_of, of_number};

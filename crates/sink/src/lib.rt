@@ -1,4 +1,6 @@
 // Bits put after one another into a lent output: whole bytes are stored where there is room, the bits of a byte that has begun wait in the sink.
+#![tactic(auto)]
+
 ghost use Rattle.std.specs.Prelude.{◌≡◌, ◌+◌, ◌*◌, ◌^◌, ◌<◌, ◌≤◌, set};
 ghost use Rattle.format.specs.WritingItems.{dig, glue as one_field};
 ghost use Rattle.bits.specs.Places.{order_of};

@@ -1,4 +1,6 @@
 // The values of a tag, written as the items of a body: each function goes on from a sink and an index, and says that no file has the values where they cannot be written.
+#![tactic(auto)]
+
 ghost use Rattle.std.specs.Prelude.{◌≡◌, ◌+◌, ◌*◌, ◌≤◌};
 ghost use Rattle.items.specs.Kinds.{format_of};
 ghost use Rattle.format.specs.Items.{skipped};

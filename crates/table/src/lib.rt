@@ -1,4 +1,6 @@
 // The lent table. A number is stored only where there is room, so one engine serves the run that counts and the run that fills.
+#![tactic(auto)]
+
 ghost use Rattle.std.specs.Prelude.{◌≡◌, ◌-◌, min, set};
 ghost use Rattle.format.specs.Items.{run};
 ghost use Rattle.items.specs.Kinds.{format_of};

@@ -1,4 +1,6 @@
 // Where the bytes go: a tally of what files spend on each tag.
+#![tactic(auto)]
+
 ghost use Rattle.std.specs.Prelude.{◌≡◌, ◌+◌, ◌<◌, ◌≤◌, length};
 ghost use Rattle.format.specs.FileAndTags.{whole};
 ghost use Rattle.format.specs.Reasons.{IsFile, walk_file};

@@ -1,4 +1,6 @@
 // The text of a tally.
+#![tactic(auto)]
+
 ghost use Rattle.std.specs.Prelude.{◌≡◌, ◌+◌, ◌*◌, ◌≤◌, length};
 ghost use Rattle.listing.specs.Steps.{laid, lays};
 ghost use Rattle.tally_text.specs.Report.{header_line, count_line, count_lines, report};

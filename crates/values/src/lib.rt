@@ -1,4 +1,6 @@
 // The values of attributes, by their data type: one, or several in turn.
+#![tactic(auto)]
+
 ghost use Rattle.std.specs.Prelude.{false, ◌≡◌, ◌≤◌};
 ghost use Rattle.format.specs.Formats.{times, ◌▸◌};
 ghost use Rattle.format.specs.Items.{run, path, time, gradient_color};

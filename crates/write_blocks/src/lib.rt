@@ -1,5 +1,7 @@
 // Attribute blocks, written: the contents first, one byte after the block's place, and then the flags of all attributes before them. In the values
 // each attribute's flag number stands before its content: so one walk over them finds both, and no content is measured before it is written.
+#![tactic(auto)]
+
 ghost use Rattle.std.specs.Prelude.{◌≡◌, ◌+◌, ◌-◌, ◌^◌, ◌≤◌, ◌<◌};
 ghost use Rattle.format.specs.WritingItems.{before, spell_flag};
 ghost use Rattle.format.specs.Bodies.{content as content_of, attributes as attributes_body};

@@ -1,4 +1,6 @@
 // The body of a tag, written from its values: of a leaf, or what stands before a container's list.
+#![tactic(auto)]
+
 ghost use Rattle.std.specs.Prelude.{◌≡◌, ◌≤◌};
 ghost use Rattle.format.specs.Bodies.{fixed};
 ghost use Rattle.format.specs.WritingBodies.{write_body};

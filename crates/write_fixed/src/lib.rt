@@ -1,4 +1,6 @@
 // Bodies that are no attribute blocks, written: the constant rows of their items, walked by one writer; and font tables.
+#![tactic(auto)]
+
 ghost use Rattle.std.specs.Prelude.{◌≡◌, ◌*◌, ◌≤◌};
 ghost use Rattle.format.specs.Formats.{times};
 ghost use Rattle.format.specs.Items.{string};

@@ -1,6 +1,8 @@
 // Little-endian numbers, and headers. Where a body's length is known before it, its header is put first. Else the body is: two bytes after the tag's
 // place, which is room for the short header; for the long one it moves up by four. Where a short body claims the long header, six bytes are kept and
 // nothing moves. So no body is measured before it is written.
+#![tactic(auto)]
+
 ghost use Rattle.std.specs.Prelude.{◌≡◌, ◌+◌, ◌-◌, ◌≤◌, ◌<◌, ◌^◌, min, take, drop};
 ghost use Rattle.std.proofs.lemmas.List.Edits.{sets};
 ghost use Rattle.format.specs.WritingFiles.{spell16, spell32, spell_long};

@@ -1,6 +1,8 @@
 // Tag lists, written from the numbers of a lent table. An opaque tag is written whole, its header first, since its length is its first number. What
 // stands in another tag is put first, behind the bytes kept for its header, and then the header before it (`write_heads::close`). So a container's
 // body is not walked again to measure it: a byte moves at most once for each depth, and a body that claims the long header does not move for it.
+#![tactic(auto)]
+
 ghost use Rattle.std.specs.Prelude.{◌≡◌, false, ◌+◌, ◌-◌, ◌≤◌, ◌<◌, length, get_or, drop};
 ghost use Rattle.format.specs.WritingFiles.{claims, unwalk_list};
 ghost use Rattle.bits.specs.Places.{InEither, order_of};

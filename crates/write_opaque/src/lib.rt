@@ -1,5 +1,7 @@
 // Opaque tags, written from the packed numbers of their bodies: the body's length, and then eight bytes to a number, the first of them lowest. The length
 // is known before the body, so the header is put first, and nothing moves.
+#![tactic(auto)]
+
 ghost use Rattle.std.specs.Prelude.{◌≡◌, ◌+◌, ◌-◌, ◌*◌, ◌/◌, ◌≤◌, ◌<◌, length, take, drop};
 ghost use Rattle.std.proofs.lemmas.List.Edits.{sets};
 ghost use Rattle.format.specs.TableOfNumbers.{eight_of, spread};

@@ -1,4 +1,6 @@
 // The values of attributes, written by their data type: one, or several in turn.
+#![tactic(auto)]
+
 ghost use Rattle.std.specs.Prelude.{◌≡◌, ◌≤◌};
 ghost use Rattle.format.specs.Formats.{times, ◌▸◌};
 ghost use Rattle.format.specs.Items.{path, time, byte, gradient_color};
