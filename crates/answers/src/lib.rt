@@ -3,7 +3,7 @@
 
 ghost use Rattle.format.specs.Reasons.{IsFile};
 
-#[derive(Drop)]
+#[derive(Clone, Copy)]
 pub enum Answer {
     Accepted(u64),
     Refused(u32, u64),

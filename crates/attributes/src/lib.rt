@@ -13,7 +13,7 @@ pub mod blocks;
 
 use bits::{BitPlace, Got, Order};
 
-#[derive(Drop)]
+#[derive(Clone, Copy)]
 pub enum Kind {
     Value,
     Fixed,
@@ -26,7 +26,7 @@ pub enum Kind {
 }
 
 // EnumTo4 goes from 0 to 4, and so the others.
-#[derive(Drop)]
+#[derive(Clone, Copy)]
 pub enum DataType {
     U32,
     Time,
@@ -49,7 +49,7 @@ pub enum DataType {
 }
 
 // The attributes of a block, in order: the first `count` of twelve rows, each one number (see `blocks`).
-#[derive(Drop)]
+#[derive(Clone, Copy)]
 pub struct Block {
     pub rows: [u8; 12],
     pub count: usize,
@@ -99,7 +99,7 @@ pub fn type_in(row: u8) -> DataType
 
 // The flag number of an attribute, and the place behind its bits. They are taken out of the first 40 bits of a body: a block has at most twelve attributes, with at
 // most three bits each. A bit past the body is 0 there, so it is not taken for a set one, and the place behind tells that it is past the body.
-#[derive(Drop)]
+#[derive(Clone, Copy)]
 struct Flag {
     number: u64,
     behind: u64,
@@ -204,7 +204,7 @@ pub fn read_flags(order: Order, rows: &[u8], count: usize, body: &[u8]) -> Got
 }
 
 // What a block has of an attribute besides its flags: nothing, one value, or keyframes.
-#[derive(Drop)]
+#[derive(Clone, Copy)]
 pub enum Content {
     Nothing,
     One,
@@ -276,7 +276,7 @@ pub fn has_interpolations(kind: Kind) -> bool
 }
 
 // How keyframed values stand: in turn; as one bit each; as fields of a width, which are bytes or the x and y of Points.
-#[derive(Drop)]
+#[derive(Clone, Copy)]
 pub enum Layout {
     InTurn,
     Bits,

@@ -11,7 +11,7 @@ use bits::fields::{read_sb, read_ub};
 use bits::{BitPlace, Got, Order};
 
 // The file's bytes, the number of a bit order, and a place in the bytes.
-#[derive(Drop)]
+#[derive(Clone, Copy)]
 pub struct BitReader<'a> {
     pub bytes: &'a [u8],
     pub order: u32,
@@ -19,21 +19,21 @@ pub struct BitReader<'a> {
 }
 
 // A field's number; or a reason, and number 0.
-#[derive(Drop)]
+#[derive(Clone, Copy)]
 pub enum Field {
     Value(u64),
     Refused(u32, u64),
 }
 
 // A field, and the place afterwards.
-#[derive(Drop)]
+#[derive(Clone, Copy)]
 pub struct Step {
     pub field: Field,
     pub place: BitPlace,
 }
 
 // A field, and the reader at the place afterwards.
-#[derive(Drop)]
+#[derive(Clone, Copy)]
 pub struct Taken<'a> {
     pub reader: BitReader<'a>,
     pub field: Field,

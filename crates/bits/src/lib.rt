@@ -9,7 +9,7 @@ ghost use Rattle.bits.specs.Places.{PlaceIn, aligned_at, order_of};
 pub mod fields;
 
 // In which order bits are taken from a byte and joined to a field: from the highest on, or from the lowest.
-#[derive(Drop)]
+#[derive(Clone, Copy)]
 pub enum Order {
     HighFirst,
     LowFirst,
@@ -17,28 +17,28 @@ pub enum Order {
 
 // Bit places and byte places are counted apart, and only `next_byte` turns one into the other; `first_bit` is its way back. A place is counted from
 // the start of the bytes that it is a place in. To address the byte in which a bit stands is no conversion.
-#[derive(Drop)]
+#[derive(Clone, Copy)]
 pub struct BitPlace(pub usize);
 
-#[derive(Drop)]
+#[derive(Clone, Copy)]
 pub struct BytePlace(pub usize);
 
 // A whole byte, in both counts.
-#[derive(Drop)]
+#[derive(Clone, Copy)]
 pub struct Whole {
     pub byte: BytePlace,
     pub bit: BitPlace,
 }
 
 // A whole byte, in both counts, after zero bits; or a skipped bit is not zero.
-#[derive(Drop)]
+#[derive(Clone, Copy)]
 pub enum Aligned {
     Clean(BytePlace, BitPlace),
     Unclean,
 }
 
 // A number and the place after it, or a reason.
-#[derive(Drop)]
+#[derive(Clone, Copy)]
 pub enum Got {
     Value(u64, BitPlace),
     Fault(u32),

@@ -16,7 +16,7 @@ use table::Run;
 
 // After the values of a tag: the byte of its body where they end, and the index behind what was stored. Its body is used up; or its list is still to be read,
 // from that byte on. Or a reason.
-#[derive(Drop)]
+#[derive(Clone, Copy)]
 pub enum Shown {
     Done(BytePlace, usize),
     Open(BytePlace, usize),

@@ -18,7 +18,7 @@ use headers::{Head, Header};
 use lists::Owner;
 
 // What is answered: there is such a tag; there is none; or a reason and its second number.
-#[derive(Drop)]
+#[derive(Clone, Copy)]
 pub enum Seen {
     Found,
     None,
@@ -26,7 +26,7 @@ pub enum Seen {
 }
 
 // The answer: its seven values (zeros where none is found), and how many tag headers were read.
-#[derive(Drop)]
+#[derive(Clone, Copy)]
 pub struct CanvasSize {
     pub seen: Seen,
     pub values: [u64; 7],
@@ -34,7 +34,7 @@ pub struct CanvasSize {
 }
 
 // A tag's body in its list's room: where it starts, where a list in it starts, and where it stops.
-#[derive(Drop)]
+#[derive(Clone, Copy)]
 pub struct Body {
     pub start: BytePlace,
     pub list: BytePlace,
@@ -43,7 +43,7 @@ pub struct Body {
 
 // A tag: its header does not pass; or it passes, and the body faults; the tag that is looked for; End; a container, whose list is still to be read; or
 // another tag may follow.
-#[derive(Drop)]
+#[derive(Clone, Copy)]
 pub enum Judged {
     NoTag(u32),
     Faulty(u32),
@@ -54,7 +54,7 @@ pub enum Judged {
 }
 
 // The tag that is looked for: its body stands from `start` up to `stop` of the file.
-#[derive(Drop)]
+#[derive(Clone, Copy)]
 pub struct Spot {
     pub start: BytePlace,
     pub stop: BytePlace,
@@ -62,7 +62,7 @@ pub struct Spot {
 }
 
 // After a list, each with the headers read so far: it is whole and has no such tag; it has one; or a reason and its second number, a place in the file.
-#[derive(Drop)]
+#[derive(Clone, Copy)]
 pub enum Looked {
     Whole(usize),
     Found(Spot),

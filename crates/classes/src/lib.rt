@@ -8,7 +8,7 @@ ghost use Rattle.classes.specs.Tables.{tab};
 ghost use Rattle.classes.specs.Classes.{all_classes, taken_as, number_of, numbered, number_by};
 ghost use Rattle.classes.specs.declared.Class.TheVariants.{Opaque};
 
-#[derive(Drop)]
+#[derive(Clone, Copy)]
 pub enum Class {
     Opaque,
     End,
@@ -18,7 +18,7 @@ pub enum Class {
 }
 
 // How much a walk reads of a tag list: all of it; or, where all of it was judged before, the lists alone, with every other body opaque.
-#[derive(Drop)]
+#[derive(Clone, Copy)]
 pub enum Scope {
     All,
     Lists,

@@ -50,7 +50,7 @@ pub fn item_at(row: usize) -> Item
 }
 
 // Items of the table: from row start on, up to row end.
-#[derive(Drop)]
+#[derive(Clone, Copy)]
 pub struct Rows {
     pub start: usize,
     pub end: usize,

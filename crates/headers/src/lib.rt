@@ -9,7 +9,7 @@ use bits::BytePlace;
 use classes::Class;
 
 // A tag's header: its code, the length of its body, and its own size, in bytes.
-#[derive(Drop)]
+#[derive(Clone, Copy)]
 pub struct Header {
     pub code: u32,
     pub length: u32,
@@ -17,7 +17,7 @@ pub struct Header {
 }
 
 // A header, or a reason.
-#[derive(Drop)]
+#[derive(Clone, Copy)]
 pub enum Head {
     Tag(Header),
     Fault(u32),

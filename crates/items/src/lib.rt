@@ -12,7 +12,7 @@ mod var;
 use bits::{Aligned, BitPlace, BytePlace, Got, Order, Whole};
 
 // An Enum goes from 0 to its top, a Count from its least to 4,096. Each is one byte, so that a kind is two: counted, it is handed on in a register so.
-#[derive(Drop)]
+#[derive(Clone, Copy)]
 pub enum Item {
     U32,
     I32,
@@ -26,7 +26,7 @@ pub enum Item {
 }
 
 // A number and the whole byte behind it, in both counts; or a reason.
-#[derive(Drop)]
+#[derive(Clone, Copy)]
 pub enum Spelled {
     Value(u64, Whole),
     Fault(u32),

@@ -12,7 +12,7 @@ pub mod fields;
 
 // Where a part of the listing starts: indexes in the table and the tag table, how many fields are left in the record, and whether these are the
 // bytes of a packed body.
-#[derive(Drop)]
+#[derive(Clone, Copy)]
 pub struct Cursor {
     pub number: usize,
     pub row: usize,
@@ -21,7 +21,7 @@ pub struct Cursor {
 }
 
 // How many bytes a part of the listing used, and where the next part starts.
-#[derive(Drop)]
+#[derive(Clone, Copy)]
 pub struct Part {
     pub used: usize,
     pub to: Cursor,

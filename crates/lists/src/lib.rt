@@ -13,21 +13,21 @@ use classes::Class;
 use headers::{Head, Header};
 
 // Whose list it is: the file's own, or that of the container at this place in the file.
-#[derive(Drop)]
+#[derive(Clone, Copy)]
 pub enum Owner {
     File,
     Container(BytePlace),
 }
 
 // After a list: the next index of the table and of the tag table; or a reason and its second number, a place in the file.
-#[derive(Drop)]
+#[derive(Clone, Copy)]
 pub enum Walked {
     Next(usize, usize),
     Fault(u32, BytePlace),
 }
 
 // A container whose own numbers are stored: its list has the room from `list` up to `stop`, and `behind` is the next index of the table.
-#[derive(Drop)]
+#[derive(Clone, Copy)]
 pub struct Opened {
     pub list: BytePlace,
     pub stop: BytePlace,
@@ -36,7 +36,7 @@ pub struct Opened {
 
 // After a tag that ends at this place of the room, with the next index of the table: another tag may follow; it was End. Or it is a container,
 // whose list is still to be read; or a reason.
-#[derive(Drop)]
+#[derive(Clone, Copy)]
 pub enum Step {
     Next(BytePlace, usize),
     Last(BytePlace, usize),

@@ -18,7 +18,7 @@ use items::Item;
 const LAST_TIME: u64 = 4294967295;
 
 // What a walk over the times has seen: a time above the limit, one that does not rise, and the keyframe that covers t with its start and its end.
-#[derive(Drop)]
+#[derive(Clone, Copy)]
 pub struct Seen {
     pub late: bool,
     pub falls: bool,
@@ -28,7 +28,7 @@ pub struct Seen {
 }
 
 // The walk over all times: what it saw, the first time and the last, and the place after them.
-#[derive(Drop)]
+#[derive(Clone, Copy)]
 pub struct Walk {
     pub seen: Seen,
     pub first: u64,

@@ -15,7 +15,7 @@ use bodies::Shown;
 use items::Item;
 
 // An exact fraction of two whole numbers; or a reason, and number 0.
-#[derive(Drop)]
+#[derive(Clone, Copy)]
 pub enum Exact {
     Fraction(u64, u64),
     Refused(u32, u64),

@@ -12,14 +12,14 @@ use items::Item;
 use table::Run;
 
 // A number that was read, and the place after it.
-#[derive(Drop)]
+#[derive(Clone, Copy)]
 pub struct Taken {
     pub number: u64,
     pub next: BitPlace,
 }
 
 // The opacity's flag number, and the place of its content.
-#[derive(Drop)]
+#[derive(Clone, Copy)]
 pub struct Found {
     pub flag: u64,
     pub content: BitPlace,

@@ -7,7 +7,7 @@ use canvas::{CanvasSize, Seen};
 
 // `found` is 1 where there is such a tag, and then the values are its own; else they are zeros. A reason that is not 0 refuses, with its number.
 #[repr(C)]
-#[derive(Drop)]
+#[derive(Clone, Copy)]
 pub struct PagCanvasAnswer {
     pub found: u32,
     pub reason: u32,

@@ -8,7 +8,7 @@ use opacity::Exact;
 
 // Reason 0: an exact fraction; after a refusal both its numbers are 0.
 #[repr(C)]
-#[derive(Drop)]
+#[derive(Clone, Copy)]
 pub struct PagFraction {
     pub reason: u32,
     pub numerator: u64,

@@ -19,7 +19,7 @@ use bits::BitPlace;
 mod tallies;
 
 #[repr(C)]
-#[derive(Drop)]
+#[derive(Clone, Copy)]
 pub struct PagAnswer {
     pub reason: u32,
     pub number: u64,
@@ -63,7 +63,7 @@ pub extern "C" fn pag_write(level: u32, order: u32, table: &[u64], out: &mut [u8
 
 // A field's answer: reason 0 means accepted, and the place is the next one; after a refusal the value is 0 and the place the same.
 #[repr(C)]
-#[derive(Drop)]
+#[derive(Clone, Copy)]
 pub struct PagField {
     pub reason: u32,
     pub value: u64,

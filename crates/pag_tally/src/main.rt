@@ -19,7 +19,7 @@ const HIGH_FIRST: u32 = 0;
 const MOST: usize = 32768;
 
 // What comes next on the input: nothing more; a read failed; a file that is too long; a file of so many bytes.
-#[derive(Drop)]
+#[derive(Clone, Copy)]
 enum Next {
     Over,
     Failed,

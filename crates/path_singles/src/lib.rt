@@ -77,7 +77,7 @@ fn count_coordinates(values: &[u64], start: usize, end: usize) -> u64
 }
 
 // After a path: the index behind it, and whether one of its coordinates is beyond.
-#[derive(Drop)]
+#[derive(Clone, Copy)]
 pub struct Path {
     pub behind: usize,
     pub beyond: bool,

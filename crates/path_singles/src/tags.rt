@@ -42,7 +42,7 @@ fn convert_tag(
 }
 
 // Whether a tag has a coordinate beyond, and the place of the first such.
-#[derive(Drop)]
+#[derive(Clone, Copy)]
 pub struct First {
     pub beyond: bool,
     pub place: u64,

@@ -16,7 +16,7 @@ use listing::Cursor;
 const HIGH_FIRST: u32 = 0;
 
 // What was read: so many bytes up to the end of the input or of the room for it; or a read failed.
-#[derive(Drop)]
+#[derive(Clone, Copy)]
 pub enum Input {
     Bytes(usize),
     Failed,

@@ -19,7 +19,7 @@ const FILLED_NUMBER: u64 = 0xAAAA_AAAA_AAAA_AAAA;
 const ROOM: usize = 16384;
 
 // A record's kind, its bit order, its level and the count of the bytes that follow.
-#[derive(Drop)]
+#[derive(Clone, Copy)]
 struct Head {
     kind: u8,
     order: u32,

@@ -9,21 +9,21 @@ ghost use Rattle.sink.specs.Laying.{at as under, mk, lay, Holds, Skipped, Split}
 use bits::{BitPlace, BytePlace, Order, Whole};
 
 // The next bit place, and the bits of its byte that were put, as a field.
-#[derive(Drop)]
+#[derive(Clone, Copy)]
 pub struct Sink {
     pub place: BitPlace,
     pub part: u64,
 }
 
 // A field taken apart.
-#[derive(Drop)]
+#[derive(Clone, Copy)]
 pub struct TwoFields {
     pub first: u64,
     pub last: u64,
 }
 
 // A body was written up to a byte place; or no file has it.
-#[derive(Drop)]
+#[derive(Clone, Copy)]
 pub enum Body {
     To(BytePlace),
     No,

@@ -14,14 +14,14 @@ use sink::Sink;
 use table::fields::Field;
 
 // A run, and how many signed fields its numbers announce.
-#[derive(Drop)]
+#[derive(Clone, Copy)]
 pub struct Announced {
     pub put: Put,
     pub count: usize,
 }
 
 // Whether numbers are fields, and how many signed fields they announce: none where one of them is no field.
-#[derive(Drop)]
+#[derive(Clone, Copy)]
 struct Judged {
     good: bool,
     count: usize,

@@ -22,14 +22,14 @@ use items::Item;
 use sink::{Body, Sink};
 
 // The sink after a number; or the number has no spelling.
-#[derive(Drop)]
+#[derive(Clone, Copy)]
 pub enum Spelt {
     In(Sink),
     No,
 }
 
 // The sink after some values, and the index of the next one; or no file has them.
-#[derive(Drop)]
+#[derive(Clone, Copy)]
 pub enum Put {
     Done(Sink, usize),
     Impossible,

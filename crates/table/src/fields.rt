@@ -13,7 +13,7 @@ use crate::{Run, again, put, room_for};
 use bits::{BitPlace, Got, Order};
 
 // A plain one is a keyframed Bool, or an x or y of a Spatial Point.
-#[derive(Drop)]
+#[derive(Clone, Copy)]
 pub enum Field {
     Verb,
     Interpolation,
@@ -24,7 +24,7 @@ pub enum Field {
 }
 
 // A run, and how many signed fields its numbers announce.
-#[derive(Drop)]
+#[derive(Clone, Copy)]
 pub struct Announced {
     pub run: Run,
     pub count: usize,

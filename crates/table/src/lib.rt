@@ -17,7 +17,7 @@ use bits::{BitPlace, Got, Order};
 use items::Item;
 
 // How a run ended: at a place or by a reason; and the index of the next number.
-#[derive(Drop)]
+#[derive(Clone, Copy)]
 pub enum Run {
     Done(BitPlace, usize),
     Stop(u32, usize),

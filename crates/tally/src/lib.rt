@@ -15,14 +15,14 @@ use classes::Class;
 use headers::{Head, Header};
 
 // A count for each of the 1,024 codes, and one for file headers, in bytes.
-#[derive(Drop)]
+#[derive(Clone, Copy)]
 pub struct Tally {
     pub counts: [u64; 1024],
     pub headers: u64,
 }
 
 // The tally afterwards, and the answer: accepted with the file's length, or refused with reason and number.
-#[derive(Drop)]
+#[derive(Clone, Copy)]
 pub struct Added {
     pub tally: Tally,
     pub answer: Answer,

@@ -246,7 +246,7 @@ fn read_dashes(order: Order, body: &[u8], at: BitPlace, table: &mut [u64], from:
 }
 
 // What a value is: one item, of this kind; or not one item.
-#[derive(Drop)]
+#[derive(Clone, Copy)]
 pub enum Single {
     Is(Item),
     No,

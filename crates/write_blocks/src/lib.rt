@@ -20,21 +20,21 @@ use sink::{Body, Sink};
 use spelling::Put;
 
 // Flag bits as one field; and how many they are.
-#[derive(Drop)]
+#[derive(Clone, Copy)]
 pub struct Flags {
     pub bits: u64,
     pub width: usize,
 }
 
 // The flags with those of one number more; or that number has none.
-#[derive(Drop)]
+#[derive(Clone, Copy)]
 pub enum Flagged {
     With(Flags),
     No,
 }
 
 // The flags of all rows, the sink after their contents, and the index of the next value; or no file has them.
-#[derive(Drop)]
+#[derive(Clone, Copy)]
 pub enum Filled {
     With(Flags, Sink, usize),
     No,

@@ -19,7 +19,7 @@ use classes::Class;
 use sink::Body;
 
 // The next byte place and the index of the next number; or no file has the tags.
-#[derive(Drop)]
+#[derive(Clone, Copy)]
 pub enum Wrote {
     Done(BytePlace, usize),
     Impossible,
