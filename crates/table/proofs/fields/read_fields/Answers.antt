@@ -1,6 +1,7 @@
 -- `table::fields::read_fields` meets its contract: what is left to read is what is left of the whole.
+use mathlib.Core.Bool.{not}
 use mathlib.Core.List.{List}
-use mathlib.Core.Path.{sym, ◌∙◌}
+use mathlib.Core.Path.{ap, sym, ◌∙◌}
 use Prim.Native.Nat.{ℕ, ◌-◌}
 use native.Mathlib.Omega.{arith}
 use borrow.Author.Tests.{not-true, not-false}
@@ -34,8 +35,8 @@ shape_of-table-then-not-allowed c = c.loop-i.invariant.size
 
 pub returns-then-not-allowed : goal.returns-then-not-allowed
 returns-then-not-allowed c = let a = c.args in let some = c.loop-i-test.true in let g = c.loop-i.invariant in
-    let r = fields_stop (stand c.requires.1 (placed c.args.body.now c.args.at.0 c.requires.0.0).0 c.fitting-there.ensures) g some (field_out (order_of a.order) a.kind (again a.body.now) c.loop-i.place a.width (fields_in (stand c.requires.1 (placed c.args.body.now c.args.at.0 c.requires.0.0).0 c.fitting-there.ensures) g some) c.field-value.ensures.0 (unsigned_shown a.kind a.width c.field-value.result c.requires.4) (sym c.allowed.ensures ∙ not-true c.allowed.result c.if-not-allowed.true)) in
-    (as_whole (λ (s : List ℕ). shown_over a.table.now a.from (run (order_of a.order) s (times a.count (field_of a.kind a.width)) a.at.0)) a.body.now r.0, (as_whole (λ (s : List ℕ). announced a.kind (run (order_of a.order) s (times a.count (field_of a.kind a.width)) a.at.0).shown) a.body.now r.1.0, r.1.1))
+    let r = fields_stop (stand c.requires.1 (placed c.args.body.now c.args.at.0 c.requires.0.0).0 c.fitting-there.ensures) g some (field_out (order_of a.order) a.kind (again a.body.now) c.loop-i.place a.width (fields_in (stand c.requires.1 (placed c.args.body.now c.args.at.0 c.requires.0.0).0 c.fitting-there.ensures) g some) c.field-value.ensures.0 (unsigned_shown a.kind a.width c.field-value.result c.requires.4) (sym c.allowed.ensures ∙ c.if-not-allowed.true)) in
+    record { states = as_whole (λ (s : List ℕ). shown_over a.table.now a.from (run (order_of a.order) s (times a.count (field_of a.kind a.width)) a.at.0)) a.body.now r.0; counts = as_whole (λ (s : List ℕ). announced a.kind (run (order_of a.order) s (times a.count (field_of a.kind a.width)) a.at.0).shown) a.body.now r.1.0; few = r.1.1 }
 
 pub overflow_add-from : goal.overflow_add-from
 overflow_add-from c = omega (arith, (stand c.requires.1 (placed c.args.body.now c.args.at.0 c.requires.0.0).0 c.fitting-there.ensures).upto, c.loop-i-test.true, c.requires.0, c.requires.3)
@@ -54,7 +55,7 @@ loop-i-smaller c = omega (arith, c.loop-i-test.true)
 
 pub loop-i-preserved : goal.loop-i-preserved
 loop-i-preserved c = let a = c.args in let some = c.loop-i-test.true in let g = c.loop-i.invariant in
-    fields_next (stand c.requires.1 (placed c.args.body.now c.args.at.0 c.requires.0.0).0 c.fitting-there.ensures) g some (field_in (order_of a.order) a.kind (again a.body.now) c.loop-i.place a.width (fields_in (stand c.requires.1 (placed c.args.body.now c.args.at.0 c.requires.0.0).0 c.fitting-there.ensures) g some) c.field-value.ensures.0 (unsigned_shown a.kind a.width c.field-value.result c.requires.4) (sym c.allowed.ensures ∙ not-false c.allowed.result c.if-not-allowed.false)) c.put.ensures (weight_is a.kind c.field-value.result c.weights_of-weights.ensures c.weight-sum.ensures)
+    fields_next (stand c.requires.1 (placed c.args.body.now c.args.at.0 c.requires.0.0).0 c.fitting-there.ensures) g some (field_in (order_of a.order) a.kind (again a.body.now) c.loop-i.place a.width (fields_in (stand c.requires.1 (placed c.args.body.now c.args.at.0 c.requires.0.0).0 c.fitting-there.ensures) g some) c.field-value.ensures.0 (unsigned_shown a.kind a.width c.field-value.result c.requires.4) (sym c.allowed.ensures ∙ c.if-not-allowed.false)) c.put.ensures (weight_is a.kind c.field-value.result c.weights_of-weights.ensures c.weight-sum.ensures)
 
 pub after_fields-run-requires : goal.after_fields-run-requires
 after_fields-run-requires c = omega (arith, c.requires.0, c.requires.3)
@@ -64,4 +65,4 @@ shape_of-table c = c.loop-i.invariant.size
 
 pub returns : goal.returns
 returns c = let a = c.args in let r = fields_end (stand c.requires.1 (placed c.args.body.now c.args.at.0 c.requires.0.0).0 c.fitting-there.ensures) c.loop-i.invariant c.loop-i-test.false c.after_fields-run.ensures in
-    (as_whole (λ (s : List ℕ). shown_over a.table.now a.from (run (order_of a.order) s (times a.count (field_of a.kind a.width)) a.at.0)) a.body.now r.0, (as_whole (λ (s : List ℕ). announced a.kind (run (order_of a.order) s (times a.count (field_of a.kind a.width)) a.at.0).shown) a.body.now r.1.0, r.1.1))
+    record { states = as_whole (λ (s : List ℕ). shown_over a.table.now a.from (run (order_of a.order) s (times a.count (field_of a.kind a.width)) a.at.0)) a.body.now r.0; counts = as_whole (λ (s : List ℕ). announced a.kind (run (order_of a.order) s (times a.count (field_of a.kind a.width)) a.at.0).shown) a.body.now r.1.0; few = r.1.1 }
