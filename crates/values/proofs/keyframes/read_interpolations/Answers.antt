@@ -20,7 +20,7 @@ read_fields-requires c = let a = c.args in (align_fits (order_of a.order) a.body
 pub returns-then-has_interpolations : goal.returns-then-has_interpolations
 returns-then-has_interpolations c =
     let a = c.args in
-    let r = frames_some (order_of a.order) a.body.now a.table.now a.from a.frames a.at.0 (kind_of a.kind) (sym c.if-has_interpolations.true ∙ c.has_interpolations.ensures) (align_none (order_of a.order) a.body.now a.at.0 (sym c.align-aligned.ensures ∙ c.in-Clean.is)) c.read_fields.ensures.states c.read_fields.ensures.counts in
+    let r = frames_some (order_of a.order) a.body.now a.table.now a.from a.frames a.at.0 (kind_of a.kind) (sym c.if-has_interpolations.true ∙ c.has_interpolations.ensures) (align_none (order_of a.order) a.body.now a.at.0 (sym c.align-aligned.ensures ∙ c.in-Clean.is)) c.read_fields.ensures.states (c.read_fields.ensures.counts, c.read_fields.ensures.few) in
     record { states = r.0; counts = r.1.0; few = r.1.1 }
 
 pub returns : goal.returns
