@@ -1,0 +1,12 @@
+use Prim.Native.Nat.{◌-◌}
+use Rattle.bits.specs.Places.{order_of}
+use Rattle.format.specs.Formats.{times}
+use Rattle.values.specs.Parts.{stop_of}
+use Rattle.spelling.proofs.RunLaws.{Going}
+use Rattle.write_values.proofs.write_stops.Given as goal
+
+abbrev pub invariant-loop-left : goal.invariant-loop-left
+invariant-loop-left l = Going (order_of l.order) l.values l.initial.out l.initial.cur l.from (times l.count (stop_of l.bytes)) l.out l.cur l.index (times l.left (stop_of l.bytes))
+
+abbrev pub decreases-loop-left : goal.decreases-loop-left
+decreases-loop-left l = l.left
