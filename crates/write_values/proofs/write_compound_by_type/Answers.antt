@@ -1,4 +1,5 @@
 -- `write_values::write_compound_by_type` meets its contract, by the data type that the `match` tells.
+use borrow.Enum.Refused.{opened}
 use mathlib.Core.Path.{sym}
 use Rattle.bits.specs.Places.{order_of}
 use Rattle.sink.specs.Laying.{at}
@@ -28,4 +29,4 @@ returns-in-Dashes c = let a = c.args in compound_of_lem (order_of a.order) a.val
 
 pub returns-in_default : goal.returns-in_default
 returns-in_default c = let a = c.args in
-    format_of_lem (order_of a.order) a.values.now (at a.out.now a.sink) a.from (sym (others_nothing a.what c.in_default.in_default-own.keys7)) (sym (ran_nothing (order_of a.order) a.values.now (at a.out.now a.sink) a.from c.requires.1))
+    format_of_lem (order_of a.order) a.values.now (at a.out.now a.sink) a.from (sym (others_nothing a.what (opened c.in_default.in_default-own.keys7))) (sym (ran_nothing (order_of a.order) a.values.now (at a.out.now a.sink) a.from c.requires.1))
