@@ -123,7 +123,7 @@ module _ {order level : ℕ} {f : List ℕ} (C : Called order level f) where
 
       why : (S : Result) → R ≡ S → Why C.before e n S → w.ended ≡ fault e n
       why S q faulty = out w.ended (sym reading_is ∙ q)
-      why S q (full a b c) = absurd (h.not-room a)
+      why S q (full a b c) = absurd (h.not_room a)
 
   refuses_so : {e n : ℕ} → w.ended ≡ fault e n → WasRefused e n C.answer
   refuses_so {e} {n} q =

@@ -164,7 +164,7 @@ module _ (order level : ℕ) (f m : List ℕ) where
       → listed t g' x ≡ walk_over (set m 0 c) 1 g 0 (walk_list o (class_of level) 8 file 9 (drop 9 f)) → leaves t (Accepted k) ≡ into m (read_file order level f)
   read_done o g n q h e d =
       let u : Found order level f _ _ = survey_found order level f q in
-      laid_in m (table f (walk_file order level f)) u.numbers-are h (ap (λ (l : Listed). l.table) d ∙ rw (e, n, walk_is order level f u.start)) ∙ ap (into m) (sym (read_is u))
+      laid_in m (table f (walk_file order level f)) u.numbers_are h (ap (λ (l : Listed). l.table) d ∙ rw (e, n, walk_is order level f u.start)) ∙ ap (into m) (sym (read_is u))
 
   -- the lent memory keeps its length
   pub read_size : {c : ℕ} (o : Order) (g : List ℕ) {t g' : List ℕ} {x : Walked} → c ≡ get_or f 8 0 → listed t g' x ≡ walk_over (set m 0 c) 1 g 0 (walk_list o (class_of level) 8 file 9 (drop 9 f)) → length t ≡ length m
