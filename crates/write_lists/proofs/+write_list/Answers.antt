@@ -72,6 +72,9 @@ returns-in_default-begun t c = values_fell (order_of c.args.order) (record { the
 pub overflow_sub-first : goal.overflow_sub-first
 overflow_sub-first t c = let h = (list_by_lem (order_of c.args.order) c.claims_long-claimed.result c.class_numbered-class.result c.args.table.now c.loop-index.index (get_or c.args.table.now c.loop-index.index 0) c.loop-index.out (c.loop-index.place.0 + kept_bytes c.claims_long-claimed.result) c.begin_tag-begun.new.out c.in-Done-begun.start.0 c.in-Done-begun.first c.loop-index-test.true refl (ap (stood_as c.begin_tag-begun.new.out) (sym c.in-Done-begun.is) ∙ c.begin_tag-begun.ensures)) in omega (arith, h.0)
 
+pub offset_bounds-table-first : goal.offset_bounds-table-first
+offset_bounds-table-first t c = let h = (list_by_lem (order_of c.args.order) c.claims_long-claimed.result c.class_numbered-class.result c.args.table.now c.loop-index.index (get_or c.args.table.now c.loop-index.index 0) c.loop-index.out (c.loop-index.place.0 + kept_bytes c.claims_long-claimed.result) c.begin_tag-begun.new.out c.in-Done-begun.start.0 c.in-Done-begun.first c.loop-index-test.true refl (ap (stood_as c.begin_tag-begun.new.out) (sym c.in-Done-begun.is) ∙ c.begin_tag-begun.ensures)) in omega (arith, h.0, h.1)
+
 pub bounds-table-first : goal.bounds-table-first
 bounds-table-first t c = let h = (list_by_lem (order_of c.args.order) c.claims_long-claimed.result c.class_numbered-class.result c.args.table.now c.loop-index.index (get_or c.args.table.now c.loop-index.index 0) c.loop-index.out (c.loop-index.place.0 + kept_bytes c.claims_long-claimed.result) c.begin_tag-begun.new.out c.in-Done-begun.start.0 c.in-Done-begun.first c.loop-index-test.true refl (ap (stood_as c.begin_tag-begun.new.out) (sym c.in-Done-begun.is) ∙ c.begin_tag-begun.ensures)) in omega (arith, h.0, h.1)
 
