@@ -7,7 +7,7 @@ use mathlib.Core.Logic.{◌⊎◌, inl, inr}
 use native.Mathlib.Nat.{add-zero}
 use native.Mathlib.Omega.{arith}
 use lib.ListN.{length, take, drop, length-drop}
-use lib.Seq.{length-take-le, drop-drop, drop-length, take_take}
+use lib.Seq.{length-take-le, drop-drop, drop-length, take-take}
 use lib.Dec.{ltb, leb, eqb}
 use borrow.Author.Tests.{eqb-true, eqb-false, leb-true, le-leb}
 use Rattle.format.specs.Tests.{pick, ◌and◌}
@@ -527,5 +527,5 @@ module _ (o : Order) (ns : List ℕ) (depths : ℕ) (own : paper.Owner) (a : ℕ
                   let k : ℕ = s.start.0 - (a + l) in
                   let m : l + k ≡ s.start.0 - a = omega (arith, u.after) in
                   let n : s.stop.0 - s.start.0 ≤ p - l - k = omega (arith, u.after, u.inside, u.order, length_piece l p r opens.3) in
-                  ap (take (s.stop.0 - s.start.0)) (drop_take k (p - l) (drop l r)) ∙ take_take (s.stop.0 - s.start.0) (p - l - k) (drop k (drop l r)) n
+                  ap (take (s.stop.0 - s.start.0)) (drop_take k (p - l) (drop l r)) ∙ take-take (s.stop.0 - s.start.0) (p - l - k) (drop k (drop l r)) n
                   ∙ ap (take (s.stop.0 - s.start.0)) (drop-drop k l r ∙ ap (λ (v : ℕ). drop v r) m)
