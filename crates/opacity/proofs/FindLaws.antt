@@ -5,7 +5,7 @@ use mathlib.Core.List.{List, []}
 use mathlib.Core.Path.{◌≡◌, refl, ap, sym, subst, ◌∙◌}
 use native.Mathlib.Omega.{arith}
 use lib.ListN.{length, get_or, take}
-use lib.Seq.{take_take, get_or-take}
+use lib.Seq.{take-take, get_or-take}
 use borrow.Author.Tests.{lt-ltb, le-ltb, le-leb, lt-leb}
 use Rattle.format.specs.Bits.{Order, order_named}
 use Rattle.format.specs.Reading.{Ending, At, Fault, Reading, shows}
@@ -75,7 +75,7 @@ module _ (o : Order) (b : List ℕ) (J : Judged o b) (g : Got) {r : Taken} (take
       let f : flag ≡ get_or (take 6 φs) 4 0 = is-flag ∙ sym (get_or-take 6 φs 4 0 (omega arith) ∙ digit_at r.number 4 12 (omega arith)) in
       let first : rows_from mask 0 4 ≡ four = rows_first mask 0 4 count (omega (arith, six)) ∙ ap (take 4) mask_is in
       let g : rows (rows_from mask 0 4) (take 4 φs) ≡ rows four (take 6 φs) =
-      ap (λ (l : List bodies.Attribute). rows l (take 4 φs)) first ∙ ap (rows four) (sym (take_take 4 6 φs (omega arith))) ∙ rows_take four (take 6 φs) in
+      ap (λ (l : List bodies.Attribute). rows l (take 4 φs)) first ∙ ap (rows four) (sym (take-take 4 6 φs (omega arith))) ∙ rows_take four (take 6 φs) in
       let z : content ≡ place_in (run o b (rows four (take 6 φs)) r.next.0).ended =
       is-place ∙ ap place_in (sym (ended_is t 0 (run o b (rows (rows_from mask 0 4) (take 4 φs)) r.next.0) rest)) ∙ ap (λ (h : Format). place_in (run o b h r.next.0).ended) g in
       rw f (finds o b J flagged z)

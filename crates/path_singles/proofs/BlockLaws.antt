@@ -6,7 +6,7 @@ use mathlib.Core.Path.{◌≡◌, refl, ap, ap₂, sym, ◌∙◌}
 use native.Mathlib.Numerals.{add-one}
 use native.Mathlib.Omega.{arith}
 use lib.ListN.{length, take, drop}
-use lib.Seq.{take_take}
+use lib.Seq.{take-take}
 use Rattle.format.specs.Tests.{pick, ◌or◌}
 use Rattle.format.specs.Bits.{high}
 use Rattle.format.specs.Reading.{Ending, At, Fault, Reading, shows}
@@ -45,7 +45,7 @@ module _ {R : List ℕ} {count : ℕ} {attrs : List Attribute} (is : Attributes 
     rows_same : (u : List ℕ) → rows (rows_from R 0 row) (take row u) ≡ rows (take row attrs) (take count u)
     rows_same u =
         let n : length (rows_from R 0 row) ≡ row = rows_many R 0 row in
-        let e : take row (take count u) ≡ take row u = take_take row count u inside in
+        let e : take row (take count u) ≡ take row u = take-take row count u inside in
         ap (rows (rows_from R 0 row)) (sym e ∙ ap (λ (i : ℕ). take i (take count u)) (sym n)) ∙ rows_take (rows_from R 0 row) (take count u)
         ∙ ap (λ (xs : List Attribute). rows xs (take count u)) (rows_first R 0 row count inside ∙ ap (take row) is.are)
 

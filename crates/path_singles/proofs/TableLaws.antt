@@ -6,7 +6,7 @@ use mathlib.Core.Path.{◌≡◌, refl, ap, ap₂, sym, ◌∙◌}
 use native.Mathlib.Nat.{add-zero}
 use native.Mathlib.Omega.{arith}
 use lib.ListN.{length, get_or, take, drop, length-append, length-take, length-drop, take-append-drop, drop_of_length-le}
-use lib.Seq.{slice, get_or-drop, drop-drop, take-add, take_at, drop_at, take_take, take-nil, take_all, drop-append_seam, take-append_seam}
+use lib.Seq.{slice, get_or-drop, drop-drop, take-add, take_at, drop_at, take-take, take-nil, take_all, drop-append_seam, take-append_seam}
 use lib.Dec.{eqb, ltb}
 use borrow.Author.Tests.{eq-eqb, ne_eqb}
 use Rattle.format.specs.Tests.{pick}
@@ -28,7 +28,7 @@ use Rattle.path_singles.proofs.PathLaws.{take_up_to, drop_min}
 split : (v : List ℕ) (i j : ℕ) → i ≤ j → take i v ++ (slice i j v ++ drop j v) ≡ v
 split v i j h =
     sym (append_assoc (take i v) (slice i j v) (drop j v))
-    ∙ ap (λ (w : List ℕ). w ++ drop j v) (ap (λ (w : List ℕ). w ++ slice i j v) (sym (take_take i j v h)) ∙ take-append-drop i (take j v)) ∙ take-append-drop j v
+    ∙ ap (λ (w : List ℕ). w ++ drop j v) (ap (λ (w : List ℕ). w ++ slice i j v) (sym (take-take i j v h)) ∙ take-append-drop i (take j v)) ∙ take-append-drop j v
 
 slice_is : (v : List ℕ) (i j : ℕ) → i ≤ j → take (j - i) (drop i v) ≡ slice i j v
 slice_is v zero j h = let e : j - 0 ≡ j = omega arith in rw e

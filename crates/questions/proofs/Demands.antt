@@ -85,10 +85,10 @@ module _ (order level : ℕ) (f m x m' x' : List ℕ) (n : ℕ) (bytes : IsFile 
 
   -- both questions, lent what was filled, answer what the plain walk answers, for every code and k
   pub count_after : (c : ℕ) → count_answer (take filled_tags m') (take n x') c ≡ accepted (how_many after.table c)
-  count_after c = rw (after.judged, after.tags-are)
+  count_after c = rw (after.judged, after.tags_are)
 
   pub place_after : (c k : ℕ) → k < how_many after.table c → place_answer (take filled_tags m') (take n x') c k ≡ accepted (where_is after.table c k)
-  place_after c k h = rw (after.judged, after.tags-are, lt-ltb k (how_many after.table c) h)
+  place_after c k h = rw (after.judged, after.tags_are, lt-ltb k (how_many after.table c) h)
 
   pub none_after : (c k : ℕ) → how_many after.table c ≤ k → place_answer (take filled_tags m') (take n x') c k ≡ refused 22 0
-  none_after c k h = rw (after.judged, after.tags-are, le-ltb k (how_many after.table c) h)
+  none_after c k h = rw (after.judged, after.tags_are, le-ltb k (how_many after.table c) h)
