@@ -1,4 +1,3 @@
--- What follows from the bit reader's definitions, and what the proofs of `ub` and `sb` share.
+-- What follows from the bit reader's definitions.
 pub mod FieldLaws
 pub mod Examples
-mod Taking
