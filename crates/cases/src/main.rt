@@ -1,7 +1,13 @@
 // The listing of each case, or its refusal: the arguments are pairs of a level and a file's name.
 #![tactic(auto)]
 
+ghost use Rattle.std.specs.Prelude.{◌≤◌, length};
+
 use printing::Input;
+use std::env::{Env, FillError};
+use std::fs::File;
+use std::io::{self, Read};
+use std::rt::Files;
 
 // The most bytes that are listed; one more is read, to notice a longer file.
 const MOST: usize = 65535;
@@ -18,60 +24,97 @@ fn level_of(word: &[u8]) -> u32 {
 }
 
 // The line before a case's listing: its name and its level.
-fn print_name(name: &[u8], level: &[u8]) {
-    printing::write(b"# ");
-    printing::write(name);
-    printing::write(b" ");
-    printing::write(level);
-    printing::write(b"\n");
+fn print_name(rt: &(impl Print + Eprint), name: &[u8], level: &[u8]) {
+    printing::write(rt, b"# ");
+    printing::write(rt, name);
+    printing::write(rt, b" ");
+    printing::write(rt, level);
+    printing::write(rt, b"\n");
 }
 
-fn print_file(level: u32, file: &[u8]) {
+fn print_file(rt: &(impl Print + Eprint), level: u32, file: &[u8]) {
     let mut table = [0u64; 65536];
     let mut rows = [0u32; 65536];
-    printing::print_tables(level, file, &mut table, &mut rows);
+    printing::print_tables(rt, level, file, &mut table, &mut rows);
 }
 
-fn print_input(level: u32, fd: i32, file: &mut [u8], name: &[u8]) {
-    match printing::read_input(fd, file) {
-        Input::Failed => os::fail(name),
+// What failed, and why.
+fn fail(rt: &impl Eprint, name: &str, why: io::Error) {
+    let _ = eprintln!(rt; "{name}: {why}");
+}
+
+fn print_input(
+    rt: &(impl Print + Eprint),
+    level: u32,
+    source: &mut impl Read,
+    file: &mut [u8],
+    name: &str,
+) {
+    match printing::read_input(source, file) {
+        Input::Failed(why) => fail(rt, name, why),
         Input::Bytes(n) => {
             if MOST < n {
-                printing::print_too_long();
+                printing::print_too_long(rt);
             } else {
-                print_file(level, &file[0..n]);
+                print_file(rt, level, &file[0..n]);
             }
         }
     }
 }
 
-fn print_named(level: u32, name: &[u8]) {
-    let fd = os::open_read(name);
-    if fd < 0 {
-        os::fail(name);
-        return;
+fn print_named(rt: &(impl Files + Print + Eprint), level: u32, name: &str) {
+    match File::open(rt, name) {
+        Err(why) => fail(rt, name, why),
+        Ok(mut source) => {
+            let mut file = [0u8; 65536];
+            print_input(rt, level, &mut source, &mut file, name);
+        }
     }
-    let mut file = io::large_buffer();
-    print_input(level, fd, &mut file, name);
-    libc::close(fd);
+}
+
+// An argument at the start of the lent room, and its length: 0 if there is none, or no room for it.
+fn put_arg(rt: &impl Env, i: usize, word: &mut [u8]) -> usize
+    ensures { result ≤ length word.new }
+{
+    rt.arg(i, word).unwrap_or(0)
 }
 
 // The case whose level is argument i; its name is the next.
-fn print_case(i: usize, next: usize) {
-    let mut level = io::buffer();
-    let mut name = io::buffer();
-    let n = os::arg(i, &mut level);
-    let m = os::arg(next, &mut name);
-    print_name(&name[..m], &level[..n]);
-    print_named(level_of(&level[..n]), &name[..m]);
+fn print_case(rt: &(impl Env + Files + Print + Eprint), i: usize, next: usize) {
+    let mut level = [0u8; 4096];
+    let mut name = [0u8; 4096];
+    let n = put_arg(rt, i, &mut level);
+    let m = put_arg(rt, next, &mut name);
+    print_name(rt, &name[..m], &level[..n]);
+    match str::from_utf8(&name[..m]) {
+        Ok(name) => print_named(rt, level_of(&level[..n]), name),
+        Err(_) => {
+            let _ = rt.eprintln("a file's name is not UTF-8");
+        }
+    }
+}
+
+// Is there an argument i?
+fn has_arg(rt: &impl Env, i: usize) -> bool {
+    !matches!(rt.arg(i, &mut []), Err(FillError::NotPresent))
+}
+
+// How many arguments there are, the program's name among them.
+fn arg_count(rt: &impl Env) -> usize {
+    for i in 0..usize::MAX {
+        if !has_arg(rt, i) {
+            return i;
+        }
+    }
+    usize::MAX
 }
 
 // The first argument is the program's name.
-fn main() {
-    let pairs = os::arg_count() / 2;
+fn main(rt: HostRuntime) {
+    let pairs = arg_count(&rt) / 2;
     let mut i = 0;
     while i < pairs {
-        print_case(2 * i + 1, 2 * i + 2);
+        print_case(&rt, 2 * i + 1, 2 * i + 2);
         i += 1;
     }
 }

@@ -1,8 +1,9 @@
 // The listing of the file on standard input; with the argument --singles, path coordinates are printed as the bits of singles. What it prints is made by proved functions; this program only reads and writes.
 #![tactic(auto)]
 
-use libc::{STDERR_FILENO, STDIN_FILENO};
 use printing::Input;
+use std::env::Env;
+use std::io::Read;
 
 // Every code is below the level: all tags that can be read are.
 const LEVEL: u32 = 1023;
@@ -11,45 +12,41 @@ const LEVEL: u32 = 1023;
 const MOST: usize = 32768;
 
 // 8,192 numbers are those of 2,730 tags at most, so that `tags` never refuses what `read` accepts.
-fn print_file(file: &[u8], singles: bool) {
+fn print_file(rt: &(impl Print + Eprint), file: &[u8], singles: bool) {
     let mut table = [0u64; 8192];
     let mut rows = [0u32; 13650];
     if singles {
-        printing::print_singles(file, &mut table, &mut rows);
+        printing::print_singles(rt, file, &mut table, &mut rows);
         return;
     }
-    printing::print_tables(LEVEL, file, &mut table, &mut rows);
+    printing::print_tables(rt, LEVEL, file, &mut table, &mut rows);
 }
 
-fn print_input(file: &mut [u8], singles: bool) {
-    match printing::read_input(STDIN_FILENO, file) {
-        Input::Failed => {
-            io::write_all(STDERR_FILENO, b"pag_list: standard input cannot be read\n");
+fn print_input(rt: &(impl Print + Eprint), source: &mut impl Read, file: &mut [u8], singles: bool) {
+    match printing::read_input(source, file) {
+        Input::Failed(_) => {
+            let _ = rt.eprintln("pag_list: standard input cannot be read");
         }
         Input::Bytes(count) => {
             if MOST < count {
-                printing::print_too_long();
+                printing::print_too_long(rt);
             } else {
-                print_file(&file[0..count], singles);
+                print_file(rt, &file[0..count], singles);
             }
         }
     }
 }
 
 // Is the first argument --singles?
-fn asks_singles() -> bool {
+fn asks_singles(rt: &impl Env) -> bool {
     let mut word = [0u8; 16];
-    let count = os::arg(1, &mut word);
-    if count != 9 {
-        return false;
+    match rt.arg(1, &mut word) {
+        Ok(count) => matches!(&word[..count], b"--singles"),
+        Err(_) => false,
     }
-    let dashes = word[0] == b'-' && word[1] == b'-';
-    let sing = word[2] == b's' && word[3] == b'i' && word[4] == b'n' && word[5] == b'g';
-    let les = word[6] == b'l' && word[7] == b'e' && word[8] == b's';
-    dashes && sing && les
 }
 
-fn main() {
+fn main(rt: HostRuntime) {
     let mut file = [0u8; 32769];
-    print_input(&mut file, asks_singles());
+    print_input(&rt, &mut rt.stdin(), &mut file, asks_singles(&rt));
 }

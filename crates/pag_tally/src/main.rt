@@ -6,8 +6,8 @@ ghost use Rattle.std.specs.Prelude.{◌≡◌, ◌≤◌, length};
 ghost use Rattle.pag_tally.specs.Sizes.{size_of};
 
 use answers::Answer;
-use libc::{STDERR_FILENO, STDIN_FILENO};
 use printing::Input;
+use std::io::Read;
 use tally::{Added, Tally};
 
 // Every code is below the level: all tags that can be read are.
@@ -43,22 +43,22 @@ fn size_of(start: &[u8]) -> usize
 }
 
 // Behind its first eight bytes, the rest of a file of this size; the input may end before that.
-fn read_rest(file: &mut [u8], size: usize) -> Next
+fn read_rest(source: &mut impl Read, file: &mut [u8], size: usize) -> Next
     requires { (8 ≤ size) × (size ≤ length file.old) }
 {
     let rest = &mut file[8..size];
-    match printing::read_input(STDIN_FILENO, rest) {
-        Input::Failed => Next::Failed,
+    match printing::read_input(source, rest) {
+        Input::Failed(_) => Next::Failed,
         Input::Bytes(count) => Next::File(8 + at_most(count, MOST)),
     }
 }
 
 // Reads the next file into the room for the longest one; fewer than eight bytes have no length field, and are a file as they are.
-fn next_file(file: &mut [u8]) -> Next
+fn next_file(source: &mut impl Read, file: &mut [u8]) -> Next
     requires { 8 ≤ length file.old }
 {
-    match printing::read_input(STDIN_FILENO, &mut file[0..8]) {
-        Input::Failed => Next::Failed,
+    match printing::read_input(source, &mut file[0..8]) {
+        Input::Failed(_) => Next::Failed,
         Input::Bytes(count) => {
             if count == 0 {
                 return Next::Over;
@@ -70,14 +70,14 @@ fn next_file(file: &mut [u8]) -> Next
             if file.len() < size {
                 return Next::TooLong;
             }
-            read_rest(file, size)
+            read_rest(source, file, size)
         }
     }
 }
 
 // The room is an array here: its length is known in every turn.
-fn read_next(file: &mut [u8; 32768]) -> Next {
-    next_file(file)
+fn read_next(source: &mut impl Read, file: &mut [u8; 32768]) -> Next {
+    next_file(source, file)
 }
 
 // Adds the file that stands in the room.
@@ -87,44 +87,45 @@ fn add_file(tally: Tally, room: &[u8; 32768], count: usize) -> Added {
     tally::add(tally, LEVEL, HIGH_FIRST, &all[0..end])
 }
 
-fn write_text(text: &[u8; 43036], count: usize)
+fn write_text(rt: &(impl Print + Eprint), text: &[u8; 43036], count: usize)
     requires { count ≤ 43036 }
 {
     let all = &text[..];
-    printing::write(&all[0..count]);
+    printing::write(rt, &all[0..count]);
 }
 
-fn print_tally(tally: Tally) {
+fn print_tally(rt: &(impl Print + Eprint), tally: Tally) {
     let mut text = [0u8; 43036];
     let count = tally_text::put_tally(tally, &mut text);
-    write_text(&text, count);
+    write_text(rt, &text, count);
 }
 
 // Each file is a turn, and so is the end of the input. The tally refuses a file beyond its limit, so there is no turn after these.
-fn main() {
+fn main(rt: HostRuntime) {
+    let mut source = rt.stdin();
     let mut file = [0u8; 32768];
     let mut tally = Tally::new();
     let mut turn: u32 = 0;
     while turn <= 1000000 {
-        let next = read_next(&mut file);
+        let next = read_next(&mut source, &mut file);
         match next {
             Next::Over => {
-                print_tally(tally);
+                print_tally(&rt, tally);
                 return;
             }
             Next::Failed => {
-                io::write_all(STDERR_FILENO, b"pag_tally: standard input cannot be read\n");
+                let _ = rt.eprintln("pag_tally: standard input cannot be read");
                 return;
             }
             Next::TooLong => {
-                printing::print_too_long();
+                printing::print_too_long(&rt);
                 return;
             }
             Next::File(count) => {
                 let added = add_file(tally, &file, count);
                 let answer = added.answer;
                 if let Answer::Refused(why, number) = answer {
-                    printing::print_refusal(why, number);
+                    printing::print_refusal(&rt, why, number);
                     return;
                 }
                 tally = added.tally;

@@ -5,4 +5,4 @@ use Rattle.printing.specs.declared.Input.TheVariants.{Bytes, Failed}
 
 abbrev pub Within : Input → ℕ → Type 0
 Within (Bytes n) room = n ≤ room
-Within Failed room = Unit {0}
+Within (Failed error) room = Unit {0}

@@ -6,7 +6,7 @@
 ghost use Rattle.std.specs.Prelude.{◌+◌, ◌≤◌, ◌<◌, length};
 
 use answers::Answer;
-use libc::{STDIN_FILENO, STDOUT_FILENO};
+use std::io::Read;
 
 const FILE: u8 = 0;
 
@@ -39,25 +39,24 @@ fn wide64(number: u32) -> u64
     number as u64
 }
 
-fn say(text: &[u8]) {
-    io::write_all(STDOUT_FILENO, text);
+fn say(rt: &impl Print, text: &str) {
+    let _ = rt.print(text);
 }
 
-fn say_number(number: u64) {
-    say(b" ");
-    io::print_decimal(STDOUT_FILENO, number);
+fn say_number(rt: &impl Print, number: u64) {
+    let _ = print!(rt; " {number}");
 }
 
 // What goes with the calls of a record: its level and its bit order.
-fn say_call(level: u32, order: u32) {
-    say_number(level as u64);
-    say_number(order as u64);
+fn say_call(rt: &impl Print, level: u32, order: u32) {
+    say_number(rt, level as u64);
+    say_number(rt, order as u64);
 }
 
-fn say_refusal(reason: u32, number: u64) {
-    say(b" refused");
-    say_number(reason as u64);
-    say_number(number);
+fn say_refusal(rt: &impl Print, reason: u32, number: u64) {
+    say(rt, " refused");
+    say_number(rt, reason as u64);
+    say_number(rt, number);
 }
 
 fn least(one: usize, other: usize) -> usize
@@ -132,42 +131,49 @@ fn same_numbers(one: &[u64], other: &[u64]) -> bool {
     true
 }
 
-fn say_same(same: bool) {
+fn say_same(rt: &impl Print, same: bool) {
     if same {
-        say(b" same");
+        say(rt, " same");
     } else {
-        say(b" OTHER");
+        say(rt, " OTHER");
     }
 }
 
-fn say_kept(kept: bool) {
+fn say_kept(rt: &impl Print, kept: bool) {
     if kept {
-        say(b" kept");
+        say(rt, " kept");
     } else {
-        say(b" TOUCHED");
+        say(rt, " TOUCHED");
     }
 }
 
 // What was read of a file, written: the same bytes, and nothing behind them is touched.
-fn write_back(level: u32, order: u32, table: &[u64], file: &[u8], out: &mut [u8]) {
+fn write_back(rt: &impl Print, level: u32, order: u32, table: &[u64], file: &[u8], out: &mut [u8]) {
     fill(out);
     match writer::write(level, order, table, out) {
         Answer::Refused(reason, number) => {
-            say_refusal(reason, number);
-            say_kept(is_filled(out));
+            say_refusal(rt, reason, number);
+            say_kept(rt, is_filled(out));
         }
         Answer::Accepted(count) => {
-            say(b" write");
-            say_number(count);
+            say(rt, " write");
+            say_number(rt, count);
             let used = least(count as usize, out.len());
-            say_same(same_bytes(file, &out[0..used]));
-            say_kept(is_filled(&out[used..]));
+            say_same(rt, same_bytes(file, &out[0..used]));
+            say_kept(rt, is_filled(&out[used..]));
         }
     }
 }
 
 // And with one byte too few: 21, and nothing is touched.
-fn write_short(level: u32, order: u32, table: &[u64], file: &[u8], out: &mut [u8]) {
+fn write_short(
+    rt: &impl Print,
+    level: u32,
+    order: u32,
+    table: &[u64],
+    file: &[u8],
+    out: &mut [u8],
+) {
     let room = least(file.len(), out.len());
     if room == 0 {
         return;
@@ -176,18 +182,18 @@ fn write_short(level: u32, order: u32, table: &[u64], file: &[u8], out: &mut [u8
     let part = &mut out[0..end];
     fill(part);
     match writer::write(level, order, table, part) {
-        Answer::Accepted(_) => say(b" TAKEN"),
+        Answer::Accepted(_) => say(rt, " TAKEN"),
         Answer::Refused(reason, number) => {
-            say(b" short");
-            say_number(reason as u64);
-            say_number(number);
+            say(rt, " short");
+            say_number(rt, reason as u64);
+            say_number(rt, number);
         }
     }
-    say_kept(is_filled(part));
+    say_kept(rt, is_filled(part));
 }
 
 // A file that was accepted, read with room for one number less than it needs: 19, and nothing is touched.
-fn read_short(level: u32, order: u32, file: &[u8], needed: usize) {
+fn read_short(rt: &impl Print, level: u32, order: u32, file: &[u8], needed: usize) {
     let mut table = [0u64; ROOM];
     let room = least(needed, ROOM);
     if room == 0 {
@@ -197,33 +203,40 @@ fn read_short(level: u32, order: u32, file: &[u8], needed: usize) {
     let part = &mut table[0..end];
     fill_numbers(part);
     match reader::read(level, order, file, part) {
-        Answer::Accepted(_) => say(b" TAKEN"),
+        Answer::Accepted(_) => say(rt, " TAKEN"),
         Answer::Refused(reason, number) => {
-            say(b" short");
-            say_number(reason as u64);
-            say_number(number);
+            say(rt, " short");
+            say_number(rt, reason as u64);
+            say_number(rt, number);
         }
     }
-    say_kept(are_filled(part));
+    say_kept(rt, are_filled(part));
 }
 
-fn try_file(level: u32, order: u32, file: &[u8], table: &mut [u64], out: &mut [u8]) {
-    say(b"file");
-    say_call(level, order);
+fn try_file(
+    rt: &impl Print,
+    level: u32,
+    order: u32,
+    file: &[u8],
+    table: &mut [u64],
+    out: &mut [u8],
+) {
+    say(rt, "file");
+    say_call(rt, level, order);
     fill_numbers(table);
     match reader::read(level, order, file, table) {
         Answer::Refused(reason, number) => {
-            say_refusal(reason, number);
-            say_kept(are_filled(table));
+            say_refusal(rt, reason, number);
+            say_kept(rt, are_filled(table));
         }
         Answer::Accepted(count) => {
-            say(b" read");
-            say_number(count);
+            say(rt, " read");
+            say_number(rt, count);
             let used = least(count as usize, table.len());
-            say_kept(are_filled(&table[used..]));
-            read_short(level, order, file, used);
-            write_back(level, order, &table[0..used], file, out);
-            write_short(level, order, &table[0..used], file, out);
+            say_kept(rt, are_filled(&table[used..]));
+            read_short(rt, level, order, file, used);
+            write_back(rt, level, order, &table[0..used], file, out);
+            write_short(rt, level, order, &table[0..used], file, out);
         }
     }
 }
@@ -249,48 +262,47 @@ fn load(body: &[u8], table: &mut [u64]) -> usize
 }
 
 // What was written of a table, read: the same numbers.
-fn read_back(level: u32, order: u32, file: &[u8], table: &[u64]) {
+fn read_back(rt: &impl Print, level: u32, order: u32, file: &[u8], table: &[u64]) {
     let mut again = [0u64; ROOM];
     fill_numbers(&mut again);
     match reader::read(level, order, file, &mut again) {
         Answer::Refused(reason, number) => {
-            say_refusal(reason, number);
-            say_kept(are_filled(&again));
+            say_refusal(rt, reason, number);
+            say_kept(rt, are_filled(&again));
         }
         Answer::Accepted(count) => {
-            say(b" read");
-            say_number(count);
+            say(rt, " read");
+            say_number(rt, count);
             let used = least(count as usize, ROOM);
-            say_same(same_numbers(table, &again[0..used]));
-            say_kept(are_filled(&again[used..]));
+            say_same(rt, same_numbers(table, &again[0..used]));
+            say_kept(rt, are_filled(&again[used..]));
         }
     }
 }
 
-fn try_table(level: u32, order: u32, table: &[u64], out: &mut [u8]) {
-    say(b"table");
-    say_call(level, order);
+fn try_table(rt: &impl Print, level: u32, order: u32, table: &[u64], out: &mut [u8]) {
+    say(rt, "table");
+    say_call(rt, level, order);
     fill(out);
     match writer::write(level, order, table, out) {
         Answer::Refused(reason, number) => {
-            say_refusal(reason, number);
-            say_kept(is_filled(out));
+            say_refusal(rt, reason, number);
+            say_kept(rt, is_filled(out));
         }
         Answer::Accepted(count) => {
-            say(b" write");
-            say_number(count);
+            say(rt, " write");
+            say_number(rt, count);
             let used = least(count as usize, out.len());
-            say_kept(is_filled(&out[used..]));
-            read_back(level, order, &out[0..used], table);
+            say_kept(rt, is_filled(&out[used..]));
+            read_back(rt, level, order, &out[0..used], table);
         }
     }
 }
 
 // The next record's head; a count of no bytes and kind 255 at the end.
-fn read_head() -> Head {
+fn read_head(source: &mut impl Read) -> Head {
     let mut bytes = [0u8; 8];
-    let got = io::read_full(STDIN_FILENO, &mut bytes);
-    if got < 8 {
+    if source.read_exact(&mut bytes).is_err() {
         return Head {
             kind: 255,
             order: 0,
@@ -307,33 +319,46 @@ fn read_head() -> Head {
 }
 
 // A record's bytes, at the start of the room: whether they are all there.
-fn read_body(room: &mut [u8], count: usize) -> bool
+fn read_body(source: &mut impl Read, room: &mut [u8], count: usize) -> bool
     requires { count ≤ length room.old }
 {
-    let part = &mut room[0..count];
-    let got = io::read_full(STDIN_FILENO, part);
-    got == count
+    source.read_exact(&mut room[0..count]).is_ok()
 }
 
-fn try_record(kind: u8, level: u32, order: u32, body: &[u8], table: &mut [u64], out: &mut [u8]) {
+fn try_record(
+    rt: &impl Print,
+    kind: u8,
+    level: u32,
+    order: u32,
+    body: &[u8],
+    table: &mut [u64],
+    out: &mut [u8],
+) {
     if kind == FILE {
-        try_file(level, order, body, table, out);
+        try_file(rt, level, order, body, table, out);
         return;
     }
     let count = load(body, table);
-    try_table(level, order, &table[0..count], out);
+    try_table(rt, level, order, &table[0..count], out);
 }
 
-fn next_in(room: &mut [u8], table: &mut [u64], out: &mut [u8]) -> bool {
-    let head = read_head();
+fn next_in(
+    rt: &impl Print,
+    source: &mut impl Read,
+    room: &mut [u8],
+    table: &mut [u64],
+    out: &mut [u8],
+) -> bool {
+    let head = read_head(source);
     let count = least(head.count, room.len());
     if head.kind == 255 {
         return false;
     }
-    if !read_body(room, count) {
+    if !read_body(source, room, count) {
         return false;
     }
     try_record(
+        rt,
         head.kind,
         head.level,
         head.order,
@@ -341,21 +366,22 @@ fn next_in(room: &mut [u8], table: &mut [u64], out: &mut [u8]) -> bool {
         table,
         out,
     );
-    say(b"\n");
+    say(rt, "\n");
     true
 }
 
 // One record, if there is one more.
-fn try_next() -> bool {
+fn try_next(rt: &impl Print, source: &mut impl Read) -> bool {
     let mut room = [0u8; ROOM];
     let mut table = [0u64; ROOM];
     let mut out = [0u8; ROOM];
-    next_in(&mut room, &mut table, &mut out)
+    next_in(rt, source, &mut room, &mut table, &mut out)
 }
 
-fn main() {
+fn main(rt: HostRuntime) {
+    let mut source = rt.stdin();
     let mut left = 65536u64;
-    while 0 < left && try_next() {
+    while 0 < left && try_next(&rt, &mut source) {
         left -= 1;
     }
 }
