@@ -15,10 +15,11 @@ const MOST: usize = 65535;
 // The number that decimal digits spell; 4 bits of a digit in ASCII are its value. Past five digits none is taken: no level is that large.
 fn level_of(word: &[u8]) -> u32 {
     let mut level = 0;
-    let mut i = 0;
-    while i < word.len() && level < 10000 {
-        level = level * 10 + (word[i] % 16) as u32;
-        i += 1;
+    for digit in word {
+        if level >= 10000 {
+            break;
+        }
+        level = level * 10 + u32::from(digit % 16);
     }
     level
 }
@@ -112,9 +113,7 @@ fn arg_count(rt: &impl Env) -> usize {
 // The first argument is the program's name.
 fn main(rt: HostRuntime) {
     let pairs = arg_count(&rt) / 2;
-    let mut i = 0;
-    while i < pairs {
+    for i in 0..pairs {
         print_case(&rt, 2 * i + 1, 2 * i + 2);
-        i += 1;
     }
 }
