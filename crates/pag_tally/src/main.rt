@@ -105,8 +105,7 @@ fn main(rt: HostRuntime) {
     let mut source = rt.stdin();
     let mut file = [0u8; 32768];
     let mut tally = Tally::new();
-    let mut turn: u32 = 0;
-    while turn <= 1000000 {
+    for _ in 0..=1000000 {
         let next = read_next(&mut source, &mut file);
         match next {
             Next::Over => {
@@ -131,6 +130,5 @@ fn main(rt: HostRuntime) {
                 tally = added.tally;
             }
         }
-        turn += 1;
     }
 }

@@ -11,7 +11,7 @@ ghost use Rattle.printing.specs.Singles.{singles_left};
 use answers::Answer;
 use listing::Cursor;
 use std::io;
-use std::io::Read;
+use std::io::{ErrorKind, Read};
 
 // The programs are high first.
 const HIGH_FIRST: u32 = 0;
@@ -52,13 +52,15 @@ pub fn read_input(source: &mut impl Read, file: &mut [u8]) -> Input
     Input::Bytes(count)
 }
 
-// Writes all of a text; if that fails it says so, and answers false.
+// Writes all of a text; if that fails it says so, and answers false. Nothing is said if nobody reads the output any more.
 pub fn write(rt: &(impl Print + Eprint), text: &[u8]) -> bool {
-    let whole = rt.write_all(text).is_ok();
-    if !whole {
+    let Err(error) = rt.write_all(text) else {
+        return true;
+    };
+    if error.kind() != ErrorKind::BrokenPipe {
         let _ = rt.eprintln("standard output cannot be written");
     }
-    whole
+    false
 }
 
 // Writes the first `count` bytes of a line.

@@ -66,69 +66,27 @@ fn least(one: usize, other: usize) -> usize
 }
 
 fn fill(out: &mut [u8]) {
-    let mut i = 0;
-    while i < out.len() {
-        out[i] = FILLED;
-        i += 1;
-    }
+    out.fill(FILLED);
 }
 
 fn is_filled(out: &[u8]) -> bool {
-    let mut i = 0;
-    while i < out.len() {
-        if out[i] != FILLED {
-            return false;
-        }
-        i += 1;
-    }
-    true
+    out.iter().all(|byte| *byte == FILLED)
 }
 
 fn fill_numbers(table: &mut [u64]) {
-    let mut i = 0;
-    while i < table.len() {
-        table[i] = FILLED_NUMBER;
-        i += 1;
-    }
+    table.fill(FILLED_NUMBER);
 }
 
 fn are_filled(table: &[u64]) -> bool {
-    let mut i = 0;
-    while i < table.len() {
-        if table[i] != FILLED_NUMBER {
-            return false;
-        }
-        i += 1;
-    }
-    true
+    table.iter().all(|number| *number == FILLED_NUMBER)
 }
 
 fn same_bytes(one: &[u8], other: &[u8]) -> bool {
-    if one.len() != other.len() {
-        return false;
-    }
-    let mut i = 0;
-    while i < one.len() {
-        if one[i] != other[i] {
-            return false;
-        }
-        i += 1;
-    }
-    true
+    one == other
 }
 
 fn same_numbers(one: &[u64], other: &[u64]) -> bool {
-    if one.len() != other.len() {
-        return false;
-    }
-    let mut i = 0;
-    while i < one.len() {
-        if one[i] != other[i] {
-            return false;
-        }
-        i += 1;
-    }
-    true
+    one == other
 }
 
 fn say_same(rt: &impl Print, same: bool) {
@@ -253,10 +211,8 @@ fn load(body: &[u8], table: &mut [u64]) -> usize
     ensures { result ≤ length table.old }
 {
     let count = least(body.len() / 8, table.len());
-    let mut i = 0;
-    while i < count {
+    for i in 0..count {
         table[i] = number_at(body, i * 8);
-        i += 1;
     }
     count
 }
@@ -380,8 +336,9 @@ fn try_next(rt: &impl Print, source: &mut impl Read) -> bool {
 
 fn main(rt: HostRuntime) {
     let mut source = rt.stdin();
-    let mut left = 65536u64;
-    while 0 < left && try_next(&rt, &mut source) {
-        left -= 1;
+    for _ in 0..65536 {
+        if !try_next(&rt, &mut source) {
+            return;
+        }
     }
 }
