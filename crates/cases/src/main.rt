@@ -90,7 +90,7 @@ fn print_case(rt: &(impl Env + Files + Print + Eprint), i: usize, next: usize) {
     match str::from_utf8(&name[..m]) {
         Ok(name) => print_named(rt, level_of(&level[..n]), name),
         Err(_) => {
-            let _ = rt.eprintln("a file's name is not UTF-8");
+            let _ = eprintln!(rt; "a file's name is not UTF-8");
         }
     }
 }

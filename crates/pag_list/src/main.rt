@@ -25,7 +25,7 @@ fn print_file(rt: &(impl Print + Eprint), file: &[u8], singles: bool) {
 fn print_input(rt: &(impl Print + Eprint), source: &mut impl Read, file: &mut [u8], singles: bool) {
     match printing::read_input(source, file) {
         Input::Failed(_) => {
-            let _ = rt.eprintln("pag_list: standard input cannot be read");
+            let _ = eprintln!(rt; "pag_list: standard input cannot be read");
         }
         Input::Bytes(count) => {
             if MOST < count {

@@ -113,7 +113,7 @@ fn main(rt: HostRuntime) {
                 return;
             }
             Next::Failed => {
-                let _ = rt.eprintln("pag_tally: standard input cannot be read");
+                let _ = eprintln!(rt; "pag_tally: standard input cannot be read");
                 return;
             }
             Next::TooLong => {

@@ -4,27 +4,26 @@ use mathlib.Core.Bool.{Bool, true, false}
 use mathlib.Core.List.{List, [], ◌∷◌, ◌++◌, map}
 use mathlib.Core.Path.{◌≡◌, refl, ap, ap₂, sym, ◌∙◌}
 use native.Mathlib.Omega.{arith}
-use lib.ListN.{length, get_or, take, drop}
+use lib.ListN.{length, take, drop}
 use lib.Dec.{leb}
 use borrow.Author.Tests.{le-ltb, lt-ltb}
 use Rattle.format.specs.Tests.{pick}
-use Rattle.format.specs.FileAndTags.{Tag, Walk, Outcome, whole, fault, packed}
-use Rattle.format.specs.TableOfNumbers.{table, is_opaque, body_in, tag_table}
-use Rattle.format.specs.Reasons.{Result, gives, refuses, result, walk_file, read_file, read_tags, Left, accepts, refuses_with, into, IsFile, Answer, accepted, refused}
+use Rattle.format.specs.FileAndTags.{Tag, Walk, Outcome, whole, fault}
+use Rattle.format.specs.TableOfNumbers.{table, tag_table}
+use Rattle.format.specs.Reasons.{gives, result, walk_file, read_file, read_tags, Left, accepts, refuses_with, into, IsFile, Answer, accepted, refused}
 use Rattle.format.proofs.PlainLaws.{Shown, shown_file}
 use Rattle.format.proofs.StartLaws.{good_start, whole_start}
-use Rattle.format.proofs.CallLaws.{Filled, filled}
+use Rattle.format.proofs.CallLaws.{filled}
 use Rattle.format.proofs.Absurd.{clash}
 use Rattle.answers.specs.Answers.{answer_of, leaves}
 use Rattle.answers.specs.declared.Answer as answers
 use Rattle.answers.specs.declared.Answer.TheVariants.{Accepted, Refused}
-use Rattle.listing.specs.Listing.{listing, refusal, printed}
+use Rattle.listing.specs.Listing.{listing, refusal}
 use Rattle.listing.specs.Steps.{table_listing}
 use Rattle.listing.proofs.Listed.{listed}
-use Rattle.path_singles.specs.Coordinates.{plain}
 use Rattle.path_singles.specs.Tables.{values_by, with_singles, in_singles, judged, TablesOf}
 use Rattle.path_singles.proofs.LengthLaws.{table_long}
-use Rattle.printing.specs.Singles.{listed_or, answered_in_singles, printed_in_singles, read_singles, singles_by, singles_left}
+use Rattle.printing.specs.Singles.{listed_or, printed_in_singles, read_singles, singles_by, singles_left}
 
 -- ---- the parts that are lent on are the two tables
 part_is : (l : List ℕ) (k : ℕ) → take (k - 0) (drop 0 l) ≡ take k l

@@ -58,7 +58,7 @@ pub fn write(rt: &(impl Print + Eprint), text: &[u8]) -> bool {
         return true;
     };
     if error.kind() != ErrorKind::BrokenPipe {
-        let _ = rt.eprintln("standard output cannot be written");
+        let _ = eprintln!(rt; "standard output cannot be written");
     }
     false
 }

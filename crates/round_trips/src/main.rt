@@ -40,7 +40,7 @@ fn wide64(number: u32) -> u64
 }
 
 fn say(rt: &impl Print, text: &str) {
-    let _ = rt.print(text);
+    let _ = print!(rt; "{text}");
 }
 
 fn say_number(rt: &impl Print, number: u64) {
