@@ -1,10 +1,9 @@
 -- The laws of bit fields, over the order, every place and width; what the readings are, case by case; and what an answer tells.
 -- Each number that code computes is a variable, tied by an equation: omega proves the equation, and what a callee ensures fits as it stands.
-use Rattle.std.proofs.Common.{◌≡◌, ℕ, zero, suc, ◌+◌, ◌-◌, ◌*◌, ◌/◌, ◌%◌, ◌^◌, ◌<◌, ◌≤◌, Bool, true, false, eqb, ltb, leb, List, [], ◌∷◌, length, get_or, drop, sym, refl, ap, ◌∙◌, subst, ap₂, add-zero, add_assoc, add-suc, mod-eq_of_lt, mul_assoc, one-mul, pow-suc, mul-one, div-one, arith, length-drop, get_or-drop, drop-cons, pow_mono, ltb-false, ltb-true, le-ltb, lt-ltb, ne_eqb, le-leb, leb-true}
+use Rattle.std.proofs.Common.{◌≡◌, ℕ, zero, suc, ◌+◌, ◌-◌, ◌*◌, ◌/◌, ◌%◌, ◌^◌, ◌<◌, ◌≤◌, Bool, true, false, eqb, ltb, leb, List, [], ◌∷◌, length, get_or, drop, sym, refl, ap, ◌∙◌, subst, ap₂, add-zero, mod-eq_of_lt, one-mul, pow-suc, div-one, arith, length-drop, get_or-drop, drop-cons, pow_mono, ltb-false, ltb-true, le-ltb, lt-ltb, ne_eqb, le-leb, leb-true}
 use native.Mathlib.Nat.{mod-eq-sub-mod, zero-div}
 use lib.ListN.{get_or-eq_default}
 use lib.Seq.{drop-length}
-use lib.Arith.{digits_div, digits_mod}
 use lib.Pow.{pow-lt}
 use borrow.Author.Tests.{lt-leb}
 use Rattle.format.specs.Bits.{Order, high, low, bit_at, ub}

@@ -12,7 +12,7 @@ use Rattle.format.specs.Tests.{pick}
 use Rattle.format.specs.Bits.{Order, ub}
 use Rattle.format.specs.Reading.{Ending, At, Fault, Reading, shows, stop, follow}
 use Rattle.format.specs.Items.{skipped, read_align, run}
-use Rattle.format.specs.Bodies.{Attribute, Body, shape_group, all_flags, read_block, read_part, to_end, used_up, read_body}
+use Rattle.format.specs.Bodies.{Attribute, Body, all_flags, read_block, read_part, to_end, used_up, read_body}
 use Rattle.format.specs.WritingBodies.{write_part}
 use Rattle.format.proofs.Absurd.{clash}
 use Rattle.format.proofs.BodyLaws.{trip_part}
@@ -20,14 +20,14 @@ use Rattle.format.proofs.Trip.{There, has_le}
 use Rattle.bits.specs.declared.BitPlace.{BitPlace}
 use Rattle.bits.specs.declared.BytePlace.{BytePlace}
 use Rattle.table.specs.State.{State, shown_over}
-use Rattle.table.specs.Run.{ending_of, index_of, run_leaves}
+use Rattle.table.specs.Run.{run_leaves}
 use Rattle.table.specs.declared.Run.{Run}
 use Rattle.table.specs.declared.Run.TheVariants as run
 use Rattle.table.proofs.EngineLaws.{state_eq}
 use Rattle.attributes.specs.Rows.{attributes_of}
 use Rattle.fixed.specs.Fixed.{fixed_of}
 use Rattle.bodies.specs.Leaf.{is_block, body_by, leaf_body, group, container_body, has_list_in, own_part}
-use Rattle.bodies.specs.Shown.{shown_end, shown_index, shown_leaves, is_open, opens, Shows, finished, Inside, end_by, end_after, Finishes}
+use Rattle.bodies.specs.Shown.{shown_end, shown_leaves, is_open, opens, Shows, finished, Inside, end_by, end_after, Finishes}
 use Rattle.bodies.specs.declared.Shown.{Shown}
 use Rattle.bodies.specs.declared.Shown.TheVariants.{Done, Open, Stop}
 use Rattle.attributes.proofs.FlagLaws.{ended_is}

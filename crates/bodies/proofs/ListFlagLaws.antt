@@ -1,5 +1,5 @@
 -- A block whose last attribute is a TagBlock shows that attribute's flag last.
-use Prim.Native.Nat.{ℕ, zero, suc, ◌+◌, ◌-◌, ◌≤◌, ◌<◌}
+use Prim.Native.Nat.{ℕ, suc, ◌+◌, ◌-◌, ◌<◌}
 use mathlib.Core.List.{List, [], ◌∷◌, ◌++◌}
 use mathlib.Core.Bool.{Bool, true, false}
 use mathlib.Core.Path.{◌≡◌, refl, ap, sym, ◌∙◌}
@@ -10,7 +10,7 @@ use lib.Dec.{eqb}
 use Rattle.format.specs.Tests.{pick}
 use Rattle.format.specs.Bits.{Order}
 use Rattle.format.specs.Reading.{Ending, At, Fault, Reading, shows, follow}
-use Rattle.format.specs.Formats.{Format, nothing}
+use Rattle.format.specs.Formats.{nothing}
 use Rattle.format.specs.Items.{run, read_item}
 use Rattle.format.specs.Bodies.{Attribute, ◌of◌, Custom, TagBlocks, shape_group, content, all_flags, rows, read_block}
 use Rattle.format.proofs.Absurd.{clash}

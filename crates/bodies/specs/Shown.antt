@@ -1,10 +1,9 @@
 -- What reading the values of a tag leaves, as a state: they end on a whole byte.
 use Rattle.std.specs.Prelude.{ℕ, ◌*◌, List, Bool, true, false, ◌≡◌, length, eqb}
-use Rattle.format.specs.Tests.{pick, ◌and◌}
+use Rattle.format.specs.Tests.{pick}
 use Rattle.format.specs.Bits.{Order}
 use Rattle.format.specs.Reading.{Ending, At, Fault, Reading}
 use Rattle.format.specs.Items.{read_align}
-use Rattle.format.specs.Bodies.{used_up}
 use Rattle.bits.specs.Places.{PlaceIn}
 use Rattle.bits.specs.declared.BytePlace.{BytePlace}
 use Rattle.table.specs.State.{State, shown_over}

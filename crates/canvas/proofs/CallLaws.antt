@@ -1,14 +1,12 @@
 -- The public call: what it answers, by what looking through the tags at depth 0 gave.
-use Prim.Native.Nat.{ℕ, ◌+◌, ◌-◌, ◌*◌, ◌^◌, ◌≤◌, ◌<◌}
+use Prim.Native.Nat.{ℕ, ◌+◌, ◌-◌, ◌^◌, ◌≤◌, ◌<◌}
 use mathlib.Core.Bool.{false}
-use mathlib.Core.List.{List, [], ◌∷◌, ◌++◌, append-nil}
-use mathlib.Core.Path.{◌≡◌, refl, ap, ap₂, sym, subst, ◌∙◌}
+use mathlib.Core.List.{List, [], ◌++◌, append-nil}
+use mathlib.Core.Path.{◌≡◌, ap, ap₂, sym, subst, ◌∙◌}
 use native.Mathlib.Omega.{arith}
 use lib.ListN.{length, take, drop, length-drop, length-take}
-use lib.Seq.{sets, sets-eq, drop-drop, length-take-le}
-use lib.Dec.{eqb}
+use lib.Seq.{sets, sets-eq, drop-drop}
 use borrow.Author.Tests.{ne_eqb}
-use Rattle.format.specs.Tests.{pick}
 use Rattle.format.specs.Bits.{Order, order_named}
 use Rattle.format.specs.Reading.{At}
 use Rattle.format.specs.Bodies.{Body, composition_attributes, fixed, read_body}
@@ -26,15 +24,15 @@ use Rattle.bits.specs.declared.BytePlace.{BytePlace}
 use Rattle.tags.specs.Lent.{classes_in}
 use Rattle.lists.proofs.ListLaws.{piece, piece_rest}
 use Rattle.tags.proofs.LentLaws.{class_level}
-use Rattle.canvas.specs.Canvas.{Seen, found, none, refused, Canvas, canvas, canvas_in, canvas_of, canvas_file}
-use Rattle.canvas.specs.Looking.{body_at, Stands, Looks, Bounds, zeros, bare, told, filled}
+use Rattle.canvas.specs.Canvas.{Seen, found, none, refused, Canvas, canvas_in, canvas_of, canvas_file}
+use Rattle.canvas.specs.Looking.{body_at, Looks, Bounds, zeros, bare, told, filled}
 use Rattle.canvas.specs.declared.CanvasSize.{CanvasSize}
 use Rattle.canvas.specs.declared.Seen.TheVariants as seen
 use Rattle.canvas.specs.declared.Spot.{Spot}
 use Rattle.canvas.specs.declared.Looked.{Looked}
 use Rattle.canvas.specs.declared.Looked.TheVariants as looked
 use Rattle.canvas.proofs.LookLaws.{leaf_is}
-use Rattle.canvas.proofs.SureLaws.{SureEnd, Sure, canvas_sure}
+use Rattle.canvas.proofs.SureLaws.{SureEnd, canvas_sure}
 
 -- ---- seven values over seven zeros
 over_zeros : (xs : List ℕ) → length xs ≡ 7 → sets zeros 0 xs ≡ xs

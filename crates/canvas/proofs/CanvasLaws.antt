@@ -1,9 +1,8 @@
 -- The walk that stops, of walks: what comes before, and then what follows; and the same from a table's numbers.
 use Prim.Native.Nat.{ℕ, zero, suc, ◌+◌, ◌≤◌, ◌<◌}
 use mathlib.Core.List.{List, [], ◌∷◌, ◌++◌}
-use mathlib.Core.Path.{◌≡◌, refl, ap, sym, subst, ◌∙◌}
+use mathlib.Core.Path.{◌≡◌, refl, ap, sym, ◌∙◌}
 use mathlib.Core.Bool.{Bool, true, false}
-use native.Mathlib.Nat.{add_assoc}
 use native.Mathlib.Omega.{arith}
 use lib.ListN.{length, take, drop, length-append}
 use lib.Seq.{take-append_seam, drop-append_seam}
@@ -12,9 +11,9 @@ use borrow.Author.Tests.{leb-true}
 use Rattle.format.specs.Tests.{pick}
 use Rattle.format.specs.FileAndTags.{Tag, Outcome, whole, fault, Walk, chain}
 use Rattle.format.specs.TableOfNumbers.{numbers, table}
-use Rattle.format.specs.Reasons.{walk_file, Result, gives, refuses, result, read_file}
+use Rattle.format.specs.Reasons.{walk_file, gives, result, read_file}
 use Rattle.format.proofs.Absurd.{clash}
-use Rattle.canvas.specs.Canvas.{is_canvas, Seen, found, none, refused, Canvas, canvas, more, seen_in, ended_as, canvas_in, canvas_of, canvas_file, in_numbers, in_table}
+use Rattle.canvas.specs.Canvas.{is_canvas, Seen, found, none, refused, Canvas, canvas, more, seen_in, canvas_in, canvas_of, canvas_file, in_numbers, in_table}
 
 -- ---- what follows is looked at only where nothing was found before
 abbrev pub then_seen : Seen → ℕ → Canvas → Canvas

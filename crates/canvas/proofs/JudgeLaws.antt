@@ -8,7 +8,6 @@ use lib.ListN.{length, take, drop, length-drop}
 use lib.Seq.{drop-drop, length-take-le}
 use lib.Dec.{eqb}
 use borrow.Author.Tests.{eq-eqb, ne_eqb}
-use Rattle.format.specs.Tests.{pick}
 use Rattle.format.specs.Bits.{Order}
 use Rattle.format.specs.Reading.{At, Reading}
 use Rattle.format.specs.FileAndTags as paper
@@ -33,7 +32,6 @@ use Rattle.canvas.specs.Looking.{is_looked, judged_class, judged_by, stands_at, 
 use Rattle.canvas.specs.declared.Body.{Body}
 use Rattle.canvas.specs.declared.Judged.{Judged}
 use Rattle.canvas.specs.declared.Judged.TheVariants as judged
-use Rattle.canvas.specs.declared.Looked.{Looked}
 use Rattle.canvas.specs.declared.Looked.TheVariants as looked
 
 -- ---- is_looked

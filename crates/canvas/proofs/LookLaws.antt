@@ -1,6 +1,6 @@
 -- A list, looked through tag by tag: how many headers were passed, and what looking in the rest of it gives.
-use Prim.Native.Nat.{ℕ, zero, suc, pred, ◌+◌, ◌-◌, ◌*◌, ◌/◌, ◌%◌, ◌≤◌, ◌<◌}
-use mathlib.Core.List.{List, [], ◌∷◌, ◌++◌}
+use Prim.Native.Nat.{ℕ, pred, ◌+◌, ◌-◌, ◌*◌, ◌/◌, ◌%◌, ◌≤◌, ◌<◌}
+use mathlib.Core.List.{List, [], ◌∷◌}
 use mathlib.Core.Path.{◌≡◌, refl, ap, ap₂, sym, subst, ◌∙◌}
 use mathlib.Core.Bool.{Bool, true, false, not}
 use mathlib.Core.Logic.{◌⊎◌, inl, inr}
@@ -8,8 +8,8 @@ use native.Mathlib.Nat.{add-zero}
 use native.Mathlib.Omega.{arith}
 use lib.ListN.{length, take, drop, length-drop}
 use lib.Seq.{length-take-le, drop-drop, drop-length, take-take}
-use lib.Dec.{ltb, leb, eqb}
-use borrow.Author.Tests.{eqb-true, eqb-false, leb-true, le-leb}
+use lib.Dec.{ltb, eqb}
+use borrow.Author.Tests.{eqb-true, eqb-false, le-leb}
 use Rattle.format.specs.Tests.{pick, ◌and◌}
 use Rattle.format.specs.Bits.{Order}
 use Rattle.format.specs.Reading.{Ending, At, Fault, Reading}
@@ -17,11 +17,10 @@ use Rattle.format.specs.Bodies.{composition_attributes, fixed, read_body}
 use Rattle.format.specs.Bodies as bodies
 use Rattle.format.specs.FileAndTags as paper
 use Rattle.format.specs.FileAndTags.{le16, le32, class_of, is_end, is_container, is_read, long_on_short, state_of, Tag, Outcome, whole, fault, Walk, no_tags, broken, chain, Head, head, no_head, raw_head, passes, read_head, blame, at_end, after_tag, TagInside, within, tag_then, walk_list}
-use Rattle.format.specs.TableOfNumbers.{is_opaque}
 use Rattle.format.proofs.StateLaws.{state_opaque}
-use Rattle.format.proofs.ListLaws.{list_nil, list_one, list_fault, list_tag}
+use Rattle.format.proofs.ListLaws.{list_nil, list_fault, list_tag}
 use Rattle.format.proofs.RoomLaws.{Room, walk_room}
-use Rattle.format.proofs.WalkLaws.{run_le, Fits, head_fits}
+use Rattle.format.proofs.WalkLaws.{Fits, head_fits}
 use Rattle.format.proofs.Absurd.{clash}
 use Rattle.fixed.specs.Fixed.{fixed_of}
 use Rattle.bodies.specs.Leaf.{leaf_body}
@@ -41,7 +40,7 @@ use Rattle.lists.specs.declared.Owner.{Owner}
 use Rattle.lists.proofs.ListLaws.{piece, length_piece, drop_take, pred_is, positive, walk_of, inside_of, within_is}
 use Rattle.tags.proofs.LentLaws.{fair_in, with_named}
 use Rattle.canvas.specs.Canvas.{is_canvas, Seen, found, none, refused, Canvas, canvas, more, seen_in, canvas_in, canvas_of}
-use Rattle.canvas.specs.Looking.{is_looked, judged_class, stands_at, judged_by, judged_end, judged_at, judged_in, after_end, body_at, Stands, Looks, Bounds}
+use Rattle.canvas.specs.Looking.{is_looked, judged_class, stands_at, judged_end, judged_at, judged_in, after_end, body_at, Stands, Looks, Bounds}
 use Rattle.canvas.specs.declared.Body.{Body}
 use Rattle.canvas.specs.declared.Spot.{Spot}
 use Rattle.canvas.specs.declared.Judged.{Judged}
@@ -49,7 +48,7 @@ use Rattle.canvas.specs.declared.Judged.TheVariants as judged
 use Rattle.canvas.specs.declared.Looked.{Looked}
 use Rattle.canvas.specs.declared.Looked.TheVariants as looked
 use Rattle.canvas.proofs.CanvasLaws.{then_seen, then_look, Headed, headed_found, canvas_chain, headers_le}
-use Rattle.canvas.proofs.SureLaws.{SureEnd, Sure, canvas_sure}
+use Rattle.canvas.proofs.SureLaws.{SureEnd, canvas_sure}
 
 -- ---- a header's reasons are 6 to 12
 abbrev Below : Head → Type 0

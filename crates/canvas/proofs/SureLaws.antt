@@ -1,6 +1,6 @@
 -- The body of CompositionAttributes: where its reading ends well it shows seven numbers, and its faults have reasons of bodies (13 and above).
 use Prim.Native.Nat.{ℕ, zero, suc, ◌+◌, ◌*◌, ◌≤◌}
-use mathlib.Core.List.{List, [], ◌∷◌, ◌++◌}
+use mathlib.Core.List.{List, ◌++◌}
 use mathlib.Core.Path.{◌≡◌, refl}
 use mathlib.Core.Bool.{Bool, true, false}
 use native.Mathlib.Omega.{arith}
@@ -9,8 +9,8 @@ use lib.Dec.{ltb, leb, eqb}
 use Rattle.format.specs.Tests.{pick}
 use Rattle.format.specs.Bits.{Order, ub}
 use Rattle.format.specs.Reading.{Ending, At, Fault, Reading, follow}
-use Rattle.format.specs.Formats.{Item, Format, nothing, item, ◌▸◌, times}
-use Rattle.format.specs.Items.{skipped, room, Num, num, bad, show_num, map_num, read_ub, carry, read_var, sign, not_one, above, read_le, read_align, read_item, run, byte_item}
+use Rattle.format.specs.Formats.{Item, Format, nothing, ◌▸◌, times}
+use Rattle.format.specs.Items.{skipped, room, Num, num, bad, show_num, map_num, carry, read_var, sign, not_one, above, read_le, read_align, read_item, run, byte_item}
 use Rattle.format.specs.Bodies.{composition_attributes, fixed, read_part, to_end, used_up, read_body}
 
 abbrev pub SureEnd : ℕ → List ℕ → Ending → Type 0

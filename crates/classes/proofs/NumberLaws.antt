@@ -1,7 +1,7 @@
 -- Classes as numbers: a table of them that is filled, and what it says of each code.
 use Prim.Native.Nat.{ℕ, zero, suc, ◌+◌, ◌-◌, ◌≤◌, ◌<◌}
 use mathlib.Core.Bool.{Bool, true, false}
-use mathlib.Core.List.{List, [], ◌∷◌, ◌++◌}
+use mathlib.Core.List.{List, ◌++◌}
 use mathlib.Core.Path.{◌≡◌, ◌∙◌, refl, ap, sym}
 use native.Mathlib.Omega.{arith}
 use native.Mathlib.Nat.{zero-add}
@@ -13,7 +13,7 @@ use Rattle.classes.specs.declared.Class.{Class}
 use Rattle.classes.specs.declared.Class.TheVariants.{Opaque, End, Container, Fixed, Attributes}
 use Rattle.classes.specs.declared.Scope.{Scope}
 use Rattle.classes.specs.declared.Scope.TheVariants.{All, Lists}
-use Rattle.classes.specs.Classes.{named, skimmed, class_by, number_of, numbered, number_by, Classed}
+use Rattle.classes.specs.Classes.{named, class_by, number_of, numbered, number_by, Classed}
 use Rattle.classes.specs.Tables.{tab}
 use Rattle.classes.proofs.Table.{at}
 use Rattle.classes.proofs.ClassLaws.{past_codes}

@@ -22,7 +22,6 @@ use Rattle.items.specs.Kinds.{format_of}
 use Rattle.items.specs.declared.Item.{Item}
 use Rattle.items.specs.declared.Item.TheVariants.{U32, I32, Byte}
 use Rattle.table.specs.State.{State, shown_over}
-use Rattle.table.specs.Run.{run_leaves}
 use Rattle.table.proofs.EngineLaws.{Alike, alike_nothing, alike_assoc, alike_after}
 use Rattle.fixed.specs.Fixed.{in_order, all_items, items_from, fixed_of, RowsOf}
 

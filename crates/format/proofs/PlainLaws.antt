@@ -1,7 +1,7 @@
 -- The plain table and the packed one determine each other (C-17): `plain_of_lem` and `packed_of`, at the end, with what follows from them.
-use Prim.Native.Nat.{ℕ, zero, suc, pred, ◌+◌, ◌-◌, ◌*◌, ◌/◌, ◌%◌, ◌≤◌}
+use Prim.Native.Nat.{ℕ, zero, suc, pred, ◌+◌, ◌-◌, ◌/◌, ◌≤◌}
 use mathlib.Core.List.{List, [], ◌∷◌, ◌++◌, append-nil, map}
-use mathlib.Core.Path.{◌≡◌, refl, ap, ap₂, sym, ◌∙◌, subst}
+use mathlib.Core.Path.{◌≡◌, refl, ap, ap₂, sym, ◌∙◌}
 use mathlib.Core.Bool.{Bool, true, false}
 use lib.ListN.{length, get_or, take, drop, length-append, length-drop, take-append-drop}
 use lib.Seq.{length-take-le, take-append_seam, drop-append_seam}
@@ -13,9 +13,9 @@ use Rattle.format.specs.Tests.{pick}
 use Rattle.format.specs.Bits.{Order, AllBytes, order_named}
 use Rattle.format.specs.Reading.{Ending, At, Fault}
 use Rattle.format.specs.Bodies.{to_end}
-use Rattle.format.specs.FileAndTags.{Class, opaque, end, container, known, class_of, is_end, is_read, long_on_short, state_of, packed, Tag, Outcome, whole, fault, Walk, chain, Head, head, no_head, read_head, Owner, file, inside, TagInside, has_list, opened, within, after_tag, tag_then, one_tag, walk, walk_list}
+use Rattle.format.specs.FileAndTags.{Class, opaque, end, container, known, class_of, is_end, is_read, long_on_short, state_of, packed, Tag, Outcome, whole, fault, Walk, chain, Head, head, no_head, read_head, Owner, file, inside, TagInside, has_list, opened, within, after_tag, one_tag, walk}
 use Rattle.format.specs.TableOfNumbers.{numbers, table, is_opaque, body_in, showing, plain_tag, plain_table, unpacked, changed, pack, unpack}
-use Rattle.format.specs.Reasons.{start_fault, walk_file, Result, gives, refuses, result, read_file, read_plain, IsFile}
+use Rattle.format.specs.Reasons.{start_fault, walk_file, gives, result, read_file, read_plain, IsFile}
 use Rattle.format.proofs.BodyLaws.{end_le}
 use Rattle.format.proofs.ByteLaws.{bytes_take, bytes_drop}
 use Rattle.format.proofs.LevelLaws.{Part, part_drop, part_take, part_plain}

@@ -13,9 +13,9 @@ use Rattle.format.specs.Tests.{pick, ◌and◌, ◌or◌}
 use Rattle.format.specs.Bits.{Order, ub, order_named}
 use Rattle.format.specs.Reading.{Ending, At, Fault, Reading, follow}
 use Rattle.format.specs.Formats.{Item, Format, nothing, item, only, ◌▹◌, ◌▸◌, times, the}
-use Rattle.format.specs.Items.{skipped, room, Num, num, bad, show_num, map_num, sign_extend, read_ub, carry, read_var, sign, not_one, exist, read_flag, above, read_le, Text, text, cut, read_text, show_text, read_align, read_item, judge, run, byte_item, u32, i32, time, color, count, coordinates, point, scaled, path, uint16, gradient_color}
+use Rattle.format.specs.Items.{skipped, room, Num, num, bad, show_num, map_num, sign_extend, read_ub, carry, read_var, sign, not_one, exist, read_flag, above, read_le, Text, text, cut, read_text, show_text, read_align, read_item, judge, run, byte_item, u32, i32, time, color, count, coordinates, scaled, path, uint16, gradient_color}
 use Rattle.format.specs.Bodies.{font_tables, composition_attributes, solid_color, Kind, Value, Fixed, BitFlag, Simple, Discrete, MultiDimension, Spatial, Custom, DataType, U32s, Times, Floats, Ratios, Bools, Bytes, BlendModes, Paths, Points, Colors, GradientColors, Enums, Dashes, TagBlocks, Attribute, flags_of, value, values, interpolation, interpolations, how_many, points, curves, spatial, has_spatial, animated, aligned, dashes, keyframed, content_of, all_flags, rows, hand_on, read_block, Body, fixed, attributes, read_part, to_end, used_up, read_body}
-use Rattle.format.specs.FileAndTags.{signature_right, version_right, length_right, Class, opaque, end, container, known, codes, class_of, is_end, is_container, Tag, Outcome, whole, fault, Walk, broken, chain, state_of, Head, head, no_head, le16, le32, raw_head, passes, read_head, Owner, file, inside, TagInside, end_at, has_list, opened, within, after_tag, one_tag, walk, walk_list}
+use Rattle.format.specs.FileAndTags.{signature_right, version_right, length_right, Class, opaque, end, container, known, codes, class_of, is_end, is_container, Tag, Outcome, whole, fault, Walk, broken, chain, state_of, Head, head, no_head, le16, raw_head, passes, read_head, Owner, file, inside, TagInside, end_at, has_list, opened, within, after_tag, one_tag, walk, walk_list}
 use Rattle.format.specs.TableOfNumbers.{table, tag_table}
 use Rattle.format.specs.Reasons.{start_fault, walk_file, Result, gives, refuses, result, read_file, read_tags, Answer, accepted, refused, Left, into}
 use Rattle.format.proofs.Absurd.{either_way}

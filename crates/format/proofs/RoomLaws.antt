@@ -12,8 +12,8 @@ use Rattle.format.specs.Tests.{pick}
 use Rattle.format.specs.Bits.{Order, ub, order_named}
 use Rattle.format.specs.Reading.{Ending, At, Fault, Reading, shows, stop, follow}
 use Rattle.format.specs.Formats.{Item, nothing, item, ◌▸◌, times, the}
-use Rattle.format.specs.Items.{skipped, read_align, read_item, run, u32, i32, time, float, byte, color, string, count}
-use Rattle.format.specs.Bodies.{font_tables, composition_attributes, solid_color, Kind, Value, Fixed, BitFlag, Simple, Discrete, MultiDimension, Spatial, Custom, Attribute, flags_of, content, all_flags, rows, hand_on, read_block, Body, fixed, attributes, read_part, to_end, used_up, read_body}
+use Rattle.format.specs.Items.{skipped, read_align, run, u32, i32, time, float, byte, color, string, count}
+use Rattle.format.specs.Bodies.{font_tables, composition_attributes, solid_color, Kind, Value, Fixed, BitFlag, Simple, Discrete, MultiDimension, Spatial, Custom, Attribute, flags_of, content, all_flags, rows, hand_on, read_block, Body, fixed, attributes, read_part, to_end, read_body}
 use Rattle.format.specs.FileAndTags.{Class, opaque, end, container, known, codes, class_of, is_end, Tag, Outcome, whole, fault, Walk, broken, chain, Head, head, no_head, is_read, long_on_short, state_of, read_head, Owner, file, inside, TagInside, has_list, opened, within, after_tag, tag_then, one_tag, walk, walk_list}
 use Rattle.format.specs.TableOfNumbers.{numbers, table, is_opaque, body_in, plain_tag, plain_table, tag_table}
 use Rattle.format.specs.Reasons.{start_fault, walk_file, gives, result, read_file, read_plain, read_tags}

@@ -7,7 +7,7 @@ use Rattle.format.specs.Bits.{bit_at, ub}
 use Rattle.format.specs.Formats.{times}
 use Rattle.format.specs.Items.{read_item, read_var, read_le, read_flag, run}
 use Rattle.format.specs.Bodies.{Spatial, Points, ◌of◌, text_more_option, transform_2d, read_block, all_flags, rows, Body, attributes, read_part, read_body}
-use Rattle.format.specs.Reasons.{Result, gives, refuses}
+use Rattle.format.specs.Reasons.{gives, refuses}
 use Rattle.format.proofs.Examples.{body, read, Example}
 
 -- a body, and what it gives

@@ -8,7 +8,7 @@ use native.Mathlib.Nat.{add-zero}
 use lib.ListN.{length, get_or, drop, length-drop}
 use lib.Seq.{get_or-drop, drop-drop}
 use lib.Dec.{ltb, eqb}
-use borrow.Author.Tests.{ltb-false, lt-ltb, le-ltb, eq-eqb, ne_eqb}
+use borrow.Author.Tests.{lt-ltb, le-ltb, eq-eqb, ne_eqb}
 use Rattle.format.specs.Tests.{pick, ◌and◌}
 use Rattle.format.specs.FileAndTags as paper
 use Rattle.format.specs.FileAndTags.{head, no_head, le16, le32, is_end, is_container, raw_head, passes, read_head}

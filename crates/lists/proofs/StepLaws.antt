@@ -6,11 +6,10 @@ use mathlib.Core.Path.{◌≡◌, ap, sym, subst, ◌∙◌}
 use native.Mathlib.Omega.{arith}
 use lib.ListN.{length, take, drop, length-drop}
 use lib.Seq.{sets, drop-drop, length-take-le}
-use lib.Dec.{eqb}
 use borrow.Author.Tests.{eq-eqb, ne_eqb}
 use Rattle.bits.specs.declared.BytePlace.{BytePlace}
 use Rattle.format.specs.Bits.{Order}
-use Rattle.format.specs.Reading.{At, Fault}
+use Rattle.format.specs.Reading.{At}
 use Rattle.format.specs.FileAndTags as paper
 use Rattle.format.specs.FileAndTags.{le16, state_of, blame}
 use Rattle.table.specs.State.{State, shown_over}

@@ -8,12 +8,12 @@ use native.Mathlib.Omega.{arith}
 use lib.ListN.{length, get_or}
 use lib.Dec.{ltb, leb, eqb}
 use borrow.Author.Tests.{ltb-false, leb-true, leb-false, lt-ltb, lt-leb, le-leb}
-use Rattle.format.specs.Tests.{pick, ◌and◌, ◌or◌}
-use Rattle.format.specs.Bits.{Order, order_named}
+use Rattle.format.specs.Tests.{pick, ◌or◌}
+use Rattle.format.specs.Bits.{order_named}
 use Rattle.format.specs.Reading.{Ending, At, Fault}
 use Rattle.format.specs.Bodies.{mask_block, attributes, read_body}
 use Rattle.format.proofs.Absurd.{clash}
-use Rattle.opacity.specs.Opacity.{Opacity, fraction, refused, over1, refused_by, from_opacity, Keyframes, keyframes_of, covers, covering, linear, in_frame, at_frame, any, late, falls, keyframed_at, shown_at, judged, of_mask, opacity_at}
+use Rattle.opacity.specs.Opacity.{Opacity, fraction, over1, refused_by, from_opacity, Keyframes, keyframes_of, covers, covering, linear, in_frame, at_frame, any, late, falls, keyframed_at, shown_at, judged, of_mask, opacity_at}
 use Rattle.opacity.specs.Range.{smallest, largest, smallest_of, largest_of, Lies}
 use Rattle.opacity.specs.Answers.{opacity_of}
 use Rattle.opacity.specs.Inner.{seen_of}

@@ -1,8 +1,8 @@
 -- For code: what the calls of the readers tell of a mask's body, and where the opacity is found.
-use Prim.Native.Nat.{ℕ, ◌+◌, ◌-◌, ◌*◌, ◌/◌, ◌%◌, ◌^◌, ◌≤◌, ◌<◌}
+use Prim.Native.Nat.{ℕ, ◌*◌, ◌/◌, ◌%◌, ◌^◌, ◌≤◌, ◌<◌}
 use mathlib.Core.Bool.{false}
-use mathlib.Core.List.{List, []}
-use mathlib.Core.Path.{◌≡◌, refl, ap, sym, subst, ◌∙◌}
+use mathlib.Core.List.{List}
+use mathlib.Core.Path.{◌≡◌, ap, sym, ◌∙◌}
 use native.Mathlib.Omega.{arith}
 use lib.ListN.{length, get_or, take}
 use lib.Seq.{take-take, get_or-take}
@@ -15,10 +15,9 @@ use Rattle.format.proofs.Absurd.{clash}
 use Rattle.format.specs.Bodies as bodies
 use Rattle.format.specs.Bodies.{mask_block, all_flags, rows, attributes, read_body}
 use Rattle.bits.specs.Places.{num_of}
-use Rattle.bits.specs.declared.BitPlace.{BitPlace}
 use Rattle.bits.specs.declared.Got.{Got}
 use Rattle.bits.specs.declared.Got.TheVariants.{Value as GotValue, Fault as GotFault}
-use Rattle.table.specs.State.{State, shown_over}
+use Rattle.table.specs.State.{shown_over}
 use Rattle.table.specs.Run.{ending_of, run_leaves}
 use Rattle.table.specs.declared.Run.{Run}
 use Rattle.attributes.specs.Rows.{attributes_of, rows_from, Attributes}
@@ -30,7 +29,7 @@ use Rattle.bodies.specs.Shown.{shown_end, Shows}
 use Rattle.bodies.specs.declared.Shown.{Shown}
 use Rattle.bodies.specs.declared.Shown.TheVariants.{Stop}
 use Rattle.opacity.specs.Opacity.{Opacity, refused_by, from_opacity, shown_at, of_mask, opacity_at}
-use Rattle.opacity.specs.Inner.{place_in, taken_of, IsAt, Judged, Finds}
+use Rattle.opacity.specs.Inner.{place_in, taken_of, Judged, Finds}
 use Rattle.opacity.specs.declared.places.Taken.{Taken}
 use Rattle.opacity.proofs.ReadLaws.{ended_at}
 use Rattle.opacity.proofs.MaskLaws.{Block, block, flags_in_lem, four, rows_take, finds}

@@ -4,14 +4,14 @@ use mathlib.Core.Bool.{Bool, true, false}
 use mathlib.Core.Path.{◌≡◌, refl, ap, sym, ◌∙◌}
 use native.Mathlib.Nat.{mul-suc, mul-le-mul, mul-le-mul_left}
 use native.Mathlib.Omega.{arith}
-use lib.Dec.{ltb, leb, eqb}
+use lib.Dec.{ltb, leb}
 use lib.ListN.{length}
 use mathlib.Core.List.{List}
 use Rattle.format.specs.Bits.{Order, ub}
 use borrow.Author.Tests.{lt-ltb, le-ltb, le-leb, lt-leb, ltb-true, ltb-false, leb-true, leb-false, eq-eqb, ne_eqb}
-use Rattle.format.specs.Tests.{pick, ◌and◌, ◌or◌}
+use Rattle.format.specs.Tests.{pick, ◌or◌}
 use Rattle.format.proofs.Absurd.{clash}
-use Rattle.opacity.specs.Opacity.{Opacity, fraction, Keyframes, over1, refused_by, covers, covering, in_frame, at_frame, any, late, falls, keyframed_at}
+use Rattle.opacity.specs.Opacity.{fraction, Keyframes, over1, refused_by, covers, covering, in_frame, at_frame, any, late, falls, keyframed_at}
 use Rattle.opacity.specs.Inner.{ValuesAt, seen_of, Within}
 use Rattle.opacity.specs.declared.frames.Seen.{Seen}
 

@@ -1,24 +1,24 @@
 -- A mask's body that was judged: its flags, the rows before the opacity, and the opacity's row.
-use Prim.Native.Nat.{ℕ, zero, suc, ◌+◌, ◌*◌, ◌^◌, ◌≤◌, ◌<◌}
-use mathlib.Core.List.{List, [], ◌∷◌, ◌++◌, append-nil, append_assoc}
+use Prim.Native.Nat.{ℕ, zero, suc, ◌+◌, ◌*◌, ◌≤◌, ◌<◌}
+use mathlib.Core.List.{List, [], ◌∷◌, ◌++◌, append-nil}
 use mathlib.Core.Bool.{Bool, true, false}
 use mathlib.Core.Path.{◌≡◌, refl, ap, sym, subst, ◌∙◌}
 use native.Mathlib.Omega.{arith}
 use lib.ListN.{length, get_or, take, drop}
-use lib.Seq.{drop-cons, drop-append_seam, take-take, get_or-take}
+use lib.Seq.{drop-cons, drop-append_seam}
 use lib.Dec.{eqb}
 use borrow.Author.Tests.{eq-eqb, ne_eqb}
 use Rattle.format.specs.Tests.{pick}
 use Rattle.format.specs.Bits.{Order, ub}
 use Rattle.format.specs.Reading.{Ending, At, Fault, Reading, shows, stop, follow}
-use Rattle.format.specs.Formats.{Item, Format, nothing, item, ◌▹◌, ◌▸◌, the}
+use Rattle.format.specs.Formats.{Item, Format, nothing, item, ◌▸◌, the}
 use Rattle.format.specs.Items.{run, read_item, read_align, skipped, byte}
 use Rattle.format.specs.Bodies.{Attribute, mask_block, all_flags, rows, content, hand_on, read_block, read_part, attributes, to_end, used_up, read_body}
 use Rattle.format.proofs.Absurd.{clash}
 use Rattle.format.proofs.BlockLaws.{as_many}
 use Rattle.format.proofs.WalkLaws.{run_le}
 use Rattle.table.proofs.EngineLaws.{Alike, alike_assoc, alike_after}
-use Rattle.opacity.specs.Opacity.{Opacity, over1, earlier, from_opacity, keyframes_of, keyframed_at, shown_at}
+use Rattle.opacity.specs.Opacity.{over1, earlier, from_opacity, keyframed_at, shown_at}
 use Rattle.opacity.specs.Inner.{place_in, IsAt, Judged, opacity_row, Finds, Framed, mask_frames}
 use Rattle.opacity.proofs.ReadLaws.{ended_at, Parts, parts, ub_one}
 

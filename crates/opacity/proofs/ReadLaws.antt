@@ -1,18 +1,17 @@
 -- Formats that were read: the parts of a sequence, items that show one number, and fields in a row.
-use Prim.Native.Nat.{ℕ, zero, suc, ◌+◌, ◌*◌, ◌≤◌, ◌<◌}
+use Prim.Native.Nat.{ℕ, zero, suc, ◌+◌, ◌*◌, ◌<◌}
 use mathlib.Core.List.{List, [], ◌∷◌, ◌++◌}
 use mathlib.Core.Bool.{Bool, true, false}
 use mathlib.Core.Path.{◌≡◌, refl, ap, sym, ◌∙◌}
-use native.Mathlib.Nat.{mul-suc, mul-zero, add-zero}
+use native.Mathlib.Nat.{mul-suc, mul-zero}
 use native.Mathlib.Omega.{arith}
 use lib.ListN.{length, get_or}
 use lib.Dec.{eqb}
-use borrow.Author.Tests.{leb-true}
 use Rattle.format.specs.Tests.{pick}
 use Rattle.format.specs.Bits.{Order, ub}
 use Rattle.format.specs.Reading.{Ending, At, Fault, Reading, shows, stop, follow}
 use Rattle.format.specs.Formats.{Item, Format, nothing, item, only, ◌▹◌, ◌▸◌, times}
-use Rattle.format.specs.Items.{Num, num, bad, room, read_ub, read_u32, read_u64, read_item, show_num, map_num, judge, run, byte_item, skipped, read_align, u32, time}
+use Rattle.format.specs.Items.{Num, num, bad, room, read_ub, read_u32, read_u64, read_item, show_num, map_num, judge, run, byte_item, skipped, u32, time}
 use Rattle.format.specs.Bodies.{aligned}
 use Rattle.format.proofs.Absurd.{clash}
 use Rattle.table.proofs.EngineLaws.{none_then}

@@ -11,15 +11,15 @@ use lib.Dec.{ltb, leb}
 use borrow.Author.Tests.{leb-true, ne_eqb}
 use Rattle.format.specs.Tests.{pick, ◌and◌}
 use Rattle.format.specs.Bits.{Order, ub}
-use Rattle.format.specs.Reading.{Ending, At, Fault, Reading, shows}
+use Rattle.format.specs.Reading.{At, Reading, shows}
 use Rattle.format.specs.Formats.{Item, Format, nothing, item, only, ◌▹◌, ◌▸◌, times, the}
 use Rattle.format.specs.Items.{run, count, time, scaled}
 use Rattle.format.specs.Bodies.{content, how_many, aligned, spatial, has_spatial}
 use Rattle.format.proofs.Absurd.{clash}
 use Rattle.format.proofs.WalkLaws.{run_le}
 use Rattle.opacity.specs.Opacity.{Keyframes, from_opacity, keyframes_of}
-use Rattle.opacity.specs.Inner.{place_in, opacity_row, Finds, Framed, mask_frames, whole, width_at, TimesAt, ValuesAt, KindsAt, PartsAt, Stands}
-use Rattle.opacity.proofs.ReadLaws.{ended_at, at_one, Parts, parts, known_then, align_at, align_then, width_one, count_one, Fields, fields, times_many}
+use Rattle.opacity.specs.Inner.{place_in, opacity_row, Finds, Framed, mask_frames, whole, width_at, PartsAt, Stands}
+use Rattle.opacity.proofs.ReadLaws.{ended_at, Parts, parts, known_then, align_at, align_then, width_one, count_one, Fields, fields, times_many}
 
 -- ---- the content's format: what follows the values is left open
 abbrev is_kind : List ℕ → Bool

@@ -1,14 +1,14 @@
 -- A walk over the times of n keyframes, one time after the other.
-use Prim.Native.Nat.{ℕ, zero, suc, ◌+◌, ◌-◌, ◌*◌, ◌^◌, ◌≤◌, ◌<◌}
-use mathlib.Core.List.{List, [], ◌∷◌}
+use Prim.Native.Nat.{ℕ, suc, ◌+◌, ◌-◌, ◌*◌, ◌^◌, ◌≤◌, ◌<◌}
+use mathlib.Core.List.{List, ◌∷◌}
 use mathlib.Core.Bool.{false}
-use mathlib.Core.Path.{◌≡◌, refl, ap, sym, ◌∙◌}
+use mathlib.Core.Path.{◌≡◌, ap, sym, ◌∙◌}
 use native.Mathlib.Numerals.{add-one}
 use native.Mathlib.Omega.{arith}
 use lib.ListN.{length, get_or, drop}
 use lib.Seq.{drop-cons}
 use Rattle.format.specs.Bits.{Order}
-use Rattle.format.specs.Reading.{At, Reading, shows}
+use Rattle.format.specs.Reading.{Reading, shows}
 use Rattle.format.specs.Formats.{times, the}
 use Rattle.format.specs.Items.{run, time}
 use Rattle.format.proofs.WalkLaws.{run_le}

@@ -1,5 +1,4 @@
 -- The paper's words for an answer of `opacity`.
-use Rattle.std.specs.Prelude.{ℕ}
 use Rattle.opacity.specs.Opacity.{Opacity, fraction, refused}
 use Rattle.opacity.specs.declared.Exact.{Exact}
 use Rattle.opacity.specs.declared.Exact.TheVariants.{Fraction, Refused}

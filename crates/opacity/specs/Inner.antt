@@ -1,13 +1,13 @@
 -- What the functions below `opacity` suppose and answer: where the parts of a judged body stand, and what a walk over the times has seen. Not to be believed,
 -- only used.
-use Rattle.std.specs.Prelude.{ℕ, zero, suc, ◌+◌, ◌*◌, ◌^◌, ◌≤◌, ◌<◌, List, ◌∷◌, ◌++◌, Bool, true, false, ◌≡◌, length, get_or, ltb, leb}
+use Rattle.std.specs.Prelude.{ℕ, zero, suc, ◌+◌, ◌*◌, ◌^◌, ◌≤◌, ◌<◌, List, ◌∷◌, ◌++◌, false, ◌≡◌, length, get_or, ltb, leb}
 use Rattle.format.specs.Tests.{pick, ◌and◌, ◌or◌}
 use Rattle.format.specs.Bits.{Order, ub}
-use Rattle.format.specs.Reading.{Ending, At, Fault, Reading, shows}
-use Rattle.format.specs.Formats.{Format, times}
+use Rattle.format.specs.Reading.{Ending, At, Fault, shows}
+use Rattle.format.specs.Formats.{times}
 use Rattle.format.specs.Items.{run, time, skipped}
 use Rattle.format.specs.Bodies.{Attribute, Simple, Bytes, ◌of◌, content, mask_block, attributes, read_body}
-use Rattle.opacity.specs.Opacity.{Keyframes, from_opacity, keyframes_of, covers, covering, late, falls}
+use Rattle.opacity.specs.Opacity.{Keyframes, from_opacity, keyframes_of, covering, late}
 use Rattle.bits.specs.declared.Got.{Got}
 use Rattle.bits.specs.declared.Got.TheVariants as bits
 use Rattle.bits.specs.declared.Got.TheVariants.{Value}

@@ -1,5 +1,5 @@
 -- Document 02, C-22, sentence by sentence: the opacity of a mask at a frame t. b is the mask's body.
-use Rattle.std.specs.Prelude.{ℕ, zero, suc, ◌+◌, ◌-◌, ◌*◌, ◌^◌, List, Bool, true, false, length, get_or, take, drop, ltb, leb, eqb}
+use Rattle.std.specs.Prelude.{ℕ, zero, suc, ◌+◌, ◌-◌, ◌*◌, ◌^◌, List, Bool, false, length, get_or, take, drop, ltb, leb, eqb}
 use Rattle.format.specs.Tests.{pick, ◌and◌, ◌or◌}
 use Rattle.format.specs.Bits.{Order, order_named}
 use Rattle.format.specs.Reading.{Ending, At, Fault, Reading}

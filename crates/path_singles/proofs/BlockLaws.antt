@@ -1,15 +1,15 @@
 -- A block's rows one after the other, and how many numbers stand before each.
-use Prim.Native.Nat.{ℕ, zero, suc, ◌+◌, ◌-◌, ◌*◌, ◌^◌, ◌≤◌, ◌<◌}
+use Prim.Native.Nat.{ℕ, suc, ◌+◌, ◌-◌, ◌≤◌, ◌<◌}
 use mathlib.Core.Bool.{Bool, true, false}
 use mathlib.Core.List.{List, [], ◌∷◌}
 use mathlib.Core.Path.{◌≡◌, refl, ap, ap₂, sym, ◌∙◌}
 use native.Mathlib.Numerals.{add-one}
 use native.Mathlib.Omega.{arith}
-use lib.ListN.{length, take, drop}
+use lib.ListN.{length, take}
 use lib.Seq.{take-take}
 use Rattle.format.specs.Tests.{pick, ◌or◌}
 use Rattle.format.specs.Bits.{high}
-use Rattle.format.specs.Reading.{Ending, At, Fault, Reading, shows}
+use Rattle.format.specs.Reading.{Ending, Fault, Reading, shows}
 use Rattle.format.specs.Formats.{Item, Format, item, ◌▸◌}
 use Rattle.format.specs.Items.{run}
 use Rattle.format.specs.Bodies.{Attribute, content, all_flags, rows, hand_on}

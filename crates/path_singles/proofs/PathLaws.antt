@@ -1,17 +1,17 @@
 -- Paths in turn, keyframed paths, and an attribute's content, by indexes that are never past the end.
 use Prim.Native.Nat.{ℕ, zero, suc, ◌+◌, ◌-◌, ◌≤◌, ◌<◌, min}
 use mathlib.Core.Bool.{Bool, true, false}
-use mathlib.Core.List.{List, [], ◌∷◌, ◌++◌, map, append_assoc, append-nil}
+use mathlib.Core.List.{List, [], ◌∷◌, ◌++◌, map, append_assoc}
 use mathlib.Core.Path.{◌≡◌, refl, ap, ap₂, sym, ◌∙◌}
 use native.Mathlib.Numerals.{add-one}
 use native.Mathlib.Omega.{arith}
 use lib.ListN.{length, get_or, take, drop, length-append, length-take, length-drop, take-append-drop, drop_of_length-le, length-map}
 use lib.Seq.{take_all, take-suc, drop-cons, drop-drop, take-add, take_at, drop_at}
-use lib.Dec.{leb, eqb}
+use lib.Dec.{leb}
 use borrow.Author.Tests.{leb-true, leb-false, ne_eqb}
-use Rattle.format.specs.Tests.{pick, ◌or◌}
+use Rattle.format.specs.Tests.{◌or◌}
 use Rattle.format.specs.Items.{coordinates}
-use Rattle.path_singles.specs.Coordinates.{Singled, as_single, any_beyond, plain, joined, paths, frames, content, behind_flag}
+use Rattle.path_singles.specs.Coordinates.{Singled, as_single, any_beyond, plain, paths, frames, content, behind_flag}
 use Rattle.path_singles.specs.Converting.{left, from, over, verbs_of, first_of, behind_of}
 use Rattle.path_singles.proofs.StepLaws.{beside, or_assoc, or_false}
 

@@ -2,14 +2,14 @@
 -- ShapeGroup's own values have no path.
 use Prim.Native.Nat.{ℕ}
 use mathlib.Core.List.{List, []}
-use mathlib.Core.Path.{◌≡◌, refl, ap, sym, ◌∙◌}
+use mathlib.Core.Path.{◌≡◌, refl, ap}
 use lib.ListN.{length}
 use Rattle.format.specs.Bits.{Order, high}
 use Rattle.format.specs.Reading.{Ending, At, Fault}
 use Rattle.format.specs.Items.{run}
 use Rattle.format.specs.Bodies.{Attribute, all_flags, rows, hand_on, shape_path}
 use Rattle.attributes.specs.Rows.{attributes_of}
-use Rattle.path_singles.specs.Coordinates.{Singled, plain, earlier, behind_flag, block}
+use Rattle.path_singles.specs.Coordinates.{plain, earlier, behind_flag, block}
 use Rattle.path_singles.specs.Converting.{left}
 use Rattle.path_singles.specs.Tables.{values_by}
 use Rattle.path_singles.proofs.StepLaws.{or_false}

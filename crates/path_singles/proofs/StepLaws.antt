@@ -1,13 +1,13 @@
 -- Coordinates one after the other, each its bits.
 use Prim.Native.Nat.{ℕ, zero, suc, ◌+◌, ◌-◌, ◌*◌, ◌≤◌, ◌<◌}
 use mathlib.Core.Bool.{Bool, true, false}
-use mathlib.Core.List.{List, [], ◌∷◌, ◌++◌, map, append_assoc, append-nil}
+use mathlib.Core.List.{List, [], ◌∷◌, ◌++◌, map, append_assoc}
 use mathlib.Core.Path.{◌≡◌, refl, ap, ap₂, sym, ◌∙◌}
 use native.Mathlib.Numerals.{add-one}
 use native.Mathlib.Omega.{arith}
 use lib.ListN.{length, get_or, set, take, drop, length-set, take-append-drop}
 use lib.Seq.{drop-cons, take-suc-set, drop-set-lt, set-get_or}
-use Rattle.format.specs.Tests.{pick, ◌or◌}
+use Rattle.format.specs.Tests.{◌or◌}
 use Rattle.format.specs.Reasons.{Answer, accepted, refused}
 use Rattle.format.specs.Items.{coordinates_of, coordinates}
 use Rattle.singles.specs.Single.{of_number}

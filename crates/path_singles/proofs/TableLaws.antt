@@ -3,23 +3,21 @@ use Prim.Native.Nat.{ℕ, zero, suc, ◌+◌, ◌-◌, ◌*◌, ◌%◌, ◌≤�
 use mathlib.Core.Bool.{Bool, true, false}
 use mathlib.Core.List.{List, [], ◌∷◌, ◌++◌, map, append_assoc, append-nil}
 use mathlib.Core.Path.{◌≡◌, refl, ap, ap₂, sym, ◌∙◌}
-use native.Mathlib.Nat.{add-zero}
 use native.Mathlib.Omega.{arith}
-use lib.ListN.{length, get_or, take, drop, length-append, length-take, length-drop, take-append-drop, drop_of_length-le}
+use lib.ListN.{length, get_or, take, drop, length-append, length-take, length-drop, take-append-drop}
 use lib.Seq.{slice, get_or-drop, drop-drop, take-add, take_at, drop_at, take-take, take-nil, take_all, drop-append_seam, take-append_seam}
-use lib.Dec.{eqb, ltb}
 use borrow.Author.Tests.{eq-eqb, ne_eqb}
 use Rattle.format.specs.Tests.{pick}
 use Rattle.format.specs.Bits.{high}
-use Rattle.format.specs.FileAndTags.{compression, Tag, Walk, Outcome, whole, fault}
-use Rattle.format.specs.TableOfNumbers.{numbers, table, is_opaque, body_in, tag_table}
-use Rattle.format.specs.Reasons.{Result, gives, refuses, result, Answer, accepted, refused, walk_file, read_file, read_tags}
+use Rattle.format.specs.FileAndTags.{Tag, Walk, Outcome, whole, fault}
+use Rattle.format.specs.TableOfNumbers.{numbers, table, tag_table}
+use Rattle.format.specs.Reasons.{gives, result, Answer, accepted, refused, walk_file, read_file, read_tags}
 use Rattle.format.proofs.StartLaws.{good_start, whole_start}
 use Rattle.format.proofs.RoomLaws.{table_room}
 use Rattle.format.proofs.Absurd.{clash}
 use Rattle.attributes.specs.Rows.{attributes_of}
 use Rattle.path_singles.specs.declared.tags.First.{First}
-use Rattle.path_singles.specs.Coordinates.{Singled, plain, block}
+use Rattle.path_singles.specs.Coordinates.{Singled, block}
 use Rattle.path_singles.specs.Converting.{left, between, body_at, noted, carried}
 use Rattle.path_singles.specs.Tables.{values_by, singled_tag, with_singles, in_singles, judged, TablesOf}
 use Rattle.path_singles.proofs.PathLaws.{take_up_to, drop_min}

@@ -3,7 +3,7 @@ use Rattle.std.specs.Prelude.{ℕ, suc, ◌+◌, ◌-◌, min, Bool, List, ◌++
 use Rattle.format.specs.Tests.{pick}
 use Rattle.format.specs.Bits.{high}
 use Rattle.format.specs.Bodies.{Attribute}
-use Rattle.format.specs.Reasons.{Answer, accepted, refused}
+use Rattle.format.specs.Reasons.{Answer, refused}
 use Rattle.format.specs.Items.{coordinates}
 use Rattle.path_singles.specs.declared.tags.First.{First}
 use Rattle.path_singles.specs.Coordinates.{Singled, as_single, any_beyond, plain, is_path, earlier, behind_flag}

@@ -1,5 +1,5 @@
 -- Document 02, C-23: the tags of a file with singles for path coordinates, and the refusal. f is the file.
-use Rattle.std.specs.Prelude.{ℕ, Bool, List, [], ◌∷◌, map, ◌≡◌}
+use Rattle.std.specs.Prelude.{ℕ, List, [], ◌∷◌, map, ◌≡◌}
 use Rattle.format.specs.Tests.{pick}
 use Rattle.format.specs.Bits.{high}
 use Rattle.format.specs.FileAndTags.{Tag, Walk}

@@ -1,5 +1,5 @@
 -- What is answered from the starts is the plain walk's answer.
-use Prim.Native.Nat.{ℕ, zero, suc, ◌+◌, ◌-◌, ◌*◌, ◌≤◌, ◌<◌}
+use Prim.Native.Nat.{ℕ, suc, ◌+◌, ◌*◌, ◌≤◌, ◌<◌}
 use mathlib.Core.List.{List}
 use mathlib.Core.Path.{◌≡◌, refl, ap, sym, ◌∙◌}
 use mathlib.Core.Bool.{Bool, true, false}
@@ -10,7 +10,7 @@ use borrow.Author.Tests.{lt-ltb, le-ltb, ltb-true, ltb-false, eqb-true}
 use Rattle.answers.specs.Answers.{answer_of}
 use Rattle.answers.specs.declared.Answer.TheVariants.{Accepted, Refused}
 use Rattle.tag_index.specs.Index.{tag_count, code_of, place_of, with_code, how_many, where_is, is_index, count_answer, place_answer}
-use Rattle.tag_index.specs.Steps.{lower, having, slot}
+use Rattle.tag_index.specs.Steps.{lower, slot}
 use Rattle.tag_index.proofs.WalkLaws.{just, chosen_at, chosen_found, Found, lower_more, lower_mono, lower_le}
 use Rattle.tag_index.proofs.SlotLaws.{slot_is, slot_lt}
 use Rattle.questions.specs.Judged.{start_of}

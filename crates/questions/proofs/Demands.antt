@@ -1,5 +1,5 @@
 -- What is demanded of the index (C-14), from the promises of `index`, `count` and `place` alone.
-use Prim.Native.Nat.{ℕ, ◌+◌, ◌-◌, ◌*◌, ◌/◌, ◌≤◌, ◌<◌}
+use Prim.Native.Nat.{ℕ, ◌-◌, ◌*◌, ◌/◌, ◌≤◌, ◌<◌}
 use mathlib.Core.List.{List, ◌++◌}
 use mathlib.Core.Path.{◌≡◌, refl, ap, sym, ◌∙◌}
 use mathlib.Core.Bool.{Bool, true, false}
@@ -14,9 +14,9 @@ use Rattle.format.specs.Reasons.{Result, gives, refuses, accepted, refused, read
 use Rattle.format.proofs.Absurd.{clash}
 use Rattle.answers.specs.Answers.{answer_of}
 use Rattle.answers.specs.declared.Answer.{Answer}
-use Rattle.answers.specs.declared.Answer.TheVariants.{Accepted, Refused}
+use Rattle.answers.specs.declared.Answer.TheVariants.{Accepted}
 use Rattle.answers.proofs.AnswerLaws.{answer_one}
-use Rattle.tag_index.specs.Index.{tag_count, how_many, where_is, index, Built, builds, fills, fills_neither, building, is_index, count_answer, place_answer}
+use Rattle.tag_index.specs.Index.{how_many, where_is, index, Built, builds, fills, fills_neither, building, is_index, count_answer, place_answer}
 use Rattle.tag_index.proofs.IndexLaws.{length_index}
 use Rattle.tag_index.proofs.FileLaws.{Sound, sound}
 use Rattle.questions.proofs.JudgeLaws.{true_is}

@@ -1,21 +1,20 @@
 -- Lent numbers that pass the judgement are the index, and the index passes it.
-use Prim.Native.Nat.{ℕ, zero, suc, ◌+◌, ◌-◌, ◌*◌, ◌≤◌, ◌<◌}
+use Prim.Native.Nat.{ℕ, zero, suc, ◌+◌, ◌*◌, ◌≤◌, ◌<◌}
 use mathlib.Core.List.{List, [], ◌∷◌}
 use mathlib.Core.Path.{◌≡◌, refl, ap, sym, ◌∙◌}
 use mathlib.Core.Bool.{Bool, true, false}
-use mathlib.Core.Logic.{◌⊎◌, inl, inr}
 use native.Mathlib.Omega.{arith}
 use lib.ListN.{length, get_or}
 use lib.Dec.{eqb, ltb}
-use borrow.Author.Tests.{lt-ltb, le-ltb, ltb-true, ltb-false, eq-eqb, ne_eqb, eqb-true}
+use borrow.Author.Tests.{lt-ltb, ltb-true, ltb-false, eq-eqb, eqb-true}
 use Rattle.format.specs.Tests.{pick, ◌and◌}
 use Rattle.format.proofs.Absurd.{clash}
 use Rattle.tag_index.specs.Index.{tag_count, code_of, place_of, index, same, is_index}
-use Rattle.tag_index.specs.Steps.{lower, having, slot, Laid}
+use Rattle.tag_index.specs.Steps.{lower, slot, Laid}
 use Rattle.tag_index.proofs.WalkLaws.{just, chosen_none, lower_le}
 use Rattle.tag_index.proofs.SlotLaws.{slot_lt, slot_over, slot_under, slot_rises, slot_before, slot_one, slot_found, At, counted_up}
 use Rattle.tag_index.proofs.IndexLaws.{length_index, index_laid, laid_index}
-use Rattle.questions.specs.Judged.{tag_at, Before, Paired, Rising, start_of, Parts, Started, Says}
+use Rattle.questions.specs.Judged.{tag_at, Rising, start_of, Parts, Started, Says}
 
 -- ---- two lists that are the same
 same_true : (x y : List ℕ) → same x y ≡ true → x ≡ y

@@ -1,5 +1,5 @@
 -- How a question judges what is lent to it. Nothing here is to be believed: the promises of `count` and `place` do not speak of it. g is the tag table, x the index.
-use Rattle.std.specs.Prelude.{ℕ, ◌+◌, ◌*◌, ◌≤◌, ◌<◌, List, ◌≡◌, ◌⊎◌, length, get_or, ltb, Bool, true, false}
+use Rattle.std.specs.Prelude.{ℕ, ◌+◌, ◌*◌, ◌≤◌, ◌<◌, List, ◌≡◌, ◌⊎◌, get_or, ltb, Bool, true, false}
 use Rattle.format.specs.Tests.{pick}
 use Rattle.tag_index.specs.Index.{tag_count, code_of, place_of}
 

@@ -2,7 +2,6 @@
 use Prim.Native.Nat.{ℕ, ◌≤◌}
 use mathlib.Core.List.{List, ◌∷◌}
 use mathlib.Core.Path.{◌≡◌, refl, ap, sym, ◌∙◌}
-use native.Mathlib.Omega.{arith}
 use lib.ListN.{take}
 use Rattle.format.specs.FileAndTags.{compression, Tag, Outcome, whole, fault, Walk}
 use Rattle.format.specs.TableOfNumbers.{numbers, tag_table}

@@ -8,7 +8,6 @@ use Rattle.format.specs.Reasons.{Result, gives, refuses}
 use Rattle.format.proofs.RoomLaws.{table_room, tags_room}
 use Rattle.format.proofs.ReasonLaws.{read_reason, tags_reason, not_19}
 use Rattle.format.proofs.CallLaws.{Why, faulty, full, kept}
-use Rattle.answers.specs.declared.Answer.{Answer}
 use Rattle.answers.specs.declared.Answer.TheVariants.{Refused}
 use Rattle.reader.proofs.Demands.{Call, read, tags, reading, Promise}
 

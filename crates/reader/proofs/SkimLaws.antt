@@ -1,7 +1,7 @@
 -- A walk of the lists alone, with every other body opaque, gives the tag table of the walk that reads all, where that accepts: `skim_rows`.
 use Prim.Native.Nat.{ℕ, zero, suc, pred, ◌+◌, ◌-◌}
 use mathlib.Core.List.{List, [], ◌∷◌, ◌++◌}
-use mathlib.Core.Path.{◌≡◌, refl, ap, subst, sym}
+use mathlib.Core.Path.{◌≡◌, refl, subst, sym}
 use mathlib.Core.Bool.{Bool, true, false}
 use lib.ListN.{length, take, drop}
 use Rattle.format.specs.Tests.{pick}

@@ -1,9 +1,8 @@
 -- Singles of steps, derived by hand from C-23's sentence, as one table that the definitions compute.
-use Prim.Native.Nat.{ℕ}
 use mathlib.Core.List.{List, [], ◌∷◌, map}
 use mathlib.Core.Path.{◌≡◌, refl}
 use lib.IntN.{ℤ, pos, negsuc}
-use Rattle.format.specs.Reasons.{Answer, accepted, refused}
+use Rattle.format.specs.Reasons.{accepted, refused}
 use Rattle.singles.specs.Single.{behind, nearest, magnitude, single}
 
 -- 0 is +0. One step is the single nearest to 0.05 itself, and -1 has the sign besides. 20 × 13,421,773 = 268,435,460 is 2^28 + 4: 29 digits, so units of

@@ -1,7 +1,7 @@
 -- What the bits of a step mean: 24 digits, no more than half a unit off, the even one at half a unit; and there is no second such number.
-use Prim.Native.Nat.{ℕ, zero, suc, ◌+◌, ◌-◌, ◌*◌, ◌/◌, ◌%◌, ◌^◌, ◌≤◌, ◌<◌}
+use Prim.Native.Nat.{ℕ, zero, suc, ◌+◌, ◌*◌, ◌/◌, ◌%◌, ◌^◌, ◌≤◌, ◌<◌}
 use mathlib.Core.Bool.{Bool, true, false}
-use mathlib.Core.Path.{◌≡◌, refl, ap, sym, ◌∙◌}
+use mathlib.Core.Path.{◌≡◌, refl, ◌∙◌}
 use native.Mathlib.Nat.{div-add-mod', add-mul, mod-lt, mul-le-mul_right}
 use native.Mathlib.Omega.{arith}
 use lib.Pow.{pow_pos, pow-add}

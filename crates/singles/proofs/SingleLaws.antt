@@ -2,7 +2,7 @@
 use Prim.Native.Nat.{ℕ, zero, suc, ◌+◌, ◌-◌, ◌*◌, ◌/◌, ◌%◌, ◌^◌, ◌≤◌, ◌<◌}
 use mathlib.Core.Bool.{Bool, true, false}
 use mathlib.Core.Path.{◌≡◌, refl, ap, sym, ◌∙◌}
-use native.Mathlib.Nat.{div-add-mod', div-lt_iff_lt-mul, div-le_self, mod-lt}
+use native.Mathlib.Nat.{div-lt_iff_lt-mul}
 use native.Mathlib.Omega.{arith}
 use lib.Pow.{pow_pos, pow_mono, pow-add}
 use lib.Dec.{leb, ltb}
@@ -16,7 +16,7 @@ use borrow.Author.Tests.{le-leb, lt-leb, lt-ltb, le-ltb, leb-true, leb-false, lt
 use Rattle.format.specs.Tests.{pick}
 use Rattle.format.proofs.Absurd.{clash}
 use Rattle.format.specs.Reasons.{Answer, accepted, refused}
-use Rattle.singles.specs.Single.{product, behind, nearest, magnitude, of_step, single, of_number}
+use Rattle.singles.specs.Single.{behind, nearest, magnitude, of_step, single, of_number}
 
 -- a product has 48 digits at most, so that 24 at most stand behind its first 24
 pub few : (e : ℕ) {x u : ℕ} → u ≡ 2 ^ e → 8388608 * u ≤ x → x < 281474976710656 → e ≤ 24

@@ -1,5 +1,5 @@
 -- Document 02, C-23: the single-precision value of a path step as its bits, by whole numbers.
-use Rattle.std.specs.Prelude.{ℕ, zero, suc, ◌+◌, ◌-◌, ◌*◌, ◌/◌, ◌%◌, ◌^◌, Bool, true, false, ltb, leb, eqb, ℤ, pos, negsuc}
+use Rattle.std.specs.Prelude.{ℕ, zero, suc, ◌+◌, ◌-◌, ◌*◌, ◌/◌, ◌%◌, ◌^◌, Bool, true, false, ltb, leb, ℤ, pos, negsuc}
 use Rattle.format.specs.Tests.{pick}
 use Rattle.format.specs.Reasons.{Answer, accepted, refused}
 

@@ -11,7 +11,7 @@ use Rattle.items.specs.Kinds.{format_of, range_fault}
 use Rattle.items.specs.declared.Item.{Item}
 use Rattle.sink.specs.Laying.{State, mk, Skipped}
 use Rattle.sink.proofs.LayingLaws.{mk_eq, skip_none, field_none}
-use Rattle.spelling.specs.Writing.{bits_over, Seen, here, ran}
+use Rattle.spelling.specs.Writing.{bits_over, here, ran}
 use Rattle.spelling.specs.Spellings.{spelling_of, spelled_to, written_to}
 use Rattle.spelling.proofs.RunLaws.{ends_in, ends_out, resume, ran_then, bits_end, one_none, one_bad, one_bits, laid_before, times_more, times_few, times_over, ran_nothing}
 use Rattle.spelling.proofs.NumberLaws.{bits_of, item_is, item_out, item_in}

@@ -20,7 +20,7 @@ use Rattle.sink.specs.declared.Sink.{Sink}
 use Rattle.sink.proofs.LayingLaws.{mk_eq, lay_append, lay_none, lay_some_past, flow_on, flow_few}
 use Rattle.spelling.specs.declared.Put.{Put}
 use Rattle.spelling.specs.declared.Put.TheVariants.{Done, Impossible}
-use Rattle.spelling.specs.Writing.{seen, ends, ran, limit, Fine, finish}
+use Rattle.spelling.specs.Writing.{seen, ends, ran, limit, finish}
 use Rattle.spelling.specs.Spellings.{Announces}
 use Rattle.spelling.specs.Fields.{unsigned_in, signed_in, is_field, bare, all_fields, Judges, dig_all}
 use Rattle.spelling.proofs.RunLaws.{then_done, then_stop, finish_ends, times_end_lem, times_one, times_bad, times_few, one_done, OneDone, the_one}

@@ -13,7 +13,7 @@ use lib.Pow.{pow_mono}
 use Rattle.format.specs.Tests.{pick}
 use Rattle.format.specs.Bits.{Order, ub}
 use Rattle.format.specs.Reading.{At, Fault, Reading, shows, stop, follow}
-use Rattle.format.specs.Formats.{Item, item, only, times, the}
+use Rattle.format.specs.Formats.{Item, item, times, the}
 use Rattle.format.specs.Items.{Num, num, bad, map_num, show_num, read_ub, read_width, read_item, sign_extend, judge, run, coordinates_of, coordinates}
 use Rattle.format.specs.Bodies.{how_many}
 use Rattle.format.proofs.Absurd.{clash}
@@ -24,7 +24,7 @@ use Rattle.bits.specs.Places.{num_of, with_sign}
 use Rattle.bits.specs.declared.BitPlace.{BitPlace}
 use Rattle.bits.specs.declared.Got.{Got}
 use Rattle.bits.specs.declared.Got.TheVariants.{Value, Fault as GotFault}
-use Rattle.table.specs.State.{State, shown_over}
+use Rattle.table.specs.State.{shown_over}
 use Rattle.table.specs.Run.{run_leaves}
 use Rattle.table.specs.Fields.{Fits, allows, judge_num, field_of, signed, shows_all, announces, announced, weights}
 use Rattle.table.specs.declared.Run.{Run}

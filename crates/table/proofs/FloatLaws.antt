@@ -9,11 +9,11 @@ use native.Mathlib.Omega.{arith}
 use Rattle.format.specs.Bits.{Order, high, ub}
 use Rattle.format.specs.Reading.{At, shows}
 use Rattle.format.specs.Formats.{Item, Format, nothing, item, ◌▹◌, times}
-use Rattle.format.specs.Items.{Num, num, bad, read_le, read_item, run, float, skipped}
+use Rattle.format.specs.Items.{Num, num, bad, read_le, read_item, run, float}
 use Rattle.bits.specs.Places.{aligned_at, InEither}
 use Rattle.bits.specs.declared.Aligned.TheVariants.{Clean}
 use Rattle.bits.proofs.FieldLaws.{aligned_clean}
-use Rattle.table.specs.State.{State, shown_over}
+use Rattle.table.specs.State.{shown_over}
 use Rattle.table.proofs.StoringLaws.{Storing, storing_start, storing_next, storing_done}
 use Rattle.table.proofs.EngineLaws.{state, state_eq, none_then}
 use Rattle.table.proofs.RunLaws.{align_none}

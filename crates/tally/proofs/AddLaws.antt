@@ -2,12 +2,11 @@
 use Prim.Native.Nat.{ℕ, ◌+◌, ◌-◌, ◌≤◌, ◌<◌}
 use mathlib.Core.List.{List, [], ◌∷◌}
 use mathlib.Core.Path.{◌≡◌, refl, ap, sym, subst, ◌∙◌}
-use mathlib.Core.Bool.{Bool, true, false}
+use mathlib.Core.Bool.{true, false}
 use native.Mathlib.Omega.{arith}
 use lib.ListN.{length, get_or, drop, set}
-use Rattle.format.specs.Tests.{pick}
 use Rattle.format.specs.Bits.{order_named}
-use Rattle.format.specs.FileAndTags.{class_of, Tag, Outcome, whole, fault, Walk, head, no_head, raw_head}
+use Rattle.format.specs.FileAndTags.{class_of, Tag, Outcome, whole, head, no_head, raw_head}
 use Rattle.format.specs.Reasons as paper
 use Rattle.format.specs.Reasons.{IsFile, walk_file, read_tags, into}
 use Rattle.format.proofs.Absurd.{clash}
@@ -22,10 +21,10 @@ use Rattle.headers.specs.declared.Head as heads
 use Rattle.headers.specs.declared.Head.TheVariants as stood
 use Rattle.reader.proofs.Demands as demands
 use Rattle.tally.specs.OwnBytes.{own_bytes}
-use Rattle.tally.specs.Adding.{adds, with_file, is_full, Left, by_outcome, adding}
+use Rattle.tally.specs.Adding.{adds, with_file, is_full, by_outcome, adding}
 use Rattle.tally.specs.Places.{next_by, NoneAbove}
 use Rattle.tally.specs.declared.Tally.{Tally}
-use Rattle.tally.proofs.WalkLaws.{Here, Flat, First, flat_first, flat_over, flat_le}
+use Rattle.tally.proofs.WalkLaws.{Flat, First, flat_first, flat_over, flat_le}
 use Rattle.tally.proofs.PlaceLaws.{file_flat, leads_by, code_below}
 use Rattle.tally.proofs.CountLaws.{none_above_set, none_above_more}
 

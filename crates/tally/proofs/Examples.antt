@@ -8,7 +8,7 @@ use Rattle.format.specs.Bits.{bit_at, ub}
 use Rattle.format.specs.Items.{read_var, read_item, run}
 use Rattle.format.specs.Bodies.{read_part}
 use Rattle.format.specs.FileAndTags.{eights, class_of, walk}
-use Rattle.format.specs.Reasons.{Answer, accepted, refused, start_fault, walk_file}
+use Rattle.format.specs.Reasons.{accepted, refused, start_fault, walk_file}
 use Rattle.tally.specs.OwnBytes.{own_bytes}
 use Rattle.tally.specs.Adding.{at_zero, adds, is_full, Left, adding}
 use Rattle.tally.specs.declared.Tally.{Tally}

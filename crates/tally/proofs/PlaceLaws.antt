@@ -1,11 +1,10 @@
 -- The tags of an accepted file stand flat behind its header; and what the code finds there.
-use Prim.Native.Nat.{ℕ, zero, suc, ◌+◌, ◌-◌, ◌*◌, ◌/◌, ◌≤◌, ◌<◌}
-use mathlib.Core.List.{List, [], ◌∷◌, append-nil}
+use Prim.Native.Nat.{ℕ, ◌+◌, ◌-◌, ◌*◌, ◌/◌, ◌≤◌, ◌<◌}
+use mathlib.Core.List.{List, [], append-nil}
 use mathlib.Core.Path.{◌≡◌, refl, ap, sym, subst, ◌∙◌}
 use mathlib.Core.Bool.{Bool, true, false}
 use native.Mathlib.Omega.{arith}
 use lib.ListN.{length, take, drop, length-drop}
-use lib.Dec.{eqb}
 use Rattle.format.specs.Tests.{pick}
 use Rattle.format.specs.Bits.{AllBytes, Order, order_named}
 use Rattle.format.specs.Reading.{Ending, At, Fault}
@@ -13,11 +12,10 @@ use Rattle.format.specs.Bodies.{Body}
 use Rattle.format.specs.FileAndTags as paper
 use Rattle.format.specs.FileAndTags.{class_of, Tag, Outcome, whole, fault, Walk, head, raw_head, walk_list}
 use Rattle.format.specs.FileAndTags.{file as own_file}
-use Rattle.format.specs.Levels.{end_of}
 use Rattle.format.specs.Reasons.{start_fault, walk_file}
 use Rattle.format.proofs.Absurd.{clash}
 use Rattle.format.proofs.ByteLaws.{bytes_drop}
-use Rattle.format.proofs.HeadLaws.{HeadIf, Spelling, head_there}
+use Rattle.format.proofs.HeadLaws.{HeadIf, head_there}
 use Rattle.format.proofs.StartLaws.{GoodStart, good_start, whole_start}
 use Rattle.bodies.specs.Leaf.{container_body, has_list_in, own_part}
 use Rattle.classes.specs.Classes.{class_at}
@@ -32,7 +30,7 @@ use Rattle.bodies.specs.Shown.{shown_end, is_open, opens, Shows}
 use Rattle.bodies.specs.declared.Shown.{Shown}
 use Rattle.bodies.specs.declared.Shown.TheVariants.{Done, Open, Stop}
 use Rattle.tags.proofs.TagLaws.{values_le}
-use Rattle.tally.proofs.WalkLaws.{Room, Leads, Here, Flat, over, here, Flattens, flattened}
+use Rattle.tally.proofs.WalkLaws.{Leads, Flat, over, Flattens, flattened}
 
 -- ---- of an accepted file
 module _ (order level : ℕ) (f : List ℕ) (ended : (walk_file order level f).ended ≡ whole) where

@@ -5,12 +5,10 @@ use mathlib.Core.Path.{◌≡◌, refl, ap, sym, subst, ◌∙◌}
 use mathlib.Core.Bool.{Bool, true, false}
 use native.Mathlib.Omega.{arith}
 use lib.ListN.{length, get_or, set, length-set, length-replicate}
-use borrow.Author.Tests.{lt-leb}
 use Rattle.format.specs.Tests.{pick}
 use Rattle.format.specs.Bits.{AllBytes, Order}
-use Rattle.format.specs.FileAndTags.{Class, class_of, Tag, Outcome, whole, fault}
-use Rattle.format.specs.Reasons as paper
-use Rattle.format.specs.Reasons.{IsFile, walk_file, accepted, refused}
+use Rattle.format.specs.FileAndTags.{Class, Tag, Outcome, whole, fault}
+use Rattle.format.specs.Reasons.{walk_file, accepted, refused}
 use Rattle.format.proofs.Absurd.{clash}
 use Rattle.answers.specs.declared.Answer.{Answer}
 use Rattle.answers.specs.declared.Answer.TheVariants.{Accepted, Refused}
@@ -22,7 +20,7 @@ use Rattle.tally.specs.Files.{File, adding_file, after, sum, together, if_accept
 use Rattle.tally.specs.Places.{NoneAbove}
 use Rattle.tally.specs.declared.Tally.{Tally}
 use Rattle.tally.specs.declared.Added.{Added}
-use Rattle.tally.proofs.WalkLaws.{Here, Flat, over, here, flat_le}
+use Rattle.tally.proofs.WalkLaws.{Flat, over, here, flat_le}
 use Rattle.tally.proofs.PlaceLaws.{file_start, file_flat, code_below}
 use Rattle.tally.proofs.CountLaws.{sum_set, count_in_sum, sum_zeros, length_adds, none_above, not_full, full_counts}
 

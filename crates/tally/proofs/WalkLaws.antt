@@ -1,18 +1,18 @@
 -- The tags of a whole walk, flat: each starts where the own bytes of the one before it end.
 use Prim.Native.Nat.{ℕ, zero, suc, pred, ◌+◌, ◌-◌, ◌*◌, ◌/◌, ◌%◌, ◌≤◌, ◌<◌}
-use mathlib.Core.List.{List, [], ◌∷◌, ◌++◌, append_assoc, append-nil}
+use mathlib.Core.List.{List, [], ◌∷◌, ◌++◌, append_assoc}
 use mathlib.Core.Path.{◌≡◌, refl, ap, sym, subst, ◌∙◌}
 use mathlib.Core.Bool.{Bool, true, false}
 use lib.ListN.{length, take, drop, length-append, length-drop, take-append-drop}
 use lib.Seq.{length-take-le, drop-drop, drop-append-le, take-append-le, take-length}
-use lib.Dec.{ltb, leb, eqb}
+use lib.Dec.{ltb, eqb}
 use borrow.Author.Tests.{ltb-true, ltb-false, le-ltb}
 use native.Mathlib.Omega.{arith}
 use Rattle.format.specs.Tests.{pick}
 use Rattle.format.specs.Bits.{Order}
 use Rattle.format.specs.Reading.{Ending, At, Fault}
 use Rattle.format.specs.Bodies.{to_end, read_body}
-use Rattle.format.specs.FileAndTags.{Class, opaque, end, container, known, is_end, is_container, Tag, Outcome, whole, fault, Walk, no_tags, broken, chain, Head, head, no_head, le16, le32, raw_head, state_of, passes, read_head, Owner, file, inside, blame, at_end, TagInside, end_at, leaf, opened, within, after_tag, tag_then, one_tag, walk}
+use Rattle.format.specs.FileAndTags.{Class, opaque, end, container, known, is_end, is_container, Tag, Outcome, whole, fault, Walk, chain, Head, head, no_head, raw_head, state_of, passes, read_head, Owner, inside, TagInside, end_at, leaf, opened, within, after_tag, tag_then, one_tag, walk}
 use Rattle.format.specs.Levels.{end_of}
 use Rattle.format.proofs.BodyLaws.{end_le}
 use Rattle.format.proofs.WalkLaws.{Fits, head_fits}

@@ -1,6 +1,6 @@
 -- The place of the next tag in file order, as the code finds it in a file that was judged: a container's list starts behind its own part, and any other
 -- tag's body has no tag in it.
-use Rattle.std.specs.Prelude.{ℕ, ◌+◌, ◌≤◌, Bool, List, ◌≡◌, length, get_or, take, drop}
+use Rattle.std.specs.Prelude.{ℕ, ◌+◌, ◌≤◌, Bool, List, length, get_or, take, drop}
 use Rattle.format.specs.Tests.{pick}
 use Rattle.format.specs.Bits.{Order}
 use Rattle.format.specs.Reading.{Ending, At, Fault}

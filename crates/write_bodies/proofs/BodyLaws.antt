@@ -6,7 +6,7 @@ use mathlib.Core.Bool.{Bool, true, false}
 use native.Mathlib.Omega.{arith}
 use lib.Dec.{leb, eqb}
 use borrow.Author.Tests.{ne_eqb, eqb-true, eqb-false, leb-true, leb-false}
-use Rattle.format.specs.Tests.{pick, ◌and◌, ◌or◌}
+use Rattle.format.specs.Tests.{pick, ◌and◌}
 use Rattle.format.specs.Bits.{Order}
 use Rattle.format.specs.Bodies as bodies
 use Rattle.format.specs.Bodies.{fixed, attributes}

@@ -2,13 +2,13 @@
 use Prim.Native.Nat.{ℕ, zero, suc, ◌+◌, ◌-◌, ◌*◌, ◌/◌, ◌%◌, ◌^◌, ◌≤◌, ◌<◌, min}
 use mathlib.Core.Bool.{Bool, true, false, not}
 use mathlib.Core.List.{List, [], ◌∷◌, ◌++◌, append-nil, append_assoc}
-use mathlib.Core.Path.{◌≡◌, refl, ap, ap₂, sym, ◌∙◌, subst}
-use native.Mathlib.Nat.{add-zero, div-one}
+use mathlib.Core.Path.{◌≡◌, refl, ap, ap₂, sym, ◌∙◌}
+use native.Mathlib.Nat.{div-one}
 use native.Mathlib.Omega.{arith}
 use lib.Dec.{ltb, eqb}
-use borrow.Author.Tests.{le-leb, lt-leb, lt-ltb, le-ltb, eq-eqb, ne_eqb, ltb-true, ltb-false, eqb-true, eqb-false}
-use lib.ListN.{length, get_or, set, take, drop, length-take, length-drop, take-append-drop, drop_of_length-le}
-use lib.Seq.{sets, length-sets, drop-cons, get_or-drop, take-suc, take_all, length-take-le, take-append_seam}
+use borrow.Author.Tests.{le-leb, lt-leb, lt-ltb, eq-eqb, ne_eqb, ltb-true, ltb-false, eqb-false}
+use lib.ListN.{length, get_or, set, take, drop, length-take, take-append-drop}
+use lib.Seq.{sets, length-sets, get_or-drop, take-suc, take_all, length-take-le}
 use mir.Syntax.{w64}
 use mir.Val.{Fits}
 use Rattle.format.specs.Tests.{pick}
@@ -17,7 +17,7 @@ use Rattle.format.specs.TableOfNumbers.{eight_of, spread, unpacked}
 use Rattle.format.specs.WritingFiles.{unpacked_as}
 use Rattle.format.proofs.PackLaws.{PackedIf, unpacked_back, length_spread, unpacked_count, unpacked_filling, unpacked_this}
 use Rattle.format.proofs.Absurd.{clash}
-use Rattle.sink.specs.Lain.{longest, Lain, lain, lies}
+use Rattle.sink.specs.Lain.{longest, lain, lies}
 use Rattle.table.proofs.EngineLaws.{sets_append}
 use Rattle.bits.proofs.StoreLaws.{sets_out}
 use Rattle.write_opaque.specs.Filling.{filled}

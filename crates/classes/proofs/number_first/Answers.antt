@@ -1,5 +1,4 @@
 -- `classes::number_first` meets its contract: what is stored so far, and what is still to be stored, are all of it.
-use Prim.Native.Nat.{◌-◌}
 use mathlib.Core.Path.{◌∙◌, refl, sym, ap}
 use native.Mathlib.Omega.{arith}
 use lib.ListN.{length-set}

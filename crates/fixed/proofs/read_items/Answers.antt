@@ -1,6 +1,5 @@
 use mathlib.Core.Path.{refl}
 use native.Mathlib.Omega.{arith}
-use Prim.Native.Nat.{◌-◌}
 use Rattle.bits.specs.Places.{order_of}
 use Rattle.table.proofs.RunLaws.{fair_kind, going_size, going_next, going_stop, going_done}
 use Rattle.fixed.proofs.FixedLaws.{items_more, items_none}

@@ -1,7 +1,6 @@
-use Prim.Native.Nat.{◌-◌}
 use mathlib.Core.Path.{refl, ◌∙◌}
 use native.Mathlib.Omega.{arith}
-use borrow.Author.Tests.{ltb-true, ltb-false}
+use borrow.Author.Tests.{ltb-true}
 use Rattle.listing.proofs.TextLaws.{byte_next}
 use Rattle.listing.proofs.PackedLaws.{bytes_start, bytes_next, bytes_all, bytes_last}
 use Rattle.listing.proofs.put_bytes.Goals as goal

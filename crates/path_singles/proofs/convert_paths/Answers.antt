@@ -1,6 +1,4 @@
-use lib.ListN.{length}
 use Rattle.path_singles.proofs.PathLaws.{turns_from, turns, turned, from_end, from_zero}
-use borrow.Author.Tests.{ltb-true, ltb-false}
 use native.Mathlib.Omega.{arith}
 use Rattle.path_singles.proofs.convert_paths.Goals as goal
 

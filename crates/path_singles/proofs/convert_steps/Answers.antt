@@ -1,7 +1,6 @@
 use mathlib.Core.Bool.{Bool}
 use mathlib.Core.Path.{ap, ◌∙◌}
 use Rattle.format.specs.Tests.{◌or◌}
-use Prim.Native.Nat.{◌-◌}
 use native.Mathlib.Omega.{arith}
 use Rattle.path_singles.proofs.StepLaws.{starts, goes, gone}
 use Rattle.path_singles.proofs.convert_steps.Goals as goal

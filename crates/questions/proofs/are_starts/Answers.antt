@@ -1,9 +1,6 @@
-use mathlib.Core.Bool.{not}
-use Prim.Native.Nat.{◌-◌}
-use mathlib.Core.Path.{ap, ◌≡◌}
+use mathlib.Core.Path.{◌≡◌}
 use native.Mathlib.Omega.{arith}
 use borrow.Author.Rules.{rules}
-use borrow.Author.Tests.{not-true, not-false}
 use Rattle.questions.proofs.TestLaws.{yes, no, started_none, started_more, not_started}
 use Rattle.questions.proofs.are_starts.Goals as goal
 

@@ -1,7 +1,4 @@
-use mathlib.Core.Bool.{not}
-use Prim.Native.Nat.{◌-◌}
-use mathlib.Core.Path.{ap, sym, ◌∙◌}
-use borrow.Author.Tests.{not-true, not-false}
+use mathlib.Core.Path.{sym, ◌∙◌}
 use Rattle.questions.proofs.AskLaws.{not_index, counted}
 use Rattle.questions.proofs.count.Goals as goal
 

@@ -1,4 +1,3 @@
-use Prim.Native.Nat.{◌-◌}
 use native.Mathlib.Omega.{arith}
 use Rattle.questions.proofs.TestLaws.{above_some, above_none}
 use Rattle.questions.proofs.is_above.Goals as goal

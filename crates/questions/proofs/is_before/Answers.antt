@@ -1,4 +1,3 @@
-use Prim.Native.Nat.{◌-◌}
 use Rattle.questions.proofs.TestLaws.{before_same, before_other}
 use Rattle.questions.proofs.is_before.Goals as goal
 

@@ -1,7 +1,4 @@
-use mathlib.Core.Bool.{not}
-use Prim.Native.Nat.{◌-◌}
-use mathlib.Core.Path.{ap, sym}
-use borrow.Author.Tests.{not-true, not-false}
+use mathlib.Core.Path.{sym}
 use Rattle.questions.proofs.TestLaws.{yes, no}
 use Rattle.questions.proofs.JudgeLaws.{no_fives, no_length, no_rising, judged_by_lem}
 use Rattle.questions.proofs.is_index.Goals as goal

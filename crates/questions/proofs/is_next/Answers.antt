@@ -1,8 +1,5 @@
-use mathlib.Core.Path.{ap}
-use mathlib.Core.Bool.{not}
 use Prim.Native.Nat.{◌-◌}
 use native.Mathlib.Omega.{arith}
-use borrow.Author.Tests.{not-true, not-false}
 use Rattle.questions.proofs.TestLaws.{yes, no, next_unpaired, next_first, next_before, pos_of}
 use Rattle.questions.proofs.is_next.Goals as goal
 

@@ -1,4 +1,3 @@
-use Prim.Native.Nat.{◌-◌}
 use Rattle.questions.proofs.TestLaws.{pair_known, pair_unknown}
 use Rattle.questions.proofs.is_pair.Goals as goal
 

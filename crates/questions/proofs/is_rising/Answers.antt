@@ -1,9 +1,6 @@
-use mathlib.Core.Bool.{not}
-use Prim.Native.Nat.{◌-◌}
-use mathlib.Core.Path.{ap, ◌≡◌}
+use mathlib.Core.Path.{◌≡◌}
 use native.Mathlib.Omega.{arith}
 use borrow.Author.Rules.{rules}
-use borrow.Author.Tests.{not-true, not-false}
 use Rattle.tag_index.specs.Index.{tag_count}
 use Rattle.questions.proofs.TestLaws.{yes, no, rising_none, not_rising}
 use Rattle.questions.proofs.is_rising.Goals as goal

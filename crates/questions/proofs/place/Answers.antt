@@ -1,9 +1,5 @@
-use mathlib.Core.Bool.{not}
-use Prim.Native.Nat.{◌-◌}
-use mathlib.Core.Path.{ap, sym, ◌∙◌}
+use mathlib.Core.Path.{sym, ◌∙◌}
 use native.Mathlib.Omega.{arith}
-use borrow.Author.Tests.{not-true, not-false}
-use Rattle.tag_index.specs.Index.{how_many}
 use Rattle.questions.proofs.AskLaws.{not_index_place, none_there, placed}
 use Rattle.questions.proofs.place.Goals as goal
 

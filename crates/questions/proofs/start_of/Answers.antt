@@ -1,4 +1,3 @@
-use Prim.Native.Nat.{◌-◌}
 use native.Mathlib.Omega.{arith}
 use Rattle.questions.proofs.TestLaws.{start_low, start_high}
 use Rattle.questions.proofs.start_of.Goals as goal

@@ -1,4 +1,3 @@
-use Prim.Native.Nat.{◌-◌}
 use mathlib.Core.Path.{refl}
 use native.Mathlib.Omega.{arith}
 use Rattle.singles.proofs.SingleLaws.{one_unit, twice_unit, nothing_at, small, unit_pos, rounded_is}

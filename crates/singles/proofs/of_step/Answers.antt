@@ -1,5 +1,5 @@
 use native.Mathlib.Omega.{arith}
-use mathlib.Core.Bool.{true, false}
+use mathlib.Core.Bool.{true}
 use Rattle.singles.proofs.SingleLaws.{beyond_is, within_is, plain_is}
 use Rattle.singles.proofs.of_step.Goals as goal
 

@@ -1,7 +1,6 @@
-use Prim.Native.Nat.{◌+◌, ◌-◌}
+use Prim.Native.Nat.{◌+◌}
 use mathlib.Core.Path.{◌≡◌, refl, ◌∙◌}
 use native.Mathlib.Omega.{arith}
-use lib.ListN.{length}
 use Rattle.classes.proofs.ClassLaws.{class_at_lem}
 use Rattle.tally.proofs.PlaceLaws.{file_start, next_named}
 use Rattle.tally.proofs.AddLaws.{going_start, going_over, found, never_cut}

@@ -1,5 +1,5 @@
 -- `write_fixed::write_items` meets its contract. The loop's invariant: the items of all rows are those of the rows from here on.
-use Prim.Native.Nat.{ℕ, ◌+◌, ◌-◌, ◌*◌}
+use Prim.Native.Nat.{ℕ, ◌+◌, ◌*◌}
 use mathlib.Core.Path.{refl, sym, ap, ◌∙◌}
 use native.Mathlib.Omega.{arith}
 use Rattle.format.specs.Bits.{high}

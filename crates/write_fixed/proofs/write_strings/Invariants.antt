@@ -1,4 +1,3 @@
-use Prim.Native.Nat.{◌-◌}
 use Rattle.bits.specs.Places.{order_of}
 use Rattle.format.specs.Formats.{times}
 use Rattle.format.specs.Items.{string}

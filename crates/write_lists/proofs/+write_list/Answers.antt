@@ -1,7 +1,7 @@
 -- `write_lists::write_list` meets its contract.
 -- ---- what is known at the places of a turn
 -- ---- what the code leaves to be shown
-use Prim.Native.Nat.{◌+◌, ◌-◌}
+use Prim.Native.Nat.{◌+◌}
 use mathlib.Core.Path.{refl, sym, ap, ◌∙◌}
 use native.Mathlib.Omega.{arith}
 use lib.ListN.{length, get_or, drop}
@@ -111,11 +111,11 @@ loop-index-smaller t c = let x = tag_index (order_of c.args.order) (record { the
 
 pub loop-index-preserved : goal.loop-index-preserved
 loop-index-preserved t c = let x = tag_index (order_of c.args.order) (record { there = c.loop-index-test.true; is = refl; low = omega (arith, c.if-number-gt1023.false); tabled = c.requires.0; classed = c.class_numbered-class.ensures; claimed = c.claims_long-claimed.ensures }) c.loop-index.out c.args.depths c.loop-index.place.0 c.shut-wrote.new.out _ _ (ap (stood_as c.shut-wrote.new.out) (sym c.in-Done-wrote.is) ∙ (c.shut-wrote.ensures ∙ shut_over c.loop-index.out c.if-holds_list.out c.loop-index.place.0 c.loop-index.index c.claims_long-claimed.result (get_or c.args.table.now c.loop-index.index 0) c.if-holds_list.stop.0 c.if-holds_list.last (inner (order_of c.args.order) (classes_in c.args.classes.now) c.claims_long-claimed.result c.class_numbered-class.result c.args.depths (drop c.loop-index.index c.args.table.now)) (elim c.if-holds_list.branch [ then-holds_list+in-Done-inside w ↦ (λ i. this (stood (w.out-is i) (w.stop-is i).0 (w.last-is i))) ∙ values_list (order_of c.args.order) (record { there = c.loop-index-test.true; is = refl; low = omega (arith, c.if-number-gt1023.false); tabled = c.requires.0; classed = c.class_numbered-class.ensures; claimed = c.claims_long-claimed.ensures }) c.loop-index.out c.args.depths c.loop-index.place.0 (sym (list_by_lem (order_of c.args.order) c.claims_long-claimed.result c.class_numbered-class.result c.args.table.now c.loop-index.index (get_or c.args.table.now c.loop-index.index 0) c.loop-index.out (c.loop-index.place.0 + kept_bytes c.claims_long-claimed.result) c.begin_tag-begun.new.out c.in-Done-begun.start.0 c.in-Done-begun.first c.loop-index-test.true refl (ap (stood_as c.begin_tag-begun.new.out) (sym c.in-Done-begun.is) ∙ c.begin_tag-begun.ensures)).2 ∙ sym c.holds_list.ensures ∙ w.if-holds_list.true) (ap (stood_as c.begin_tag-begun.new.out) (sym c.in-Done-begun.is) ∙ c.begin_tag-begun.ensures) (ap (stood_as w.write_list-inside.new.out) (sym w.in-Done-inside.is) ∙ w.write_list-inside.ensures) | else-holds_list w ↦ (λ i. this (stood (w.out-is i) (w.stop-is i).0 (w.last-is i))) ∙ values_alone (order_of c.args.order) (record { there = c.loop-index-test.true; is = refl; low = omega (arith, c.if-number-gt1023.false); tabled = c.requires.0; classed = c.class_numbered-class.ensures; claimed = c.claims_long-claimed.ensures }) c.loop-index.out c.args.depths c.loop-index.place.0 (sym (list_by_lem (order_of c.args.order) c.claims_long-claimed.result c.class_numbered-class.result c.args.table.now c.loop-index.index (get_or c.args.table.now c.loop-index.index 0) c.loop-index.out (c.loop-index.place.0 + kept_bytes c.claims_long-claimed.result) c.begin_tag-begun.new.out c.in-Done-begun.start.0 c.in-Done-begun.first c.loop-index-test.true refl (ap (stood_as c.begin_tag-begun.new.out) (sym c.in-Done-begun.is) ∙ c.begin_tag-begun.ensures)).2 ∙ sym c.holds_list.ensures ∙ w.if-holds_list.false) (ap (stood_as c.begin_tag-begun.new.out) (sym c.in-Done-begun.is) ∙ c.begin_tag-begun.ensures) ]))) in (
-      c.shut-wrote.auto.out ∙ (elim c.if-holds_list.branch [ then-holds_list+in-Done-inside w ↦ ap length w.out-is ∙ w.write_list-inside.auto.out ∙ c.begin_tag-begun.auto.out | else-holds_list w ↦ ap length w.out-is ∙ c.begin_tag-begun.auto.out ]) ∙ c.loop-index.invariant.0,
-      x.2,
-      x.0,
-      c.loop-index.invariant.3 ∙ turn_more (order_of c.args.order) (record { there = c.loop-index-test.true; is = refl; low = omega (arith, c.if-number-gt1023.false); tabled = c.requires.0; classed = c.class_numbered-class.ensures; claimed = c.claims_long-claimed.ensures }) c.loop-index.out c.args.depths c.loop-index.place.0 (not_too_deep (order_of c.args.order) (record { there = c.loop-index-test.true; is = refl; low = omega (arith, c.if-number-gt1023.false); tabled = c.requires.0; classed = c.class_numbered-class.ensures; claimed = c.claims_long-claimed.ensures }) c.loop-index.out c.args.depths c.loop-index.place.0 c.is_too_deep.ensures c.if-is_too_deep.false) (sym c.ends_list.ensures ∙ c.if-ends_list.false) (ap (stood_as c.shut-wrote.new.out) (sym c.in-Done-wrote.is) ∙ (c.shut-wrote.ensures ∙ shut_over c.loop-index.out c.if-holds_list.out c.loop-index.place.0 c.loop-index.index c.claims_long-claimed.result (get_or c.args.table.now c.loop-index.index 0) c.if-holds_list.stop.0 c.if-holds_list.last (inner (order_of c.args.order) (classes_in c.args.classes.now) c.claims_long-claimed.result c.class_numbered-class.result c.args.depths (drop c.loop-index.index c.args.table.now)) (elim c.if-holds_list.branch [ then-holds_list+in-Done-inside w ↦ (λ i. this (stood (w.out-is i) (w.stop-is i).0 (w.last-is i))) ∙ values_list (order_of c.args.order) (record { there = c.loop-index-test.true; is = refl; low = omega (arith, c.if-number-gt1023.false); tabled = c.requires.0; classed = c.class_numbered-class.ensures; claimed = c.claims_long-claimed.ensures }) c.loop-index.out c.args.depths c.loop-index.place.0 (sym (list_by_lem (order_of c.args.order) c.claims_long-claimed.result c.class_numbered-class.result c.args.table.now c.loop-index.index (get_or c.args.table.now c.loop-index.index 0) c.loop-index.out (c.loop-index.place.0 + kept_bytes c.claims_long-claimed.result) c.begin_tag-begun.new.out c.in-Done-begun.start.0 c.in-Done-begun.first c.loop-index-test.true refl (ap (stood_as c.begin_tag-begun.new.out) (sym c.in-Done-begun.is) ∙ c.begin_tag-begun.ensures)).2 ∙ sym c.holds_list.ensures ∙ w.if-holds_list.true) (ap (stood_as c.begin_tag-begun.new.out) (sym c.in-Done-begun.is) ∙ c.begin_tag-begun.ensures) (ap (stood_as w.write_list-inside.new.out) (sym w.in-Done-inside.is) ∙ w.write_list-inside.ensures) | else-holds_list w ↦ (λ i. this (stood (w.out-is i) (w.stop-is i).0 (w.last-is i))) ∙ values_alone (order_of c.args.order) (record { there = c.loop-index-test.true; is = refl; low = omega (arith, c.if-number-gt1023.false); tabled = c.requires.0; classed = c.class_numbered-class.ensures; claimed = c.claims_long-claimed.ensures }) c.loop-index.out c.args.depths c.loop-index.place.0 (sym (list_by_lem (order_of c.args.order) c.claims_long-claimed.result c.class_numbered-class.result c.args.table.now c.loop-index.index (get_or c.args.table.now c.loop-index.index 0) c.loop-index.out (c.loop-index.place.0 + kept_bytes c.claims_long-claimed.result) c.begin_tag-begun.new.out c.in-Done-begun.start.0 c.in-Done-begun.first c.loop-index-test.true refl (ap (stood_as c.begin_tag-begun.new.out) (sym c.in-Done-begun.is) ∙ c.begin_tag-begun.ensures)).2 ∙ sym c.holds_list.ensures ∙ w.if-holds_list.false) (ap (stood_as c.begin_tag-begun.new.out) (sym c.in-Done-begun.is) ∙ c.begin_tag-begun.ensures) ]))),
-    )
+  c.shut-wrote.auto.out ∙ (elim c.if-holds_list.branch [ then-holds_list+in-Done-inside w ↦ ap length w.out-is ∙ w.write_list-inside.auto.out ∙ c.begin_tag-begun.auto.out | else-holds_list w ↦ ap length w.out-is ∙ c.begin_tag-begun.auto.out ]) ∙ c.loop-index.invariant.0,
+  x.2,
+  x.0,
+  c.loop-index.invariant.3 ∙ turn_more (order_of c.args.order) (record { there = c.loop-index-test.true; is = refl; low = omega (arith, c.if-number-gt1023.false); tabled = c.requires.0; classed = c.class_numbered-class.ensures; claimed = c.claims_long-claimed.ensures }) c.loop-index.out c.args.depths c.loop-index.place.0 (not_too_deep (order_of c.args.order) (record { there = c.loop-index-test.true; is = refl; low = omega (arith, c.if-number-gt1023.false); tabled = c.requires.0; classed = c.class_numbered-class.ensures; claimed = c.claims_long-claimed.ensures }) c.loop-index.out c.args.depths c.loop-index.place.0 c.is_too_deep.ensures c.if-is_too_deep.false) (sym c.ends_list.ensures ∙ c.if-ends_list.false) (ap (stood_as c.shut-wrote.new.out) (sym c.in-Done-wrote.is) ∙ (c.shut-wrote.ensures ∙ shut_over c.loop-index.out c.if-holds_list.out c.loop-index.place.0 c.loop-index.index c.claims_long-claimed.result (get_or c.args.table.now c.loop-index.index 0) c.if-holds_list.stop.0 c.if-holds_list.last (inner (order_of c.args.order) (classes_in c.args.classes.now) c.claims_long-claimed.result c.class_numbered-class.result c.args.depths (drop c.loop-index.index c.args.table.now)) (elim c.if-holds_list.branch [ then-holds_list+in-Done-inside w ↦ (λ i. this (stood (w.out-is i) (w.stop-is i).0 (w.last-is i))) ∙ values_list (order_of c.args.order) (record { there = c.loop-index-test.true; is = refl; low = omega (arith, c.if-number-gt1023.false); tabled = c.requires.0; classed = c.class_numbered-class.ensures; claimed = c.claims_long-claimed.ensures }) c.loop-index.out c.args.depths c.loop-index.place.0 (sym (list_by_lem (order_of c.args.order) c.claims_long-claimed.result c.class_numbered-class.result c.args.table.now c.loop-index.index (get_or c.args.table.now c.loop-index.index 0) c.loop-index.out (c.loop-index.place.0 + kept_bytes c.claims_long-claimed.result) c.begin_tag-begun.new.out c.in-Done-begun.start.0 c.in-Done-begun.first c.loop-index-test.true refl (ap (stood_as c.begin_tag-begun.new.out) (sym c.in-Done-begun.is) ∙ c.begin_tag-begun.ensures)).2 ∙ sym c.holds_list.ensures ∙ w.if-holds_list.true) (ap (stood_as c.begin_tag-begun.new.out) (sym c.in-Done-begun.is) ∙ c.begin_tag-begun.ensures) (ap (stood_as w.write_list-inside.new.out) (sym w.in-Done-inside.is) ∙ w.write_list-inside.ensures) | else-holds_list w ↦ (λ i. this (stood (w.out-is i) (w.stop-is i).0 (w.last-is i))) ∙ values_alone (order_of c.args.order) (record { there = c.loop-index-test.true; is = refl; low = omega (arith, c.if-number-gt1023.false); tabled = c.requires.0; classed = c.class_numbered-class.ensures; claimed = c.claims_long-claimed.ensures }) c.loop-index.out c.args.depths c.loop-index.place.0 (sym (list_by_lem (order_of c.args.order) c.claims_long-claimed.result c.class_numbered-class.result c.args.table.now c.loop-index.index (get_or c.args.table.now c.loop-index.index 0) c.loop-index.out (c.loop-index.place.0 + kept_bytes c.claims_long-claimed.result) c.begin_tag-begun.new.out c.in-Done-begun.start.0 c.in-Done-begun.first c.loop-index-test.true refl (ap (stood_as c.begin_tag-begun.new.out) (sym c.in-Done-begun.is) ∙ c.begin_tag-begun.ensures)).2 ∙ sym c.holds_list.ensures ∙ w.if-holds_list.false) (ap (stood_as c.begin_tag-begun.new.out) (sym c.in-Done-begun.is) ∙ c.begin_tag-begun.ensures) ]))),
+)
 
 pub shape_of-out : goal.shape_of-out
 shape_of-out t c = c.loop-index.invariant.0

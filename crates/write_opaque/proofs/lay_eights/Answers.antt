@@ -1,6 +1,5 @@
 -- `write_opaque::lay_eights` meets its contract: the numbers so far are the first ones.
 use native.Mathlib.Omega.{arith}
-use Prim.Native.Nat.{◌-◌}
 use mathlib.Core.Path.{refl, sym}
 use lib.ListN.{drop}
 use lib.Seq.{get_or-drop}

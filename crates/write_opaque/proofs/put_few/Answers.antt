@@ -1,6 +1,5 @@
 -- `write_opaque::put_few` meets its contract: the bytes so far are the first ones.
 use native.Mathlib.Omega.{arith}
-use Prim.Native.Nat.{◌-◌}
 use mathlib.Core.Path.{refl}
 use Rattle.write_opaque.proofs.PackLaws.{few_next, few_length, few_all}
 use Rattle.write_opaque.proofs.put_few.Goals as goal

@@ -1,7 +1,7 @@
 -- `write_opaque::unpack_bytes` meets its contract: each answer is a case of the definition.
 use mathlib.Core.Bool.{not}
 use native.Mathlib.Omega.{arith}
-use Prim.Native.Nat.{◌+◌, ◌-◌, ◌*◌, ◌/◌, ◌%◌}
+use Prim.Native.Nat.{◌+◌, ◌*◌, ◌/◌, ◌%◌}
 use mathlib.Core.Path.{ap, refl, ◌∙◌}
 use lib.ListN.{get_or, drop}
 use Rattle.write_opaque.proofs.PackLaws.{no_numbers, too_long_lem, wrong_count, wrong_filling, all_whole, some_left, spread_length, few_length, positive}

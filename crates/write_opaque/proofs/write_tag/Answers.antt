@@ -1,7 +1,5 @@
-use mathlib.Core.Bool.{true}
-use mathlib.Core.Path.{◌≡◌, refl, sym, ◌∙◌}
+use mathlib.Core.Path.{refl, sym, ◌∙◌}
 use native.Mathlib.Omega.{arith}
-use Prim.Native.Nat.{◌<◌}
 use lib.ListN.{get_or}
 use Rattle.format.proofs.Absurd.{clash}
 use Rattle.write_opaque.proofs.TagLaws.{tag_none, tag_long, tag_claim, tag_late, tag_put}

@@ -1,5 +1,5 @@
 -- `items::var::read_var` meets its contract: the loop keeps `Rest`: the whole is what was read in front of what is left.
-use Rattle.std.proofs.Common.{refl, ◌≡◌, ◌-◌, sym, ◌∙◌, lt_trans, lt_of_le_of_lt, le-add_left, arith}
+use Rattle.std.proofs.Common.{refl, ◌≡◌, sym, ◌∙◌, lt_trans, lt_of_le_of_lt, le-add_left, arith}
 use Rattle.format.specs.Bits.{high}
 use Rattle.items.proofs.VarLaws.{num_at, var_past, first_last, first_more, more_past, more_last, more_full, more_next, last_fits, next_fits}
 use Rattle.items.proofs.var.read_var.Goals as goal

@@ -1,7 +1,6 @@
 use Rattle.path_singles.proofs.BlockLaws.{count_is, blocks_from, blocks_on, blocks_end}
 use mathlib.Core.Path.{refl}
 use native.Mathlib.Omega.{arith}
-use Prim.Native.Nat.{◌-◌}
 use Rattle.path_singles.proofs.blocks.convert_block.Goals as goal
 
 pub loop-row-init : goal.loop-row-init

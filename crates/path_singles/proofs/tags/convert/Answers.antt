@@ -1,7 +1,6 @@
 use Rattle.path_singles.proofs.TableLaws.{here, next, walked, begins}
 use native.Mathlib.Omega.{arith}
 use mathlib.Core.Path.{◌∙◌, refl}
-use Prim.Native.Nat.{◌-◌}
 use Rattle.path_singles.proofs.tags.convert.Goals as goal
 
 pub loop-index-init : goal.loop-index-init

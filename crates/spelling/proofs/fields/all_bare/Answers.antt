@@ -1,5 +1,5 @@
 -- `spelling::fields::all_bare` meets its contract. The loop's invariant: whether all are fields is whether those left are, for every bare kind that has so many negative numbers.
-use Rattle.std.proofs.Common.{◌+◌, ◌-◌, true, get_or, arith}
+use Rattle.std.proofs.Common.{◌+◌, get_or, arith}
 use Rattle.spelling.proofs.FieldLaws.{bare_in, bare_out, judging_start, judging_no, judging_next, judging_over}
 use Rattle.spelling.proofs.fields.all_bare.Goals as goal
 

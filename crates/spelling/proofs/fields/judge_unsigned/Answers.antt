@@ -1,6 +1,6 @@
 -- `spelling::fields::judge_unsigned` meets its contract. The loop's invariant: whether all are fields is whether those left are, and the sum is what those before announce.
 use mathlib.Core.Bool.{not}
-use Rattle.std.proofs.Common.{◌≡◌, ℕ, ◌+◌, ◌-◌, get_or, take, drop, refl, ap, ◌∙◌, arith}
+use Rattle.std.proofs.Common.{◌≡◌, ℕ, ◌+◌, get_or, take, drop, refl, ap, ◌∙◌, arith}
 use Rattle.table.specs.Fields.{announced}
 use Rattle.table.proofs.FieldLaws.{weight_is}
 use Rattle.spelling.proofs.FieldLaws.{unsigned_large, unsigned_out, unsigned_in_lem, judging_start, judging_no, judging_next, judging_over, counted_few, counted_next}

@@ -1,4 +1,4 @@
-use Rattle.std.proofs.Common.{◌≡◌, ◌-◌, ◌*◌, ◌≤◌, length}
+use Rattle.std.proofs.Common.{◌≡◌, ◌*◌, ◌≤◌, length}
 use Rattle.format.specs.Bits.{Order}
 use Rattle.format.specs.Formats.{times}
 use Rattle.items.specs.Kinds.{format_of}

@@ -1,5 +1,5 @@
 -- `spelling::in_turn::write_times` meets its contract. The loop's invariant: all of them are those that are left from here on.
-use Rattle.std.proofs.Common.{ℕ, ◌+◌, ◌-◌, ◌*◌, get_or, sym, refl, ap, ◌∙◌, arith}
+use Rattle.std.proofs.Common.{ℕ, ◌+◌, ◌*◌, get_or, sym, refl, ap, ◌∙◌, arith}
 use Rattle.format.specs.Possible.{this}
 use Rattle.items.specs.Kinds.{range_fault}
 use Rattle.items.specs.declared.Item.TheVariants.{Time}

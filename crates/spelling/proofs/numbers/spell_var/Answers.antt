@@ -1,5 +1,5 @@
 -- `spelling::numbers::spell_var` meets its contract. The loop's invariant: the spelling of the number is that of what is left of it from here on.
-use Rattle.std.proofs.Common.{◌≡◌, ℕ, ◌+◌, ◌-◌, ◌*◌, ◌/◌, sym, refl, ap, ◌∙◌, ⊎_elim, arith}
+use Rattle.std.proofs.Common.{◌≡◌, ℕ, ◌+◌, ◌-◌, ◌*◌, ◌/◌, sym, refl, ap, ◌∙◌, arith}
 use Rattle.sink.specs.Laying.{mk}
 use Rattle.spelling.proofs.ByteLaws.{spelled}
 use Rattle.format.specs.WritingItems.{spell_var}

@@ -1,4 +1,4 @@
-use Rattle.std.proofs.Common.{◌≡◌, ◌+◌, ◌-◌, ◌*◌, ◌≤◌, length}
+use Rattle.std.proofs.Common.{◌≡◌, ◌+◌, ◌*◌, ◌≤◌, length}
 use Rattle.sink.specs.Laying.{mk}
 use Rattle.format.specs.Bits.{Order}
 use Rattle.format.specs.WritingItems.{spell_var}

@@ -1,5 +1,5 @@
 -- `spelling::text::spell_text` meets its contract. The loop's invariant: the String from its start is the rest of it from here on.
-use Rattle.std.proofs.Common.{◌-◌, sym, refl, ◌∙◌, arith}
+use Rattle.std.proofs.Common.{sym, refl, ◌∙◌, arith}
 use Rattle.spelling.proofs.TextLaws.{text_start, text_zero, text_large, text_next, text_over_lem}
 use Rattle.spelling.proofs.text.spell_text.Goals as goal
 

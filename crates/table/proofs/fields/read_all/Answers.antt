@@ -3,9 +3,8 @@ use Prim.Native.Nat.{ℕ, ◌-◌, min}
 use mathlib.Core.Path.{ap, sym, ◌∙◌}
 use native.Mathlib.Omega.{arith}
 use lib.Pow.{pow_mono}
-use Rattle.bits.specs.Places.{with_sign}
 use Rattle.bits.proofs.FieldLaws.{one_shl}
-use Rattle.table.proofs.FieldLaws.{shown_by_lem, negatives_le, Stand, stand, laying_start, laying_upto, laying_in, laying_next, laying_end}
+use Rattle.table.proofs.FieldLaws.{shown_by_lem, negatives_le, stand, laying_start, laying_upto, laying_in, laying_next, laying_end}
 use Rattle.table.proofs.fields.read_all.Goals as goal
 
 pub fitting-there-requires : goal.fitting-there-requires

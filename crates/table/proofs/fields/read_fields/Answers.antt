@@ -1,17 +1,15 @@
 -- `table::fields::read_fields` meets its contract: what is left to read is what is left of the whole.
-use mathlib.Core.Bool.{not}
 use mathlib.Core.List.{List}
-use mathlib.Core.Path.{ap, sym, ◌∙◌}
-use Prim.Native.Nat.{ℕ, ◌-◌}
+use mathlib.Core.Path.{sym, ◌∙◌}
+use Prim.Native.Nat.{ℕ}
 use native.Mathlib.Omega.{arith}
-use borrow.Author.Tests.{not-true, not-false}
 use Rattle.bits.specs.Places.{order_of, PlaceIn}
 use Rattle.bits.proofs.WholeLaws.{again, of_again, as_whole}
 use Rattle.format.specs.Formats.{times}
 use Rattle.format.specs.Items.{run}
 use Rattle.table.specs.State.{shown_over}
 use Rattle.table.specs.Fields.{field_of, announced}
-use Rattle.table.proofs.FieldLaws.{field_in, field_out, unsigned_shown, weight_is, Stand, stand, going_start, fields_in, fields_next, fields_stop, fields_end}
+use Rattle.table.proofs.FieldLaws.{field_in, field_out, unsigned_shown, weight_is, stand, going_start, fields_in, fields_next, fields_stop, fields_end}
 use Rattle.table.proofs.fields.read_fields.Goals as goal
 
 -- the place stands in the bytes that are lent again

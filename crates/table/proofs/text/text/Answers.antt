@@ -1,7 +1,5 @@
 -- `table::text::text` meets its contract: the whole text is what is left of it after the bytes that were read.
-use Prim.Native.Nat.{◌-◌}
 use mathlib.Core.Path.{ap, ◌∙◌}
-use mathlib.Core.Logic.{⊎_elim}
 use native.Mathlib.Omega.{arith}
 use lib.ListN.{length, length-set}
 use Rattle.format.specs.Bits.{high}
