@@ -124,7 +124,7 @@ const DASHES: u8 = CUSTOM + OF_DASHES;
 
 const TAG_BLOCK: u8 = CUSTOM + OF_TAG_BLOCK;
 
-// 6: isActive, autoOrientation, parent, stretch, startTime, blend_mode, trackMatteType, timeRemap, duration
+// 6: isActive, autoOrientation, parent, stretch, startTime, blendMode, trackMatteType, timeRemap, duration
 fn layer_attributes() -> Block
     ensures { Attributes result.rows result.count bodies.layer_attributes }
 {
@@ -228,7 +228,7 @@ fn mask_block() -> Block
     }
 }
 
-// 15: blend_mode, anchorPoint, position, scale, skew, skewAxis, rotation, opacity, TagBlock
+// 15: blendMode, anchorPoint, position, scale, skew, skewAxis, rotation, opacity, TagBlock
 fn shape_group() -> Block
     ensures { Attributes result.rows result.count bodies.shape_group }
 {
@@ -320,7 +320,7 @@ fn poly_star() -> Block
     }
 }
 
-// 19: shape_path
+// 19: shapePath
 fn shape_path() -> Block
     ensures { Attributes result.rows result.count bodies.shape_path }
 {
@@ -343,7 +343,7 @@ fn shape_path() -> Block
     }
 }
 
-// 20: blend_mode, composite, fillRule, color, opacity
+// 20: blendMode, composite, fillRule, color, opacity
 fn fill_block() -> Block
     ensures { Attributes result.rows result.count bodies.fill_block }
 {
@@ -366,7 +366,7 @@ fn fill_block() -> Block
     }
 }
 
-// 21: blend_mode, composite, lineCap, lineJoin, miterLimit, color, opacity, strokeWidth
+// 21: blendMode, composite, lineCap, lineJoin, miterLimit, color, opacity, strokeWidth
 fn stroke() -> Block
     ensures { Attributes result.rows result.count bodies.stroke }
 {
@@ -389,7 +389,7 @@ fn stroke() -> Block
     }
 }
 
-// 22: blend_mode, composite, fillRule, fillType, startPoint, endPoint, colors, opacity
+// 22: blendMode, composite, fillRule, fillType, startPoint, endPoint, colors, opacity
 fn gradient_fill() -> Block
     ensures { Attributes result.rows result.count bodies.gradient_fill }
 {
@@ -412,7 +412,7 @@ fn gradient_fill() -> Block
     }
 }
 
-// 23: blend_mode, composite, fillType, startPoint, endPoint, color, opacity, strokeWidth, lineCap, lineJoin, miterLimit, dashes
+// 23: blendMode, composite, fillType, startPoint, endPoint, color, opacity, strokeWidth, lineCap, lineJoin, miterLimit, dashes
 fn gradient_stroke() -> Block
     ensures { Attributes result.rows result.count bodies.gradient_stroke }
 {

@@ -135,7 +135,7 @@ fn read_two_flags(order: Order, first: u64, at: u64) -> Flag
     }
 }
 
-// An exist bit; if set, an animatable bit; if that is set too, a has_spatial bit.
+// An exist bit; if set, an animatable bit; if that is set too, a hasSpatial bit.
 fn read_three_flags(order: Order, first: u64, at: u64) -> Flag
     requires { at + 2 < 40 }
     ensures { FlagRead (order_of order) first (flags_of (kind_of Kind.Spatial)) at 3 result.number result.behind }
@@ -154,7 +154,7 @@ fn read_three_flags(order: Order, first: u64, at: u64) -> Flag
     }
 }
 
-// The flags of one attribute as a number: exist + 2 × animatable + 4 × has_spatial; a Fixed one has no bit, and gives 1.
+// The flags of one attribute as a number: exist + 2 × animatable + 4 × hasSpatial; a Fixed one has no bit, and gives 1.
 fn read_flag(order: Order, kind: Kind, first: u64, at: u64) -> Flag
     requires { at + 2 < 40 }
     ensures { FlagRead (order_of order) first (flags_of (kind_of kind)) at 3 result.number result.behind }

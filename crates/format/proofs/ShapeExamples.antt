@@ -42,7 +42,7 @@ kinds =
     -- 18: 0, 1, and seven that are not set
     ∷ shows (attributes poly_star) (0x40 ∷ 0x00 ∷ 0x01 ∷ []) (0 ∷ 1 ∷ 1 ∷ zeros 7)
     ∷ stops (attributes poly_star) (0x40 ∷ 0x00 ∷ 0x02 ∷ []) 16
-    -- 20: blend_mode 26, composite 1, fillRule 1; then each one more
+    -- 20: blendMode 26, composite 1, fillRule 1; then each one more
     ∷ shows (attributes fill_block) (0xE0 ∷ 0x1A ∷ 0x01 ∷ 0x01 ∷ []) (1 ∷ 26 ∷ 1 ∷ 1 ∷ 1 ∷ 1 ∷ 0 ∷ 0 ∷ [])
     ∷ stops (attributes fill_block) (0x80 ∷ 0x1B ∷ []) 16
     ∷ stops (attributes fill_block) (0x40 ∷ 0x02 ∷ []) 16
@@ -86,7 +86,7 @@ colors =
     (zeros 6 ++ 3 ∷ 1 ∷ 1 ∷ 0 ∷ 1 ∷ 0 ∷ 0 ∷ 1 ∷ 0 ∷ 1 ∷ 2 ∷ 3 ∷ 1 ∷ 0 ∷ [])
     ∷ []
 
--- ---- 23: eleven that are not set, and the Custom one: dash_length, exist, and animatable if exist is 1
+-- ---- 23: eleven that are not set, and the Custom one: dashLength, exist, and animatable if exist is 1
 abbrev dashed : List Example
 dashed =
     -- 111 0; 000 1 0; 000 1 1

@@ -53,7 +53,7 @@ options =
     minus1 : ℕ
     minus1 = 18446744073709551615
 
--- ---- a Spatial Point: flags exist, animatable, has_spatial
+-- ---- a Spatial Point: flags exist, animatable, hasSpatial
 abbrev spatial_point : Body
 spatial_point = attributes (Spatial of Points ∷ [])
 
@@ -66,7 +66,7 @@ shown φ last = φ ∷ 1 ∷ 1 ∷ 0 ∷ 24 ∷ 4 ∷ 8 ∷ 15 ∷ 0 ∷ 9 ∷ 1
 
 abbrev spatials : List Example
 spatials =
-    -- 1 1 0: without has_spatial, there is no sixth part
+    -- 1 1 0: without hasSpatial, there is no sixth part
     shows spatial_point (framed 0xC0 []) (shown 3 [])
     -- 1 1 1, and no flag set: 0 0, and right after them a width of 2, 00001, which stands
     ∷ shows spatial_point (framed 0xE0 (0x02 ∷ [])) (shown 7 (0 ∷ 0 ∷ 2 ∷ []))

@@ -27,7 +27,7 @@ pub data Kind : Type 0 where
   Value Fixed BitFlag Simple Discrete MultiDimension Spatial Custom : Kind
 
 -- Value: 1 bit. Fixed: no bit, and its flag number is 1. BitFlag: 1 bit. Simple, Discrete and MultiDimension: exist bit; if set, an animatable
--- bit. Spatial: if that is set too, a has_spatial bit (source 000, chapter 4), which adds 4 to the flag number. Custom (C-24): 1 bit.
+-- bit. Spatial: if that is set too, a hasSpatial bit (source 000, chapter 4), which adds 4 to the flag number. Custom (C-24): 1 bit.
 abbrev pub flags_of : Kind → Item
 flags_of Value = Item.flag 1
 flags_of Fixed = Item.echo 1
@@ -88,7 +88,7 @@ infix 70 ◌of◌
 abbrev pub ◌of◌ : Kind → DataType → Attribute
 k of d = record { kind = k; data_type = d }
 
--- ---- 6: isActive BitFlag; autoOrientation BitFlag; parent U32 Value; stretch Ratio Value; startTime Time Value; blend_mode byte Value;
+-- ---- 6: isActive BitFlag; autoOrientation BitFlag; parent U32 Value; stretch Ratio Value; startTime Time Value; blendMode byte Value;
 -- trackMatteType byte Value; timeRemap Float Simple; duration Time Fixed. (A BitFlag has no content, whatever its data type.)
 abbrev pub layer_attributes : List Attribute
 layer_attributes =
@@ -146,7 +146,7 @@ mask_block =
     ∷ []
 
 -- ---- (C-24) ShapeGroup to RoundCorners (15 to 27) by their tables in chapter 6 of source 000. An attribute without a type here is an enum.
--- 15, ShapeGroup: blend_mode Value; anchorPoint, position Point Spatial; scale Point MultiDimension; skew, skewAxis, rotation Float Simple; opacity byte Simple; TagBlock Custom.
+-- 15, ShapeGroup: blendMode Value; anchorPoint, position Point Spatial; scale Point MultiDimension; skew, skewAxis, rotation Float Simple; opacity byte Simple; TagBlock Custom.
 abbrev pub shape_group : List Attribute
 shape_group =
     Value of BlendModes
@@ -191,13 +191,13 @@ poly_star =
     ∷ Simple of Floats
     ∷ []
 
--- 19, ShapePath: shape_path Path Simple.
+-- 19, ShapePath: shapePath Path Simple.
 abbrev pub shape_path : List Attribute
 shape_path =
     Simple of Paths
     ∷ []
 
--- 20, Fill: blend_mode, composite, fillRule Value; color Color Simple; opacity byte Simple.
+-- 20, Fill: blendMode, composite, fillRule Value; color Color Simple; opacity byte Simple.
 abbrev pub fill_block : List Attribute
 fill_block =
     Value of BlendModes
@@ -207,7 +207,7 @@ fill_block =
     ∷ Simple of Bytes
     ∷ []
 
--- 21, Stroke: blend_mode, composite, lineCap, lineJoin Value; miterLimit Float Simple; color Color Simple; opacity byte Simple; strokeWidth Float Simple.
+-- 21, Stroke: blendMode, composite, lineCap, lineJoin Value; miterLimit Float Simple; color Color Simple; opacity byte Simple; strokeWidth Float Simple.
 abbrev pub stroke : List Attribute
 stroke =
     Value of BlendModes
@@ -220,7 +220,7 @@ stroke =
     ∷ Simple of Floats
     ∷ []
 
--- 22, GradientFill: blend_mode, composite, fillRule, fillType Value; startPoint, endPoint Point Spatial; colors GradientColor Simple; opacity byte Simple.
+-- 22, GradientFill: blendMode, composite, fillRule, fillType Value; startPoint, endPoint Point Spatial; colors GradientColor Simple; opacity byte Simple.
 abbrev pub gradient_fill : List Attribute
 gradient_fill =
     Value of BlendModes
@@ -233,8 +233,8 @@ gradient_fill =
     ∷ Simple of Bytes
     ∷ []
 
--- 23, GradientStroke: blend_mode, composite, fillType Value; startPoint, endPoint Point Spatial; color Color Simple; opacity byte Simple; strokeWidth Float Simple;
--- lineCap, lineJoin Value; miterLimit Float Simple; dash_length and dashOffsetFlag Custom.
+-- 23, GradientStroke: blendMode, composite, fillType Value; startPoint, endPoint Point Spatial; color Color Simple; opacity byte Simple; strokeWidth Float Simple;
+-- lineCap, lineJoin Value; miterLimit Float Simple; dashLength and dashOffsetFlag Custom.
 abbrev pub gradient_stroke : List Attribute
 gradient_stroke =
     Value of BlendModes
@@ -287,7 +287,7 @@ round_corners =
     Simple of Floats
     ∷ []
 
--- ---- blend_mode 0 to 16, 21 to 26.
+-- ---- blendMode 0 to 16, 21 to 26.
 abbrev pub blend_mode : Format
 blend_mode = only (λ ns. leb (the ns) 16 or (leb 21 (the ns) and leb (the ns) 26)) 16 byte
 
@@ -295,7 +295,7 @@ blend_mode = only (λ ns. leb (the ns) 16 or (leb 21 (the ns) and leb (the ns) 2
 abbrev pub aligned : Format
 aligned = item Item.align
 
--- (C-24) dash_length; dashOffsetFlag.exist UB[1]; dashOffsetFlag.animatable UB[1], if exist is 1
+-- (C-24) dashLength; dashOffsetFlag.exist UB[1]; dashOffsetFlag.animatable UB[1], if exist is 1
 abbrev pub dashes : Format
 dashes = aligned ▸ item Item.dash_length ▸ item (Item.UB 1) ▹ λ exist. times (the exist) (item (Item.UB 1))
 
@@ -318,7 +318,7 @@ value TagBlocks = nothing
 
 -- ---- Keyframed content, with n frames: n as U32; UB[2] per frame (1 linear, 2 Bezier, 3 hold; not for Discrete); n + 1 times; n + 1 values;
 -- a width and four SB[width] per Bezier frame (out x, out y, in x, in y). The width stands always, Discrete included.
--- "The five parts of keyframed content become six: spatial flags, width and list form one part, the last, present only when has_spatial is set."
+-- "The five parts of keyframed content become six: spatial flags, width and list form one part, the last, present only when hasSpatial is set."
 -- Each of these parts starts on a whole byte. Frames are 1 to 4,096; verbs and fonts 0 to 4,096.
 
 -- an interpolation of 0 is 16
@@ -400,7 +400,7 @@ curves Custom d = 1
 abbrev pub spatial : ℕ → Format
 spatial n = aligned ▸ times (n * 2) (item (Item.UB 1)) ▹ λ flags. scaled (how_many 1 flags * 2)
 
--- has_spatial is set: the flag number is 7
+-- hasSpatial is set: the flag number is 7
 abbrev pub has_spatial : ℕ → Bool
 has_spatial φ = eqb φ 7
 

@@ -128,7 +128,7 @@ read_sb o b p n = map_num (sign_extend n) (read_ub o b p n)
 abbrev pub read_width : Order → List ℕ → ℕ → Num
 read_width o b p = map_num suc (read_ub o b p 5)
 
--- (C-24; source 000, chapter 6) dash_length = UB[3] + 1: 1 to 8.
+-- (C-24; source 000, chapter 6) dashLength = UB[3] + 1: 1 to 8.
 abbrev pub read_dash_length : Order → List ℕ → ℕ → Num
 read_dash_length o b p = map_num suc (read_ub o b p 3)
 
@@ -200,7 +200,7 @@ gradient_color =
 
 -- ---- Reading. For an item: skipped bits (15) by the `align` before it, its bytes (13), its spelling (14), its range (16, 17) by `only`.
 
--- an attribute's flag bits (Bodies): a zero bit ends them. Shown as exist + 2 × animatable + 4 × has_spatial: 0, 1, 3 or 7
+-- an attribute's flag bits (Bodies): a zero bit ends them. Shown as exist + 2 × animatable + 4 × hasSpatial: 0, 1, 3 or 7
 abbrev pub exist : Num → Num
 exist (num v p) = num (1 + 2 * v) p
 exist (bad e) = bad e

@@ -1,14 +1,14 @@
 -- The single's answer as a plain struct: reason 0 means accepted, with the bits in the number.
 use Prim.Native.Nat.{ℕ, suc, ◌+◌, ◌^◌, ◌≤◌}
 use mathlib.Core.Bool.{Bool, true, false}
-use mathlib.Core.Path.{◌≡◌, refl}
+use mathlib.Core.Path.{◌≡◌}
 use native.Mathlib.Omega.{arith}
 use lib.Dec.{leb}
 use lib.IntN.{ℤ, pos, negsuc}
 use Rattle.format.specs.Tests.{pick}
-use Rattle.format.specs.Reasons.{Answer, accepted, refused}
+use Rattle.format.specs.Reasons.{accepted, refused}
 use Rattle.format.proofs.Absurd.{clash}
-use Rattle.singles.specs.Single.{magnitude, of_step, single}
+use Rattle.singles.specs.Single.{magnitude, single}
 use Rattle.pag.specs.declared.PagAnswer.{PagAnswer}
 use Rattle.pag.specs.Plain.{plain_of}
 use Rattle.pag.proofs.IndexLaws.{plain_accepted}

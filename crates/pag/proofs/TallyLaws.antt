@@ -1,7 +1,7 @@
 -- The tally's answer as a plain struct: nothing is lost.
 use Prim.Native.Nat.{ℕ}
 use mathlib.Core.List.{List}
-use mathlib.Core.Path.{◌≡◌, refl, ap, sym, ◌∙◌}
+use mathlib.Core.Path.{◌≡◌, ap, sym, ◌∙◌}
 use Rattle.tally.specs.Adding.{Left, leaves}
 use Rattle.tally.specs.declared.Added.{Added}
 use Rattle.pag.specs.declared.PagAnswer.{PagAnswer}

@@ -1,5 +1,4 @@
 -- The opacity of a mask at a frame as a plain struct.
-use Rattle.std.specs.Prelude.{ℕ}
 use Rattle.opacity.specs.Opacity.{Opacity, fraction, refused}
 use Rattle.pag.specs.declared.fraction.PagFraction.{PagFraction}
 

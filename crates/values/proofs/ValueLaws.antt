@@ -67,7 +67,7 @@ path_of o b t k n p e = e ∙ ap (λ (g : Format). shown_over t k (run o b g p))
 pub spatial_is : (n : ℕ) → aligned ▸ announcing SpatialFlag 1 (n * 2) ≡ spatial n
 spatial_is n = λ i. aligned ▸ times (n * 2) (item (Item.UB 1)) ▹ λ flags. scaled (announced_points flags i)
 
--- has_spatial is not set, or it is
+-- hasSpatial is not set, or it is
 pub spatial_none : (o : Order) (b t : List ℕ) (k φ n p : ℕ) → (φ ≡ 7 → ⊥) → state t k (At p) ≡ shown_over t k (run o b (pick (has_spatial φ) (spatial n) nothing) p)
 unfolding run
 spatial_none o b t k φ n p h = rw (ne_eqb φ 7 h) (sym (after_none t k p))

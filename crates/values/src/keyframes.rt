@@ -1,4 +1,4 @@
-// Keyframed content: five parts, or six where has_spatial is set, each starting on a whole byte.
+// Keyframed content: five parts, or six where hasSpatial is set, each starting on a whole byte.
 ghost use Rattle.std.specs.Prelude.{◌≡◌, ◌*◌, ◌<◌, ◌≤◌, ◌^◌};
 ghost use Rattle.format.specs.Formats.{nothing, ◌▸◌};
 ghost use Rattle.format.specs.Tests.{pick};
@@ -98,7 +98,7 @@ fn read_easing(
     table::fields::read_scaled(order, Field::Coordinate, count, body, start, table, from)
 }
 
-// The spatial part, only where has_spatial is set: two flags for each frame, a width, which stands always, and a Point for each flag that is set.
+// The spatial part, only where hasSpatial is set: two flags for each frame, a width, which stands always, and a Point for each flag that is set.
 fn read_spatial(
     order: Order,
     flag: u64,

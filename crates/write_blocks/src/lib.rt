@@ -83,7 +83,7 @@ fn add_two_flags(order: Order, flags: Flags, number: u64) -> Flagged
     }
 }
 
-// An exist bit; if set, an animatable bit; if that is set too, a has_spatial bit.
+// An exist bit; if set, an animatable bit; if that is set too, a hasSpatial bit.
 fn add_three_flags(order: Order, flags: Flags, number: u64) -> Flagged
     requires { Held flags × (flags.width ≤ 32) }
     ensures { (noted (order_of order) result ≡ before (bits_of (order_of order) flags) (spell_flag (order_of order) number 3)) × Grown 3 flags.width result }

@@ -103,7 +103,7 @@ pub dashes_of : (o : Order) (t : List ℕ) (st : State) (k : ℕ) {st' : State} 
     → x ≡ ran o t st k dashes
 dashes_of o t st k low skip e = align_on o t st k low skip (λ xs. item Item.dash_length ▸ offset_flag) e
 
--- has_spatial is not set, or it is
+-- hasSpatial is not set, or it is
 pub spatial_none : (o : Order) (t : List ℕ) (st : State) (k φ n : ℕ) → st.place ≤ limit → (φ ≡ 7 → ⊥) → this (here st k) ≡ ran o t st k (pick (has_spatial φ) (spatial n) nothing)
 spatial_none o t st k φ n low h = rw (ne_eqb φ 7 h) (sym (ran_nothing o t st k low))
 

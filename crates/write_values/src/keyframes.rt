@@ -1,4 +1,4 @@
-// Keyframed content, written: five parts, or six where has_spatial is set, each starting on a whole byte.
+// Keyframed content, written: five parts, or six where hasSpatial is set, each starting on a whole byte.
 ghost use Rattle.std.specs.Prelude.{◌≡◌, ◌<◌, ◌≤◌, ◌^◌};
 ghost use Rattle.format.specs.Tests.{pick};
 ghost use Rattle.format.specs.Formats.{nothing, ◌▸◌};
@@ -88,7 +88,7 @@ fn write_easing(
     spelling::fields::write_scaled(order, Field::Coordinate, count, out, start, values, from)
 }
 
-// The spatial part, only where has_spatial is set: two flags for each frame, a width, which stands always, and a Point for each flag that is set.
+// The spatial part, only where hasSpatial is set: two flags for each frame, a width, which stands always, and a Point for each flag that is set.
 fn write_spatial(
     order: Order,
     flag: u64,
