@@ -10,6 +10,7 @@ import shlex
 import shutil
 import subprocess
 import sys
+import tempfile
 
 sys.dont_write_bytecode = True
 ROOT = os.path.dirname(os.path.dirname(os.path.abspath(__file__)))
@@ -32,30 +33,27 @@ def are_built(pag):
     return rtlib.text_of(PASSED) == pag.stamp() and all(os.path.exists(os.path.join(crate.rlib, 'format')) for crate in pag.below())
 
 
-def toolchain(words):
-    """The kit's toolchain, or one of links to it whose clang takes these words, too."""
+def toolchain(folder, words):
+    """The kit's toolchain, made again of links in this folder, with a clang that takes these words, too. rt ci wants no links in the repository."""
     theirs = os.path.join(KIT, 'toolchain')
-    if not words:
-        return theirs
-    ours = os.path.join(ROOT, 'target', 'host', 'toolchain')
-    shutil.rmtree(ours, ignore_errors=True)
-    os.makedirs(os.path.join(ours, 'bin'))
-    os.symlink(os.path.join(theirs, 'lib'), os.path.join(ours, 'lib'))
+    os.symlink(os.path.join(theirs, 'lib'), os.path.join(folder, 'lib'))
+    os.mkdir(os.path.join(folder, 'bin'))
     for name in os.listdir(os.path.join(theirs, 'bin')):
         if name != 'clang':
-            os.symlink(os.path.join(theirs, 'bin', name), os.path.join(ours, 'bin', name))
-    clang = os.path.join(ours, 'bin', 'clang')
+            os.symlink(os.path.join(theirs, 'bin', name), os.path.join(folder, 'bin', name))
+    clang = os.path.join(folder, 'bin', 'clang')
     with open(clang, 'w', encoding='utf-8') as out:
         out.write('#!/bin/sh\nexec %s "$@" %s\n' % (shlex.quote(os.path.join(theirs, 'bin', 'clang')), shlex.join(words)))
     os.chmod(clang, 0o755)
-    return ours
+    return folder
 
 
 def build(pag, out, words, clang_words):
     """The status of the kit's build, while no other command of the kit works in the crate."""
     held = rtlib.lock([pag])
-    given = pag.words(['--jobs', '2', *words]) + rtlib.KEPT + ['--backend', 'llvm', '--toolchain', toolchain(clang_words), '-o', os.path.abspath(out)]
-    status = subprocess.run([rtlib.RATTLE, 'build', *given], cwd=pag.folder).returncode
+    with tempfile.TemporaryDirectory() as folder:
+        given = [*pag.words(['--jobs', '2', *words]), *rtlib.KEPT, '--backend', 'llvm', '--toolchain', toolchain(folder, clang_words), '-o', os.path.abspath(out)]
+        status = subprocess.run([rtlib.RATTLE, 'build', *given], cwd=pag.folder).returncode
     for it in held:
         os.close(it)
     return status
