@@ -1,6 +1,6 @@
 #!/usr/bin/env python3
 """archive.py OUT [RATTLE_WORD..] [-- CLANG_WORD..]: proves the crate pag and compiles it into the static library OUT; hosts/build calls it.
-archive.py --passed: notes that rt ci has passed on the files that are there; .ci/run calls it.
+archive.py --passed: notes that rt ci has passed on the files that are there and built what is below pag; .ci/run calls it, where nothing was built before.
 
 The kit's prover gets the words that `rt lib` gives it, and the CLANG_WORDs go to the kit's clang behind its own. The crates below pag are taken as they were
 built: by rt, or by rt ci where it passed on just these files. Else `rt lib` proves and builds what is to be done there."""
@@ -19,18 +19,20 @@ KIT = os.path.dirname(os.path.dirname(os.path.realpath(shutil.which('rt') or sys
 rtlib = importlib.machinery.SourceFileLoader('rtlib', os.path.join(KIT, 'bin', 'rtlib.py')).load_module()
 
 
+def state(pag):
+    """The sums of all that pag is made from, and of what is built below it."""
+    return '\n'.join([pag.stamp(), *[rtlib.sum_of(os.path.join(crate.rlib, 'format')) for crate in pag.below()]])
+
+
 def note(pag):
-    """Keeps the sum of all that pag is made from."""
     os.makedirs(os.path.dirname(PASSED), exist_ok=True)
     with open(PASSED, 'w', encoding='utf-8') as file:
-        file.write(pag.stamp())
+        file.write(state(pag))
 
 
 def are_built(pag):
-    """Whether what is below pag was built from the files that are there."""
-    if all(crate.is_built() for crate in pag.below()):
-        return True
-    return rtlib.text_of(PASSED) == pag.stamp() and all(os.path.exists(os.path.join(crate.rlib, 'format')) for crate in pag.below())
+    """Whether what is below pag was built from the files that are there: by rt, which keeps a stamp, or by rt ci, which keeps none."""
+    return all(crate.is_built() for crate in pag.below()) or rtlib.text_of(PASSED) == state(pag)
 
 
 def toolchain(folder, words):
