@@ -33,7 +33,7 @@ def library(processor=platform.machine()):
 
 
 def is_native():
-    """Programs for x86-64 run as they are; on another processor they are cross-compiled, and run by the kit's emulator."""
+    """Programs for x86-64 run as they are; on another processor they are cross-compiled, and run by Debian's emulator."""
     return platform.machine() == 'x86_64'
 
 
@@ -59,9 +59,12 @@ def compile_c(program, sources, flags):
 def kit():
     """The folder of the Rattle kit."""
     guide = subprocess.run(['rt', 'doc'], stdout=subprocess.PIPE, check=True, text=True).stdout.strip()
-    return os.path.dirname(os.path.dirname(guide))
+    return os.path.dirname(guide)
 
 
 def runner():
     """What stands before a program's name to run it."""
-    return [] if is_native() else [os.path.join(kit(), 'on', platform.machine(), 'toolchain', 'bin', 'qemu-x86_64')]
+    if is_native():
+        return []
+    need('qemu-x86_64', 'qemu-user')
+    return ['qemu-x86_64']

@@ -2,7 +2,14 @@
 machine=$(uname -m)
 
 # kit: the folder of the Rattle kit.
-kit() { dirname "$(dirname "$(rt doc)")"; }
+kit() { dirname "$(rt doc)"; }
+
+# fresh FILE SOURCE..: it is there, and no source is newer. Of the folder crates, what is made (out) and what is tried (must-fail) are no sources.
+fresh() {
+    local file=$1
+    shift
+    [ -f "$file" ] && [ -z "$(find "$@" -path 'crates/*/out' -prune -o -path 'crates/*/must-fail' -prune -o \( -type f -o -path 'crates/*/*' \) -newer "$file" -print -quit)" ]
+}
 
 # install PACKAGE..: installs Debian's packages where we may.
 install() {

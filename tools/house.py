@@ -12,7 +12,7 @@ def read(path):
 def needs():
     """The crates of crates.txt in its order, and what each needs."""
     lines = (line.split('#')[0].partition(':') for line in read('crates.txt').split('\n'))
-    return {name.strip(): after.split() for name, colon, after in lines if colon}
+    return {name.split()[0]: after.split() for name, colon, after in lines if colon}
 
 
 def libraries():

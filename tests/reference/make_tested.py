@@ -15,14 +15,14 @@ OUT = os.path.join(HERE, '..', '..', 'crates', 'format', 'proofs', 'Tested.antt'
 TOP = """-- Test files that wrong definitions would fail on (must-fail/), with what document 01 makes of them, as one table that the definitions compute.
 -- Made by tests/reference/make_tested.py from the lines of tests/cases.txt that are marked as proved. All of its lines are run by programs.
 use Prim.Native.Nat.{ℕ}
-use mathlib.Core.List.{List, [], _∷_, map}
-use mathlib.Core.Path.{_≡_, refl}
-use Rattle·format·specs.specs.Bits.{bitAt, ub}
-use Rattle·format·specs.specs.Formats.{times}
-use Rattle·format·specs.specs.Items.{readVar, readLE, readText, readFlag, readItem, run}
-use Rattle·format·specs.specs.Bodies.{allFlags, rows, readBlock, readPart, readBody}
-use Rattle·format·specs.specs.FileAndTags.{classOf, eights, walk}
-use Rattle·format·specs.specs.Reasons.{startFault, walkFile, Result, gives, refuses, readFile}
+use mathlib.Core.List.{List, [], ◌∷◌, map}
+use mathlib.Core.Path.{◌≡◌, refl}
+use Rattle.format.specs.Bits.{bit_at, ub}
+use Rattle.format.specs.Formats.{times}
+use Rattle.format.specs.Items.{read_var, read_le, read_text, read_flag, read_item, run}
+use Rattle.format.specs.Bodies.{all_flags, rows, read_block, read_part, read_body}
+use Rattle.format.specs.FileAndTags.{class_of, eights, walk}
+use Rattle.format.specs.Reasons.{start_fault, walk_file, Result, gives, refuses, read_file}
 
 -- a file in an order and at a level, and what it gives
 pub record Test : Type 0 where
@@ -36,8 +36,8 @@ tests =
 """
 
 BOTTOM = """
-pub tested : map (λ (t : Test). readFile (t .order) (t .level) (t .file)) tests ≡ map (λ (t : Test). t .result) tests
-unfolding readFile walkFile startFault classOf walk readBody readPart readBlock allFlags rows run times readItem readVar readLE readText readFlag ub bitAt eights
+pub tested : map (λ (t : Test). read_file t.order t.level t.file) tests ≡ map (λ (t : Test). t.result) tests
+unfolding read_file walk_file start_fault class_of walk read_body read_part read_block all_flags rows run times read_item read_var read_le read_text read_flag ub bit_at eights
 tested = refl
 """
 
