@@ -118,11 +118,11 @@ take_whole (suc k) (w ∷ ws) h =
     let n : 8 * suc k ≡ suc (suc (suc (suc (suc (suc (suc (suc (8 * k)))))))) = omega arith in
     ap (λ (j : ℕ). take j (eight_of w ++ spread ws)) n ∙ ap (λ (r : List ℕ). eight_of w ++ r) (take_whole k ws (omega arith))
 
-take-take : (m n : ℕ) (l : List ℕ) → m ≤ n → take m (take n l) ≡ take m l
-take-take zero n l h = refl
-take-take (suc m) zero l h = absurd (omega arith)
-take-take (suc m) (suc n) [] h = refl
-take-take (suc m) (suc n) (x ∷ l) h = ap (λ (r : List ℕ). x ∷ r) (take-take m n l (omega arith))
+take_take : (m n : ℕ) (l : List ℕ) → m ≤ n → take m (take n l) ≡ take m l
+take_take zero n l h = refl
+take_take (suc m) zero l h = absurd (omega arith)
+take_take (suc m) (suc n) [] h = refl
+take_take (suc m) (suc n) (x ∷ l) h = ap (λ (r : List ℕ). x ∷ r) (take_take m n l (omega arith))
 
 -- what there is no room for is dropped
 sets_room : (out vs : List ℕ) (b m : ℕ) → m ≡ min (length vs) (length out - b) → sets out b vs ≡ sets out b (take m vs)
@@ -214,7 +214,7 @@ module _ (out : List ℕ) (a : ℕ) (vs : List ℕ) where
         unfolding lies
         laid {u} e =
             let b : List ℕ = unpacked (n ∷ ws) in
-            let s : u ≡ sets out a b = e ∙ ap (sets out a) (sym (take-take m n (spread ws) (omega arith))) ∙ sym (sets_room out b a m (room ∙ ap (λ (x : ℕ). min x (length out - a)) (sym is.1))) in
+            let s : u ≡ sets out a b = e ∙ ap (sets out a) (sym (take_take m n (spread ws) (omega arith))) ∙ sym (sets_room out b a m (room ∙ ap (λ (x : ℕ). min x (length out - a)) (sym is.1))) in
             rw (split, is.0, is.1, le-leb (a + n) longest (omega arith), s)
 
         pub all_whole : {u : List ℕ} → m % 8 ≡ 0 → u ≡ sets out a (spread (take (m / 8) ws)) → this (lain u (a + n)) ≡ lies out a (unpacked_as vs)
