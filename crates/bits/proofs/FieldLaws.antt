@@ -12,18 +12,18 @@ use Rattle.format.specs.Bits.{Order, high, low, bit_at, ub, order_named}
 use Rattle.format.specs.FileAndTags.{le64}
 use Rattle.format.specs.WritingItems.{below}
 use Rattle.format.specs.Items.{Num, num, bad, map_num, read_ub, sign_extend, skipped, read_align}
-use Rattle.format.specs.Reading.{shows, stop}
+use Rattle.format.specs.Reading.{Reading, Ending, At, shows, stop}
 use Rattle.format.proofs.BitLaws.{ub_lt, ub_split, ub_within}
 use Rattle.format.proofs.ByteLaws.{ub_byte}
 use Rattle.format.proofs.Absurd.{clash}
-use Rattle.bits.specs.Places.{aligned_at, order_by, order_of, num_of, turned_of, ordered_by, bit_of, with_sign}
+use Rattle.bits.specs.Places.{aligned_as, order_by, order_of, num_of, turned_of, ordered_by, bit_of, with_sign}
 use Rattle.bits.specs.declared.BitPlace.{BitPlace}
 use Rattle.bits.specs.declared.BytePlace.{BytePlace}
 use Rattle.bits.specs.declared.Number.{Number}
 use Rattle.bits.specs.declared.Order.{Order as Code}
-use Rattle.bits.specs.declared.Whole.{Whole}
+use Rattle.bits.specs.declared.whole.Whole.{Whole}
 use Rattle.reasons.specs.declared.Reason.{Reason}
-use Rattle.reasons.specs.declared.Reason.TheVariants.{SkippedBitNotZero, OrderUnknown}
+use Rattle.reasons.specs.declared.Reason.TheVariants.{OrderUnknown}
 use Rattle.reasons.specs.Numbers.{number_of}
 use Rattle.reasons.proofs.NumberLaws.{number_one}
 use Rattle.std.specs.Prelude.{Result, Ok, Err}
@@ -302,32 +302,24 @@ unsigned v z l w = let y : ltb (v + 0) z ≡ true = lt-ltb (v + 0) z (omega arit
 
 -- ---- the next whole byte, where n bits are skipped
 
-pub aligned_clean : (o : Order) (b : List ℕ) (p n : ℕ) {w : Whole} → skipped p ≡ n → ub o b p n ≡ 0 → p + n ≡ w.bit.0 → w.bit.0 ≡ 8 * w.byte.0 → Ok w ≡ aligned_at o b p
-unfolding aligned_at
-aligned_clean o b p n {w} s e f g =
-    let d : w.bit.0 / 8 ≡ w.byte.0 = omega arith in
-    rw (s, e, f, d)
+pub aligned_clean : (o : Order) (b : List ℕ) (p n : ℕ) {q : ℕ} → skipped p ≡ n → ub o b p n ≡ 0 → p + n ≡ q → shows [] q ≡ read_align o b p
+aligned_clean o b p n s e f = rw (s, e, f)
 
-pub aligned_unclean : (o : Order) (b : List ℕ) (p n : ℕ) → skipped p ≡ n → (ub o b p n ≡ 0 → ⊥) → Err SkippedBitNotZero ≡ aligned_at o b p
-unfolding aligned_at
+pub aligned_unclean : (o : Order) (b : List ℕ) (p n : ℕ) → skipped p ≡ n → (ub o b p n ≡ 0 → ⊥) → stop 15 ≡ read_align o b p
 aligned_unclean o b p n s e = rw (s, ne_eqb (ub o b p n) 0 e)
 
--- and as the definitions read it. A place in the bytes stays in them: omega has that from the last three.
+-- and what it tells. A place in the bytes stays in them: omega has that from the last two.
 abbrev pub AlignsTo : Order → List ℕ → ℕ → Result Whole Reason → Type 0
-AlignsTo o b p (Ok w) = (read_align o b p ≡ shows [] w.bit.0) × (w.bit.0 ≡ 8 * w.byte.0) × (p ≤ w.bit.0) × (w.bit.0 < p + 8)
+AlignsTo o b p (Ok w) = (read_align o b p ≡ shows [] w.bit.0) × (p ≤ w.bit.0) × (w.bit.0 < p + 8)
 AlignsTo o b p (Err e) = read_align o b p ≡ stop (number_of e)
 
-pub align_run : (o : Order) (b : List ℕ) (p : ℕ) → AlignsTo o b p (aligned_at o b p)
-unfolding aligned_at
-align_run o b p = go (eqb (ub o b p (skipped p)) 0) refl
+pub align_told : (o : Order) (b : List ℕ) (p : ℕ) (a : Result Whole Reason) → aligned_as a ≡ read_align o b p → AlignsTo o b p a
+align_told o b p (Err e) h = sym h
+align_told o b p (Ok w) h = go (eqb (ub o b p (skipped p)) 0) refl
   where
-    go : (t : Bool) → eqb (ub o b p (skipped p)) 0 ≡ t → AlignsTo o b p (aligned_at o b p)
-    go true t = rw t (rw t, omega arith, omega arith, omega arith)
-    go false t = rw t (rw t)
-
--- by the answer of the code
-pub align_told : (o : Order) (b : List ℕ) (p : ℕ) {a : Result Whole Reason} → a ≡ aligned_at o b p → AlignsTo o b p a
-align_told o b p e = subst (AlignsTo o b p) (sym e) (align_run o b p)
+    go : (t : Bool) → eqb (ub o b p (skipped p)) 0 ≡ t → AlignsTo o b p (Ok w)
+    go true t = let k : w.bit.0 ≡ p + skipped p = let z : At w.bit.0 ≡ At (p + skipped p) = ap (λ (r : Reading). r.ended) (rw t at h) in cc in (sym h, omega arith, omega arith)
+    go false t = let z : At w.bit.0 ≡ Ending.Fault 15 = ap (λ (r : Reading). r.ended) (rw t at h) in clash cc
 
 -- ---- the order that a number names: that of the definitions; any other number is above 1
 abbrev pub Named : ℕ → Result Code Reason → Type 0

@@ -1,16 +1,16 @@
 -- What the functions of this crate answer, in the words of the definitions.
-use Rattle.std.specs.Prelude.{ℕ, ◌+◌, ◌-◌, ◌*◌, ◌/◌, ◌%◌, ◌^◌, ◌<◌, ◌≤◌, List, length, ◌==◌, nat_lt, Result, Ok, Err}
+use Rattle.std.specs.Prelude.{ℕ, ◌+◌, ◌-◌, ◌*◌, ◌/◌, ◌%◌, ◌^◌, ◌<◌, ◌≤◌, List, [], length, ◌==◌, nat_lt, Result, Ok, Err}
 use Rattle.format.specs.Tests.{pick}
 use Rattle.format.specs.Bits as paper
-use Rattle.format.specs.Bits.{ub}
 use Rattle.format.specs.WritingItems.{below}
-use Rattle.format.specs.Items.{Num, num, bad, skipped, to_byte}
+use Rattle.format.specs.Items.{Num, num, bad}
+use Rattle.format.specs.Reading.{Reading, shows, stop}
 use Rattle.bits.specs.declared.Order.{Order}
 use Rattle.bits.specs.declared.Order.TheVariants.{HighFirst, LowFirst}
 use Rattle.bits.specs.declared.Number.{Number}
-use Rattle.bits.specs.declared.Whole.{Whole}
+use Rattle.bits.specs.declared.whole.Whole.{Whole}
 use Rattle.reasons.specs.declared.Reason.{Reason}
-use Rattle.reasons.specs.declared.Reason.TheVariants.{SkippedBitNotZero, OrderUnknown}
+use Rattle.reasons.specs.declared.Reason.TheVariants.{OrderUnknown}
 use Rattle.reasons.specs.Numbers.{number_of}
 
 abbrev pub order_of : Order → paper.Order
@@ -48,9 +48,10 @@ with_sign z h v = pick (nat_lt (v + h) z) v (v + (2 ^ 64 - z))
 abbrev pub PlaceIn : List ℕ → ℕ → Type 0
 PlaceIn b p = (p ≤ 8 * length b) × (length b < 2 ^ 60)
 
--- the whole byte at or after the bit place p, in both counts, if the skipped bits are zero
-unfoldable pub aligned_at : paper.Order → List ℕ → ℕ → Result Whole Reason
-aligned_at o b p = pick (ub o b p (skipped p) == 0) (Ok (record { byte = record { 0 = to_byte (p + skipped p) }; bit = record { 0 = p + skipped p } })) (Err SkippedBitNotZero)
+-- an answer of `align` as the definitions have it
+abbrev pub aligned_as : Result Whole Reason → Reading
+aligned_as (Ok w) = shows [] w.bit.0
+aligned_as (Err e) = stop (number_of e)
 
 -- an answer of the code as the definitions have it
 abbrev pub num_of : Result Number Reason → Num

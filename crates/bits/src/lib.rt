@@ -2,12 +2,14 @@
 #![tactic(auto)]
 
 ghost use Rattle.std.specs.Prelude.{◌≡◌, ◌+◌, ◌*◌, ◌^◌, ◌<◌, slice_index};
-ghost use Rattle.format.specs.Items.{skipped};
-ghost use Rattle.bits.specs.Places.{PlaceIn, aligned_at, order_by, order_of};
+ghost use Rattle.format.specs.Items.{skipped, read_align};
+ghost use Rattle.bits.specs.Places.{PlaceIn, aligned_as, order_by, order_of};
 
 pub mod fields;
+mod whole;
 
 use reasons::Reason;
+pub use whole::Whole;
 
 // In which order bits are taken from a byte and joined to a field: from the highest on, or from the lowest.
 #[derive(Clone, Copy, Debug, PartialEq, Eq)]
@@ -23,13 +25,6 @@ pub struct BitPlace(pub usize);
 
 #[derive(Clone, Copy, Debug, PartialEq, Eq)]
 pub struct BytePlace(pub usize);
-
-// A whole byte, in both counts.
-#[derive(Clone, Copy, Debug, PartialEq, Eq)]
-pub struct Whole {
-    pub byte: BytePlace,
-    pub bit: BitPlace,
-}
 
 // A number and the place after it.
 #[derive(Clone, Copy, Debug, PartialEq, Eq)]
@@ -66,7 +61,7 @@ pub fn byte_at(bytes: &[u8], i: usize) -> u64
 // The whole byte at or after a bit place.
 pub fn next_byte(at: BitPlace) -> Whole
     requires { at.0 < 2 ^ 63 }
-    ensures { (result.bit.0 ≡ at.0 + skipped at.0) × (result.bit.0 ≡ 8 * result.byte.0) }
+    ensures { result.bit.0 ≡ at.0 + skipped at.0 }
 {
     let place = at.0;
     let byte = place / 8;
@@ -94,7 +89,7 @@ pub fn first_bit(at: BytePlace) -> BitPlace
 // The next whole byte: the bits up to it are skipped, and zero (15).
 pub fn align(order: Order, bytes: &[u8], at: BitPlace) -> Result<Whole, Reason>
     requires { PlaceIn bytes.now at.0 }
-    ensures { result ≡ aligned_at (order_of order) bytes.now at.0 }
+    ensures { aligned_as result ≡ read_align (order_of order) bytes.now at.0 }
 {
     let place = at.0;
     let used = place % 8;
