@@ -2,6 +2,8 @@
 use Rattle.std.proofs.Common.{◌≡◌, ℕ, ◌+◌, ◌-◌, ◌<◌, ◌≤◌, List, sym, refl, ap, ◌∙◌, ap₂, arith}
 use Rattle.std.specs.Prelude.{Result, Ok, Err, IsErr}
 use Rattle.format.specs.Formats.{Format, nothing, ◌▹◌, ◌▸◌, times, the}
+use Rattle.format.specs.Bits as paper
+use Rattle.format.specs.Items.{run}
 use Rattle.format.specs.Possible.{Possible, cannot}
 use Rattle.bits.specs.Places.{order_of}
 use Rattle.bits.specs.declared.Order.{Order}
@@ -9,6 +11,7 @@ use Rattle.sink.specs.declared.Impossible.{Impossible}
 use Rattle.spelling.specs.declared.writer.Writer.{Writer}
 use Rattle.spelling.specs.Writing.{Seen, ran}
 use Rattle.spelling.specs.Writer.{state, seen_of, Onward, Writes, used}
+use Rattle.spelling.proofs.AlikeLaws.{ran_alike}
 use Rattle.spelling.proofs.RunLaws.{resume, ran_then, ran_nothing, times_more, times_over}
 
 -- where the code answers that no file has the values
@@ -84,6 +87,17 @@ module _ {T : Type 0} {a b : Writer} {r : Result T Impossible} {f : Format} (w :
   -- by the one number that it used up
   pub number_then : {U : Type 0} {c : Writer} {q : Result U Impossible} (g : ℕ → Format) {n : ℕ} {x : T} → r ≡ Ok x → n ≡ the (used a b) → Writes b c q (g n) → Writes a c q (f ▹ λ ns. g (the ns))
   number_then g e is v = writes_then (λ ns. g (the ns)) e (let z = v in rw is at z)
+
+-- the same format by another name; and one that is read alike
+pub writes_is : {T : Type 0} {a b : Writer} {r : Result T Impossible} {f g : Format} → f ≡ g → Writes a b r f → Writes a b r g
+writes_is {a = a} e w = record { onward = w.onward; told = w.told ∙ ap (ran (order_of a.order) a.values.now (state a) a.index) e }
+
+pub writes_alike : {T : Type 0} {a b : Writer} {r : Result T Impossible} (f g : Format) → ((o : paper.Order) (b : List ℕ) (p : ℕ) → run o b f p ≡ run o b g p) → Writes a b r f → Writes a b r g
+writes_alike {a = a} f g alike w = record { onward = w.onward; told = w.told ∙ ran_alike (order_of a.order) a.values.now (state a) a.index f g (alike (order_of a.order)) }
+
+-- nothing is written
+pub writes_nothing : {T : Type 0} (a : Writer) (x : T) → Writes a a (Ok x) nothing
+writes_nothing a x = going_over x (going_none a nothing) refl
 
 -- ---- a loop that writes the format f part by part
 module _ {T : Type 0} {a b c : Writer} {r : Result T Impossible} {f g part rest : Format} (p : Going a b f g) (is : g ≡ part ▸ rest) (w : Writes b c r part) where

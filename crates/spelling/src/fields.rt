@@ -86,7 +86,8 @@ fn gather_fields(order: Order, width: usize, numbers: &[u64], out: &mut [u8], si
     for value in numbers {
         waiting = sink::glue(order, waiting, held, *value % size, width);
         held += width;
-        if 32 <= held {
+        let full = 32 <= held;
+        if full {
             held -= 32;
             let (word, rest) = sink::split(order, waiting, 32, held);
             sink::put_word(order, out, byte, word);

@@ -5,10 +5,12 @@ ghost use Rattle.std.specs.Prelude.{◌≡◌, ◌+◌, ◌*◌, ◌^◌, ◌%�
 ghost use Rattle.items.specs.Kinds.{format_of};
 ghost use Rattle.items.specs.declared.Item.TheVariants.{Count};
 ghost use Rattle.format.specs.Bodies.{aligned};
+ghost use Rattle.format.specs.Items.{skipped};
 ghost use Rattle.format.specs.Possible.{this};
+ghost use Rattle.format.specs.WritingItems.{dig};
 ghost use Rattle.bits.specs.Places.{InEither, order_of};
 ghost use Rattle.sink.specs.Lain.{lain_as};
-ghost use Rattle.sink.specs.Laying.{mk, at as under, Holds};
+ghost use Rattle.sink.specs.Laying.{mk, at as under, lay, Holds};
 ghost use Rattle.spelling.specs.Ends.{concluded};
 ghost use Rattle.spelling.specs.Spellings.{Numbered, written_to};
 ghost use Rattle.spelling.specs.Writing.{here, ends, ran, limit, Fine};
@@ -109,6 +111,8 @@ impl Writer<'_> {
     // Zero bits up to the next whole byte.
     pub fn skip(&mut self)
         ensures writes { Writes self.old self.new done aligned }
+        ensures laid { state self.new ≡ lay (order_of self.old.order) (state self.old) (dig (order_of self.old.order) (skipped self.old.sink.place.0) 0) }
+        ensures placed { self.new.index ≡ self.old.index }
     {
         let start = sink::align(self.order, self.out, self.sink);
         self.sink = Sink {
