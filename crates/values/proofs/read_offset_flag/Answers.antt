@@ -9,7 +9,7 @@ use Rattle.values.proofs.read_offset_flag.Goals as goal
 
 pub returns-in_err-exist : goal.returns-in_err-exist
 returns-in_err-exist c = let a = c.args.reader.now in
-    reads_never_then (λ exist. times (the exist) (item (Item.UB 1))) (passed_on c.from_residual.result c.from_residual.ensures.1) (ub_stop (order_of a.order) a.body.now a.place.0 1 c.in_err-exist.ensures)
+    reads_never_then _ (passed_on c.from_residual.result c.from_residual.ensures.1) (ub_stop (order_of a.order) a.body.now a.place.0 1 c.in_err-exist.ensures)
 
 pub fields-requires : goal.fields-requires
 fields-requires c = let a = c.args.reader.now in let k = ub_behind (order_of a.order) a.body.now a.place.0 1 (lit≤ tt) c.in_ok-exist.ensures in
@@ -17,8 +17,8 @@ fields-requires c = let a = c.args.reader.now in let k = ub_behind (order_of a.o
 
 pub returns-in_err-fields : goal.returns-in_err-fields
 returns-in_err-fields c = let a = c.args.reader.now in let k = ub_behind (order_of a.order) a.body.now a.place.0 1 (lit≤ tt) c.in_ok-exist.ensures in
-    reads_first (λ exist. times (the exist) (item (Item.UB 1))) c.requires k.0 c.show.ensures (ub_one (order_of a.order) a.body.now a.place.0 1 c.in_ok-exist.ensures) (reads_err c.in_err-fields.was (passed_on c.from_residual-in_err-fields.result c.from_residual-in_err-fields.ensures.1) c.fields.ensures.reads)
+    reads_first _ c.requires k.0 c.show.ensures (ub_one (order_of a.order) a.body.now a.place.0 1 c.in_ok-exist.ensures) (reads_err c.in_err-fields.was (passed_on c.from_residual-in_err-fields.result c.from_residual-in_err-fields.ensures.1) c.fields.ensures.reads)
 
 pub returns : goal.returns
 returns c = let a = c.args.reader.now in let k = ub_behind (order_of a.order) a.body.now a.place.0 1 (lit≤ tt) c.in_ok-exist.ensures in
-    reads_first (λ exist. times (the exist) (item (Item.UB 1))) c.requires k.0 c.show.ensures (ub_one (order_of a.order) a.body.now a.place.0 1 c.in_ok-exist.ensures) (reads_ok c.in_ok-fields.was c.fields.ensures.reads)
+    reads_first _ c.requires k.0 c.show.ensures (ub_one (order_of a.order) a.body.now a.place.0 1 c.in_ok-exist.ensures) (reads_ok c.in_ok-fields.was c.fields.ensures.reads)
