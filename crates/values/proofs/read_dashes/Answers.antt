@@ -8,9 +8,6 @@ use Rattle.values.specs.Parts.{offset_flag}
 use Rattle.values.proofs.ValueLaws.{dash_one, dash_stop, ub_behind}
 use Rattle.values.proofs.read_dashes.Goals as goal
 
-pub returns-in_err-align : goal.returns-in_err-align
-returns-in_err-align c = reads_stop _ c.align.ensures c.in_err-align.was (passed_on c.from_residual.result c.from_residual.ensures.1)
-
 pub returns-in_err-length : goal.returns-in_err-length
 returns-in_err-length c = let a = c.align.new.self in
     reads_then _ c.align.ensures c.in_ok-align.was
