@@ -1,1 +1,2 @@
+pub mod GoingLaws
 pub mod FixedLaws
