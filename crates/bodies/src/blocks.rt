@@ -7,7 +7,7 @@ ghost use Rattle.table.specs.Readers.{Reads};
 ghost use Rattle.attributes.specs.Rows.{attribute_of, attributes_in};
 ghost use Rattle.attributes.specs.Flags.{flags_as, FlagsRead};
 ghost use Rattle.bits.specs.Places.{order_of};
-ghost use Rattle.bodies.specs.Shown.{Lays};
+ghost use Rattle.bodies.specs.Shown.{Starts, Lays};
 
 use attributes::{Attribute, Content};
 use bits::Number;
@@ -37,7 +37,8 @@ fn read_attribute(reader: &mut Reader<'_>, row: Attribute, flag: u64) -> Result<
 
 // The attributes of these rows, in order, with the flag numbers that were read for them.
 pub fn read_contents(reader: &mut Reader<'_>, rows: &[Attribute], numbers: u64) -> Result<(), Reason>
-    requires { (length rows.now ≤ 12) × (reader.old.index + 12 ≤ reader.old.place.0 + 2 ^ 62) }
+    requires few { length rows.now ≤ 12 }
+    requires room { reader.old.index + 12 ≤ reader.old.place.0 + 2 ^ 62 }
     ensures { Reads reader.old reader.new result (rows_of (attributes_in rows.now) (take (length rows.now) (flags_as numbers))) }
 {
     let mut flags = numbers;
@@ -50,7 +51,8 @@ pub fn read_contents(reader: &mut Reader<'_>, rows: &[Attribute], numbers: u64) 
 
 // An attribute block, which stands at the start of a body. Its flags are told.
 pub(crate) fn read_block(reader: &mut Reader<'_>, rows: &[Attribute]) -> Result<Number, Reason>
-    requires { (length rows.now ≤ 12) × (reader.old.place.0 ≡ 0) × (reader.old.index + 12 ≤ 2 ^ 62) }
+    requires few { length rows.now ≤ 12 }
+    requires starts { Starts reader.old }
     ensures lays { Lays reader.old reader.new result (read_block (order_of reader.old.order) reader.old.body.now (attributes_in rows.now) 0) }
     ensures flags { IfOk result (λ flags. FlagsRead (length rows.now) (run (order_of reader.old.order) reader.old.body.now (all_flags (attributes_in rows.now)) 0) (Ok flags)) }
 {
