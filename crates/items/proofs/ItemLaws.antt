@@ -190,7 +190,7 @@ item_time o b p (Ok n) skip bytes = item_in o b p Time skip bytes refl
 item_time o b p (Err e) skip bytes = item_bad o b p Time skip bytes
 
 -- from a whole byte on nothing is skipped
-whole_skips : (o : Order) (b : List ℕ) (i p : ℕ) → p ≡ 8 * i → read_align o b p ≡ shows [] p
+pub whole_skips : (o : Order) (b : List ℕ) (i p : ℕ) → p ≡ 8 * i → read_align o b p ≡ shows [] p
 unfolding ub
 whole_skips o b i p at = let z : skipped p ≡ 0 = omega arith in rw (z, add-zero p)
 

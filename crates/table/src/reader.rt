@@ -1,5 +1,5 @@
 // A body that is read into the lent table.
-ghost use Rattle.table.specs.Fields.{Fits};
+ghost use Rattle.bits.specs.Places.{PlaceIn};
 
 use bits::{BitPlace, Order};
 
@@ -12,6 +12,6 @@ pub struct Reader<'a> {
     pub place: BitPlace,
     pub table: &'a mut [u64],
     pub index: usize,
-    // The place is in the bytes, and a number was stored for each bit at most: no index wraps.
-    pub ghost fits: { Fits body.now place.0 index },
+    // The place is in the bytes or at their end.
+    pub ghost inside: { PlaceIn body.now place.0 },
 }

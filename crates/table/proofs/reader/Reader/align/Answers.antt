@@ -1,5 +1,6 @@
 -- `table::Reader::align` meets its contract: nothing is shown, and the place is the next whole byte's.
-use Rattle.std.proofs.Common.{refl, sym, ◌∙◌}
+use Rattle.std.proofs.Common.{refl, sym, ◌∙◌, Ok}
+use Rattle.bits.proofs.FieldLaws.{align_told}
 use Rattle.bits.specs.Places.{order_of}
 use Rattle.reasons.proofs.NumberLaws.{passed_on}
 use Rattle.table.proofs.ReaderLaws.{reads_none, reads_never, same_refl, align_is}
@@ -11,4 +12,5 @@ returns-in_err-start c = let a = c.args.self.now in
 
 pub returns : goal.returns
 returns c = let a = c.args.self.now in
-    reads_none (record { order = refl; body = refl; lent = refl }) refl refl (align_is (order_of a.order) a.body.now a.place.0 ∙ sym c.in_ok-start.ensures)
+    let h = align_told (order_of a.order) a.body.now a.place.0 (Ok c.in_ok-start.start) c.in_ok-start.ensures in
+    reads_none c.requires h.1 (record { order = refl; body = refl; lent = refl }) refl refl (align_is (order_of a.order) a.body.now a.place.0 ∙ sym c.in_ok-start.ensures)

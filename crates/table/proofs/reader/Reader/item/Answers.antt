@@ -12,10 +12,12 @@ returns-in_err-number-clause-reads c = reads_never (passed_on c.from_residual.re
 
 pub show-requires : goal.show-requires
 show-requires c = let a = c.args.self.now in
-    one_behind (order_of a.order) a.body.now (format_of c.args.kind) (fair_kind (order_of a.order) c.args.kind) a.fits.0 (sym c.in_ok-number.ensures)
+    let h = one_behind (order_of a.order) a.body.now (format_of c.args.kind) (fair_kind (order_of a.order) c.args.kind) a.inside (sym c.in_ok-number.ensures) in (c.requires, h.0, h.1)
 
 pub returns-clause-reads : goal.returns-clause-reads
-returns-clause-reads c = reads_one c.show.ensures (sym c.in_ok-number.ensures)
+returns-clause-reads c = let a = c.args.self.now in
+    let h = one_behind (order_of a.order) a.body.now (format_of c.args.kind) (fair_kind (order_of a.order) c.args.kind) a.inside (sym c.in_ok-number.ensures) in
+    reads_one c.requires h.0 c.show.ensures (sym c.in_ok-number.ensures)
 
 pub returns-clause-shown : goal.returns-clause-shown
 returns-clause-shown c = ap (λ (r : Reading). r.shown) (sym c.in_ok-number.ensures)
