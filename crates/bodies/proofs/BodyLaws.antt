@@ -1,18 +1,18 @@
 -- Whole bodies: their items, the skipped bits at their end, and what may follow.
-use Prim.Native.Nat.{ℕ, ◌+◌, ◌*◌, ◌/◌, ◌%◌, ◌^◌, ◌≤◌, ◌<◌}
+use Prim.Native.Nat.{ℕ, ◌+◌, ◌*◌, ◌/◌, ◌%◌}
 use mathlib.Core.List.{List, [], ◌++◌, append-nil}
 use mathlib.Core.Bool.{Bool, true, false}
 use mathlib.Core.Path.{◌≡◌, refl, ap, ap₂, sym, subst, ◌∙◌}
 use native.Mathlib.Omega.{arith}
 use lib.ListN.{length, get_or, take}
-use lib.Seq.{sets, get_or-take}
+use lib.Seq.{get_or-take}
 use lib.Dec.{eqb}
-use borrow.Author.Tests.{eq-eqb, ne_eqb, eqb-true, eqb-false}
+use borrow.Author.Tests.{eq-eqb, ne_eqb}
 use Rattle.std.proofs.Common.{Result, Ok, Err, Option, Some, None}
 use Rattle.format.specs.Tests.{pick}
 use Rattle.format.specs.Bits.{Order as PaperOrder, ub}
 use Rattle.format.specs.Reading.{Ending, At, Fault, Reading, shows, stop, follow}
-use Rattle.format.specs.Formats.{Item, Format, item}
+use Rattle.format.specs.Formats.{Format}
 use Rattle.format.specs.Items.{skipped, read_align, run}
 use Rattle.format.specs.Bodies.{Attribute, Body, all_flags, read_block, read_part, to_end, used_up, read_body}
 use Rattle.format.proofs.Absurd.{clash}
@@ -27,8 +27,8 @@ use Rattle.bits.specs.declared.Order.{Order}
 use Rattle.table.specs.State.{State, shown_over}
 use Rattle.table.specs.Readers.{Reads, Same, state_of}
 use Rattle.table.specs.declared.reader.Reader.{Reader}
-use Rattle.table.proofs.EngineLaws.{state, resume, after_follow}
-use Rattle.table.proofs.ReaderLaws.{reading, same_then, align_is}
+use Rattle.table.proofs.EngineLaws.{state, resume, after_follow, after_none, one_stopped}
+use Rattle.table.proofs.ReaderLaws.{reading, same_refl, same_then}
 use Rattle.attributes.specs.Rows.{attributes_of}
 use Rattle.attributes.specs.Flags.{flags_as, FlagsRead}
 use Rattle.attributes.proofs.FlagLaws.{digit_at}
@@ -69,6 +69,13 @@ module _ {A : Type 0} {a b : Reader} {r : Result A Reason} where
         left = ap (state_of b) d ∙ ap (λ (s : State). resume s.table s.count s.ended (g R.shown)) (ap (state_of b) (sym e) ∙ h.left) ∙ sym (after_follow a.table.now a.index R.shown R.ended g);
       }
 
+-- nothing was shown, and the place is the next; or it was refused
+pub lays_none : {A : Type 0} {a b : Reader} {x : A} {R : Reading} → Same a b → b.table.now ≡ a.table.now → b.index ≡ a.index → R ≡ shows [] b.place.0 → Lays a b (Ok x) R
+lays_none {a = a} {b = b} h t i e = record { same = h; left = ap₂ (λ (u : List ℕ) (j : ℕ). state u j (At b.place.0)) t i ∙ sym (ap (shown_over a.table.now a.index) e ∙ after_none a.table.now a.index b.place.0) }
+
+pub lays_never : {A : Type 0} {a : Reader} {r : Result A Reason} {e : Reason} {R : Reading} → r ≡ Err e → R ≡ stop (number_of e) → Lays a a r R
+lays_never {a = a} d h = record { same = same_refl a; left = ap (state_of a) d ∙ one_stopped a.table.now a.index h }
+
 -- ---- the items, by the code
 module _ {A : Type 0} {a b : Reader} {r : Result A Reason} (code : ℕ) {block : Bool} where
   pub part_block : {attrs : List Attribute} → block ≡ true → attrs ≡ attributes_of code → Lays a b r (read_block (order_of a.order) a.body.now attrs 0) → Lays a b r (read_part (order_of a.order) a.body.now (body_by block code) 0)
@@ -107,14 +114,14 @@ judged_over t k n xs (At p) = refl
 judged_over t k n xs (Fault e) = refl
 
 -- the next whole byte is the end of the body; or it is not; or there was none
-module _ {a b : Reader} {r : Result BytePlace Reason} (h : Reads a b r (item Item.align)) where
+module _ {a b : Reader} {r : Result BytePlace Reason} (h : Lays a b r (read_align (order_of a.order) a.body.now a.place.0)) where
   abbrev end_here : Reading
   end_here = end_at (order_of a.order) a.body.now a.place.0
 
   ends : {s : Result Unit Reason} → state_of b s ≡ state b.table.now b.index (judged (8 * length a.body.now) (state_of b r).ended) → Lays a b s end_here
   ends e = record {
     same = h.same;
-    left = e ∙ ap (λ (s : State). state s.table s.count (judged (8 * length a.body.now) s.ended)) (lays_as (align_is (order_of a.order) a.body.now a.place.0) (reads_lays h)).left
+    left = e ∙ ap (λ (s : State). state s.table s.count (judged (8 * length a.body.now) s.ended)) h.left
         ∙ sym (judged_over a.table.now a.index (8 * length a.body.now) (read_align (order_of a.order) a.body.now a.place.0).shown (read_align (order_of a.order) a.body.now a.place.0).ended);
   }
 
@@ -137,9 +144,9 @@ module _ {A : Type 0} {a b : Reader} {r : Result A Reason} (y : Body) (h : Lays 
   abbrev pub either : Bool → Reading
   either list = pick list (to_end o a.body.now y) (read_body o y a.body.now)
 
-  pub open_lays : {B : Type 0} {s : Result B Reason} {c : Reader} {x : A} → r ≡ Ok x → Reads b c s (item Item.align) → Lays a c s (to_end o a.body.now y)
+  pub open_lays : {B : Type 0} {s : Result B Reason} {c : Reader} {x : A} → r ≡ Ok x → Lays b c s (read_align (order_of b.order) b.body.now b.place.0) → Lays a c s (to_end o a.body.now y)
   open_lays e k = then_lays h (λ xs p. read_align o a.body.now p) e
-      (lays_as (align_is (order_of b.order) b.body.now b.place.0 ∙ ap₂ (λ (u : Order) (z : List ℕ). read_align (order_of u) z b.place.0) h.same.order h.same.body) (reads_lays k))
+      (lays_as (ap₂ (λ (u : Order) (z : List ℕ). read_align (order_of u) z b.place.0) h.same.order h.same.body) k)
 
   pub leaf_lays : {B : Type 0} {s : Result B Reason} {c : Reader} {x : A} → r ≡ Ok x → Lays b c s (end_at (order_of b.order) b.body.now b.place.0) → Lays a c s (read_body o y a.body.now)
   leaf_lays e k = lays_as (sym (body_is o a.body.now y))
@@ -155,7 +162,7 @@ module _ {A : Type 0} {a b : Reader} {r : Result A Reason} (y : Body) (h : Lays 
   part_stop list e d = record { lays = either_stop list e d; opened = rw d tt }
 
   module _ {x : A} (e : r ≡ Ok x) {list : Bool} where
-    module _ {c : Reader} {s : Result BytePlace Reason} (is : list ≡ true) (k : Reads b c s (item Item.align)) where
+    module _ {c : Reader} {s : Result BytePlace Reason} (is : list ≡ true) (k : Lays b c s (read_align (order_of b.order) b.body.now b.place.0)) where
       pub open_shows : {q : BytePlace} → s ≡ Ok q → c.place.0 ≡ 8 * q.0 → Shows a c (Ok (Some q)) (either list) list
       open_shows {q} z at = rw is (record { lays = lays_ok (open_lays e k) (Some q) z; opened = (refl, at) })
 

@@ -1,5 +1,5 @@
 -- Attribute blocks: an attribute's content by its kind and flag number, and the rows of a block one after the other.
-use Prim.Native.Nat.{ℕ, zero, suc, ◌+◌, ◌-◌, ◌*◌, ◌^◌, ◌≤◌, ◌<◌}
+use Prim.Native.Nat.{ℕ, suc, ◌+◌, ◌-◌, ◌*◌, ◌^◌, ◌≤◌, ◌<◌}
 use mathlib.Core.List.{List, [], ◌∷◌}
 use mathlib.Core.Path.{◌≡◌, refl, ap, ap₂, sym, ◌∙◌}
 use native.Mathlib.Numerals.{add-one}
@@ -21,20 +21,18 @@ use Rattle.bits.specs.Places.{order_of}
 use Rattle.bits.specs.declared.BitPlace.{BitPlace}
 use Rattle.bits.specs.declared.Number.{Number}
 use Rattle.table.specs.State.{State, shown_over}
-use Rattle.table.specs.Readers.{Reads, Same, state_of}
+use Rattle.table.specs.Readers.{Reads, Room, Same, state_of}
 use Rattle.table.specs.declared.reader.Reader.{Reader}
-use Rattle.table.proofs.EngineLaws.{Alike, after_stop, alike_assoc}
-use Rattle.table.proofs.ReaderLaws.{reading, reads_as, reads_then, reads_one, reads_none, same_refl, same_then}
+use Rattle.table.proofs.EngineLaws.{state, one_stored, after_stop, alike_assoc}
+use Rattle.table.proofs.ReaderLaws.{reading, reads_as, reads_then, same_refl, same_then, OnWay, on_start, on_next, on_stop, on_done}
 use Rattle.attributes.specs.Rows.{attribute_of, attributes_in}
 use Rattle.attributes.specs.declared.Attribute.{Attribute}
 use Rattle.attributes.proofs.FlagLaws.{row_at, rows_next, rows_none}
-use Rattle.fixed.proofs.GoingLaws.{Going, going_next, going_stop}
 use Rattle.bodies.specs.Shown.{Lays}
 
 -- ---- a content: none, so nothing was read and nothing stored; or what stands of it was read
-pub content_none : {a : Reader} (f : Format) → f ≡ nothing → Reads a a (Ok (tt {0})) f
-unfolding run
-content_none {a} f e = reads_none (same_refl a) refl refl (rw e)
+pub content_none : {a : Reader} (f : Format) → Room a → f ≡ nothing → Reads a a (Ok (tt {0})) f
+content_none f z e = on_done (on_start z refl) e
 
 pub content_is : {a b : Reader} {r : Result Unit Reason} (f g : Format) → g ≡ f → Reads a b r f → Reads a b r g
 content_is {a} f g e = reads_as (ap (reading a) (sym e))
@@ -52,13 +50,16 @@ fair_row : (o : Order) (a : bodies.Attribute) (φ : ℕ) → Fair o 1 (row_of a 
 fair_row o a φ = fair_then o 1 0 (item (Item.echo φ)) (λ xs. content a φ) (fair_echo o φ) (λ b p q e. fair_content o a.kind a.data_type φ)
 
 -- an attribute: its flag number was stored, and its content was read from there
-pub attribute_read : {a b c : Reader} {r : Result Unit Reason} (d : bodies.Attribute) (φ : ℕ) → Same a b → b.table.now ≡ set a.table.now a.index φ → b.index ≡ a.index + 1 → b.place ≡ a.place
+pub attribute_read : {a b c : Reader} {r : Result Unit Reason} (d : bodies.Attribute) (φ : ℕ) → Room b → Same a b → b.table.now ≡ set a.table.now a.index φ → b.index ≡ a.index + 1 → b.place ≡ a.place
     → Reads b c r (content d φ) → Reads a c r (row_of d φ)
-attribute_read {a} {b} d φ h t i p k =
-    reads_then (λ ns. content d φ) (shown_echo h t i p) refl k
+attribute_read {a} {b} d φ z h t i p k = reads_then (λ ns. content d φ) echo refl k
   where
-    shown_echo : Same a b → b.table.now ≡ set a.table.now a.index φ → b.index ≡ a.index + 1 → b.place ≡ a.place → Reads a b (Ok (tt {0})) (item (Item.echo φ))
-    shown_echo h t i p = reads_one {n = record { value = φ; next = b.place }} (record { same = h; table = t; index = i; place = refl }) (echo_one (order_of a.order) a.body.now a.place.0 φ ∙ ap (λ (q : BitPlace). shows (φ ∷ []) q.0) (sym p))
+    echo : Reads {A = Unit {0}} a b (Ok (tt {0})) (item (Item.echo φ))
+    echo = record {
+      same = h;
+      left = ap₂ (λ (j q : ℕ). state b.table.now j (At q)) i (ap (λ (q : BitPlace). q.0) p) ∙ one_stored a.table.now a.index (echo_one (order_of a.order) a.body.now a.place.0 φ) t;
+      room = z;
+    }
 
 -- m numbers may be stored for nothing; a row uses one of these
 row_room : {a b : Reader} {r : Result Unit Reason} {x : Unit} (d : bodies.Attribute) (φ m : ℕ) → Reads a b r (row_of d φ) → r ≡ Ok x → a.index + suc m ≤ a.place.0 + 2 ^ 62 → b.index + m ≤ b.place.0 + 2 ^ 62
@@ -66,7 +67,7 @@ unfolding shown_over
 row_room {a} {b} d φ m h e l =
     let s : state_of b (Ok (tt {0})) ≡ shown_over a.table.now a.index (reading a (row_of d φ)) = ap (state_of b) (sym e) ∙ h.left in
     let z : (reading a (row_of d φ)).ended ≡ At b.place.0 = ap (λ (s : State). s.ended) (sym s) in
-    let n : FairEnd 1 (8 * length a.body.now) a.place.0 (length (reading a (row_of d φ)).shown) (At b.place.0) = rw z at (fair_row (order_of a.order) d φ a.body.now a.place.0 a.fits.0.0) in
+    let n : FairEnd 1 (8 * length a.body.now) a.place.0 (length (reading a (row_of d φ)).shown) (At b.place.0) = rw z at (fair_row (order_of a.order) d φ a.body.now a.place.0 a.inside.0) in
     let c : b.index ≡ a.index + length (reading a (row_of d φ)).shown = ap (λ (s : State). s.count) s in
     omega (arith, n, c, l)
 
@@ -75,35 +76,42 @@ module _ (a : Reader) (block : List Attribute) (flags : List ℕ) where
   abbrev rows_at : ℕ → Format
   rows_at i = rows (attributes_in (drop i block)) (slice i (length block) flags)
 
+  abbrev whole : Format
+  whole = rows (attributes_in block) (take (length block) flags)
+
   pub record RowsGoing (b : Reader) (i : ℕ) : Type 0 where
-    pub going : Going a (rows (attributes_in block) (take (length block) flags)) b (rows_at i)
+    pub way : OnWay a b whole (rows_at i)
     pub room : b.index + (length block - i) ≤ b.place.0 + 2 ^ 62
 
   -- the row here has the flag number φ
   module _ {b c : Reader} {i φ : ℕ} {r : Result Unit Reason} (some : i < length block) (lent : length block ≤ length flags) (flag : φ ≡ get_or flags i 0) (g : RowsGoing b i)
       (ran : Reads b c r (row_of (attribute_of (row_at block i)) φ)) where
-    rows_here : Alike (rows_at i) (row_of (attribute_of (row_at block i)) φ ▸ rows_at (i + 1))
+    rows_here : OnWay a b whole (row_of (attribute_of (row_at block i)) φ ▸ rows_at (i + 1))
     unfolding rows
-    rows_here o s p =
+    rows_here =
         let f : slice i (length block) flags ≡ φ ∷ slice (i + 1) (length block) flags = slice-cons i (length block) flags 0 some lent ∙ rw (flag, add-one i) in
-        ap₂ (λ (l : List bodies.Attribute) (φs : List ℕ). run o s (rows l φs) p) (rows_next block some) f
-        ∙ sym (alike_assoc (item (Item.echo φ)) (content (attribute_of (row_at block i)) φ) (rows_at (i + 1)) o s p)
+        record {
+          same = g.way.same;
+          room = g.way.room;
+          left = g.way.left ∙ ap₂ (λ (l : List bodies.Attribute) (φs : List ℕ). shown_over b.table.now b.index (reading b (rows l φs))) (rows_next block some) f
+              ∙ ap (shown_over b.table.now b.index) (sym (alike_assoc (item (Item.echo φ)) (content (attribute_of (row_at block i)) φ) (rows_at (i + 1)) (order_of b.order) b.body.now b.place.0));
+        }
 
     pub rows_next_row : {x : Unit} → r ≡ Ok x → RowsGoing c (i + 1)
     rows_next_row e = record {
-      going = going_next (rows_at (i + 1)) g.going rows_here ran e;
+      way = on_next rows_here refl ran e;
       room = row_room (attribute_of (row_at block i)) φ (length block - (i + 1)) ran e (omega (arith, g.room));
     }
 
-    pub rows_stop : {s : Result Unit Reason} {e : Reason} → r ≡ Err e → s ≡ Err e → Reads a c s (rows (attributes_in block) (take (length block) flags))
-    rows_stop e d = going_stop (rows_at (i + 1)) g.going rows_here ran e d
+    pub rows_stop : {s : Result Unit Reason} {e : Reason} → r ≡ Err e → s ≡ Err e → Reads a c s whole
+    rows_stop e d = on_stop rows_here refl ran e d
 
-  pub rows_done : {b : Reader} {i : ℕ} → length block ≤ i → RowsGoing b i → Reads a b (Ok (tt {0})) (rows (attributes_in block) (take (length block) flags))
-  unfolding run rows
-  rows_done {b} {i} h g = g.going.on (rw (rows_none block i h) (reads_none (same_refl b) refl refl refl))
+  pub rows_done : {b : Reader} {i : ℕ} → length block ≤ i → RowsGoing b i → Reads a b (Ok (tt {0})) whole
+  unfolding rows
+  rows_done {b} {i} h g = on_done g.way (rw (rows_none block i h))
 
   pub rows_start : length block ≤ 12 → a.index + 12 ≤ a.place.0 + 2 ^ 62 → RowsGoing a 0
-  rows_start few h = record { going = record { on = λ k. k }; room = omega arith }
+  rows_start few h = record { way = on_start (omega (arith, h)) refl; room = omega arith }
 
 -- ---- a block: its flags, and then its rows
 module _ {a : Reader} (attrs : List bodies.Attribute) where

@@ -3,7 +3,7 @@ use Rattle.std.specs.Prelude.{ℕ, ◌*◌, ◌^◌, ◌<◌, Bool, true, false,
 use Rattle.format.specs.Reading.{Reading}
 use Rattle.bits.specs.declared.BytePlace.{BytePlace}
 use Rattle.reasons.specs.declared.Reason.{Reason}
-use Rattle.table.specs.State.{State, shown_over}
+use Rattle.table.specs.State.{shown_over}
 use Rattle.table.specs.Readers.{Same, state_of}
 use Rattle.table.specs.declared.reader.Reader.{Reader}
 

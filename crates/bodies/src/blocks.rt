@@ -3,7 +3,7 @@ ghost use Rattle.std.specs.Prelude.{◌≡◌, ◌+◌, ◌≤◌, ◌^◌, leng
 ghost use Rattle.format.specs.Formats.{Item, item, ◌▸◌};
 ghost use Rattle.format.specs.Items.{run};
 ghost use Rattle.format.specs.Bodies.{content, rows as rows_of, all_flags, read_block};
-ghost use Rattle.table.specs.Readers.{Reads};
+ghost use Rattle.table.specs.Readers.{Reads, Room};
 ghost use Rattle.attributes.specs.Rows.{attribute_of, attributes_in};
 ghost use Rattle.attributes.specs.Flags.{flags_as, FlagsRead};
 ghost use Rattle.bits.specs.Places.{order_of};
@@ -16,12 +16,15 @@ use table::Reader;
 
 // The content of an attribute, by its flag number.
 fn read_content(reader: &mut Reader<'_>, row: Attribute, flag: u64) -> Result<(), Reason>
+    requires { Room reader.old }
     ensures { Reads reader.old reader.new result (content (attribute_of row) flag) }
 {
     match attributes::content_of(row.kind, flag) {
         Content::Nothing => Ok(()),
-        Content::One => Ok(()),
-        Content::Frames => Ok(()),
+        Content::One => values::read_value(reader, row.data_type),
+        Content::Frames => {
+            values::keyframes::read_keyframed(reader, row.kind, row.data_type, flag)
+        }
     }
 }
 
@@ -36,7 +39,11 @@ fn read_attribute(reader: &mut Reader<'_>, row: Attribute, flag: u64) -> Result<
 }
 
 // The attributes of these rows, in order, with the flag numbers that were read for them.
-pub fn read_contents(reader: &mut Reader<'_>, rows: &[Attribute], numbers: u64) -> Result<(), Reason>
+pub fn read_contents(
+    reader: &mut Reader<'_>,
+    rows: &[Attribute],
+    numbers: u64,
+) -> Result<(), Reason>
     requires few { length rows.now ≤ 12 }
     requires room { reader.old.index + 12 ≤ reader.old.place.0 + 2 ^ 62 }
     ensures { Reads reader.old reader.new result (rows_of (attributes_in rows.now) (take (length rows.now) (flags_as numbers))) }

@@ -1,13 +1,10 @@
 // The body of a tag that is read: its values into the lent table, and its end.
 #![tactic(auto)]
 
-ghost use Rattle.std.specs.Prelude.{◌≡◌, ◌*◌, false, length, IfOk};
-ghost use Rattle.format.specs.Formats.{item, Item};
+ghost use Rattle.std.specs.Prelude.{◌≡◌, ◌*◌, length, IfOk};
 ghost use Rattle.format.specs.Items.{read_align};
 ghost use Rattle.format.specs.Bodies.{read_part, read_body, used_up};
 ghost use Rattle.bits.specs.Places.{order_of};
-ghost use Rattle.table.specs.Readers.{Reads};
-ghost use Rattle.fixed.specs.Fixed.{fixed_of};
 ghost use Rattle.bodies.specs.Leaf.{is_block, body_by, leaf_body, group, container_body, has_list_in, own_part};
 ghost use Rattle.bodies.specs.Shown.{Starts, Lays, Shows};
 
@@ -24,19 +21,13 @@ pub fn is_block(code: u32) -> bool
     matches!(code, 6 | 9 | 10 | 13..=27)
 }
 
-fn read_fixed(reader: &mut Reader<'_>, code: u32) -> Result<(), Reason>
-    ensures { Reads reader.old reader.new result (fixed_of code) }
-{
-    Ok(())
-}
-
 // The items of a body, up to where they end: those of an attribute block, or of another body.
 fn read_part(reader: &mut Reader<'_>, block: bool, code: u32) -> Result<(), Reason>
     requires { Starts reader.old }
     ensures { Lays reader.old reader.new result (read_part (order_of reader.old.order) reader.old.body.now (body_by block code) 0) }
 {
     if !block {
-        return read_fixed(reader, code);
+        return fixed::read_fixed(reader, code);
     }
     blocks::read_block(reader, attributes::blocks::block_of(code))?;
     Ok(())
@@ -44,7 +35,7 @@ fn read_part(reader: &mut Reader<'_>, block: bool, code: u32) -> Result<(), Reas
 
 // Zero bits up to the next whole byte (15), which is told.
 fn to_byte(reader: &mut Reader<'_>) -> Result<BytePlace, Reason>
-    ensures reads { Reads reader.old reader.new result (item Item.align) }
+    ensures lays { Lays reader.old reader.new result (read_align (order_of reader.old.order) reader.old.body.now reader.old.place.0) }
     ensures byte { IfOk result (λ byte. reader.new.place.0 ≡ 8 * byte.0) }
 {
     let start = bits::align(reader.order, reader.body, reader.place)?;

@@ -1,7 +1,7 @@
 -- The rows of a code are read as document 01's format; and a loop that reads a format part by part.
 use Prim.Native.Nat.{ℕ, zero, suc, ◌+◌, ◌*◌, ◌≤◌, ◌<◌}
 use mathlib.Core.List.{List, [], ◌∷◌, ◌++◌}
-use mathlib.Core.Path.{◌≡◌, refl, ap, sym, ◌∙◌}
+use mathlib.Core.Path.{◌≡◌, refl, ap, ap₂, sym, ◌∙◌}
 use mathlib.Core.Bool.{Bool, true, false}
 use native.Mathlib.Numerals.{add-one}
 use native.Mathlib.Omega.{arith}
@@ -10,10 +10,10 @@ use lib.Seq.{drop-cons}
 use Rattle.std.proofs.lemmas.List.{drop_all}
 use lib.Dec.{eqb}
 use borrow.Author.Tests.{ne_eqb}
-use Rattle.std.proofs.Common.{Ok}
+use Rattle.std.proofs.Common.{Result, Ok}
 use Rattle.format.specs.Tests.{pick}
 use Rattle.format.specs.Bits.{Order}
-use Rattle.format.specs.Reading.{Reading}
+use Rattle.format.specs.Reading.{Ending, shows}
 use Rattle.format.specs.Formats.{Format, nothing, ◌▸◌, times}
 use Rattle.format.specs.Items.{run, u32, i32, time, byte, color}
 use Rattle.format.specs.Bodies.{font_tables, composition_attributes, solid_color, image_reference, composition_reference}
@@ -22,13 +22,16 @@ use Rattle.format.proofs.SizeLaws.{Fair, fair_nothing}
 use Rattle.format.proofs.RoomLaws.{fair_class}
 use Rattle.items.specs.Kinds.{format_of}
 use Rattle.items.specs.declared.Item.{Item}
-use Rattle.items.specs.declared.Item.TheVariants.{U32, I32, Time, Float, Byte}
-use Rattle.table.specs.Readers.{Reads}
+use Rattle.items.specs.declared.Item.TheVariants.{U32, I32, Time, Float, Byte, Count}
+use Rattle.items.proofs.ItemLaws.{count_range}
+use Rattle.reasons.specs.declared.Reason.{Reason}
+use Rattle.bits.specs.Places.{order_of}
+use Rattle.table.specs.State.{State, shown_over}
+use Rattle.table.specs.Readers.{Reads, state_of}
 use Rattle.table.specs.declared.reader.Reader.{Reader}
+use Rattle.table.proofs.ReaderLaws.{reading}
 use Rattle.table.proofs.EngineLaws.{Alike, alike_nothing, alike_assoc, alike_after}
-use Rattle.table.proofs.ReaderLaws.{reads_none, same_refl}
 use Rattle.fixed.specs.Fixed.{in_order, fixed_of, RowsOf}
-use Rattle.fixed.proofs.GoingLaws.{Going}
 
 -- ---- every number takes a bit at least
 
@@ -90,21 +93,28 @@ rows_none {code} a b c d e f g = record {
   items = λ q bytes p. rw (ne_eqb code 1 a, ne_eqb code 2 b, ne_eqb code 3 c, ne_eqb code 5 d, ne_eqb code 7 e, ne_eqb code 11 f, ne_eqb code 12 g);
 }
 
+-- a code as its items or its rows are read
 pub fixed_fonts : (code : ℕ) → code ≡ 1 → fixed_of code ≡ font_tables
 unfolding fixed_of
 fixed_fonts code e = rw e
 
+-- ---- fonts: how many there are is told
+pub fonts_few : {a b : Reader} {r : Result ℕ Reason} {n : ℕ} → Reads a b r (format_of (Count 0)) → r ≡ Ok n → (reading a (format_of (Count 0))).shown ≡ n ∷ [] → n ≤ 4096
+unfolding shown_over
+fonts_few {a} {b} {r} {n} h e shown =
+    let z : reading a (format_of (Count 0)) ≡ shows (n ∷ []) b.place.0 = ap₂ (λ (xs : List ℕ) (z : Ending). record { shown = xs; ended = z }) shown (ap (λ (s : State). s.ended) (sym h.left ∙ ap (state_of b) e)) in
+    (count_range (order_of a.order) a.body.now a.place.0 0 z).1
+
 -- ---- formats, part by part
 
--- the items of the rows from here on are the item of the row here and those after it
-pub items_more : (rows : List Item) (i : ℕ) (d : Item) → i < length rows → Alike (in_order (drop i rows)) (format_of (get_or rows i d) ▸ in_order (drop (i + 1) rows))
+-- the items of the rows from here on are the item of the row here and those after it; or none are left
+pub items_more : (rows : List Item) (i : ℕ) (d : Item) → i < length rows → in_order (drop i rows) ≡ format_of (get_or rows i d) ▸ in_order (drop (i + 1) rows)
 unfolding in_order
-items_more rows i d h o b p = rw (add-one i, drop-cons rows i d h)
+items_more rows i d h = rw (add-one i, drop-cons rows i d h)
 
--- none are left
-pub items_done : {a b : Reader} {whole : Format} (rows : List Item) (i : ℕ) → length rows ≤ i → Going a whole b (in_order (drop i rows)) → Reads a b (Ok (tt {0})) whole
-unfolding in_order run
-items_done {b = b} rows i l h = h.on (rw (drop_all i rows l) (reads_none (same_refl b) refl refl refl))
+pub items_over : (rows : List Item) (i : ℕ) → length rows ≤ i → in_order (drop i rows) ≡ nothing
+unfolding in_order
+items_over rows i h = rw (drop_all i rows h)
 
 -- n times two is twice n
 pub pairs : (n : ℕ) (f : Format) → Alike (times n (f ▸ f)) (times (2 * n) f)

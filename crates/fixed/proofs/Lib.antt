@@ -1,2 +1,1 @@
-pub mod GoingLaws
 pub mod FixedLaws

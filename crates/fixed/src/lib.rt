@@ -3,12 +3,12 @@
 
 ghost use Rattle.std.specs.Prelude.{◌≡◌};
 ghost use Rattle.format.specs.Bodies.{font_tables};
-ghost use Rattle.table.specs.Readers.{Reads};
+ghost use Rattle.table.specs.Readers.{Reads, Room};
 ghost use Rattle.fixed.specs.Fixed.{in_order, fixed_of, RowsOf};
 
 use items::Item;
 use reasons::Reason;
-use table::Reader;
+use table::{Reader, Text};
 
 // 2: id
 const VECTOR_COMPOSITION: [Item; 1] = [Item::U32];
@@ -54,10 +54,31 @@ pub fn rows_of(code: u32) -> &'static [Item]
 
 // The items in these rows.
 fn read_items(reader: &mut Reader<'_>, rows: &[Item]) -> Result<(), Reason>
+    requires { Room reader.old }
     ensures { Reads reader.old reader.new result (in_order rows.now) }
 {
     for &kind in rows {
         reader.item(kind)?;
     }
     Ok(())
+}
+
+// 1: a count, then two Strings each.
+fn read_fonts(reader: &mut Reader<'_>) -> Result<(), Reason>
+    requires { Room reader.old }
+    ensures { Reads reader.old reader.new result font_tables }
+{
+    let count = reader.item(Item::Count(0))?;
+    reader.in_turn(&Text, 2 * count as usize)
+}
+
+// The items of a tag that is no attribute block; of a container those before its list.
+pub fn read_fixed(reader: &mut Reader<'_>, code: u32) -> Result<(), Reason>
+    requires { Room reader.old }
+    ensures { Reads reader.old reader.new result (fixed_of code) }
+{
+    if code == 1 {
+        return read_fonts(reader);
+    }
+    read_items(reader, rows_of(code))
 }

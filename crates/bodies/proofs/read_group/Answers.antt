@@ -16,12 +16,12 @@ returns-in_err-flags c = let a = c.args.reader.now in
 pub returns-in_err-list : goal.returns-in_err-list
 returns-in_err-list c =
     open_stop group (group_part c.block_of.ensures.are c.read_block.ensures.lays) c.in_ok-flags.was (group_list (attributes_in c.block_of.result.now) _ c.block_of.ensures.are (sym (rows_many c.block_of.result.now)) c.read_block.ensures.lays c.in_ok-flags.was c.in_ok-flags.ensures.flags ∙ eq-eqb _ _ c.if-flags-eq1.true)
-    c.to_byte.ensures.reads c.in_err-list.was (passed_on c.from_residual-in_err-list.result c.from_residual-in_err-list.ensures.1)
+    c.to_byte.ensures.lays c.in_err-list.was (passed_on c.from_residual-in_err-list.result c.from_residual-in_err-list.ensures.1)
 
 pub returns-then-flags-eq1 : goal.returns-then-flags-eq1
 returns-then-flags-eq1 c =
     open_shows group (group_part c.block_of.ensures.are c.read_block.ensures.lays) c.in_ok-flags.was (group_list (attributes_in c.block_of.result.now) _ c.block_of.ensures.are (sym (rows_many c.block_of.result.now)) c.read_block.ensures.lays c.in_ok-flags.was c.in_ok-flags.ensures.flags ∙ eq-eqb _ _ c.if-flags-eq1.true)
-    c.to_byte.ensures.reads c.in_ok-list.was c.in_ok-list.ensures.byte
+    c.to_byte.ensures.lays c.in_ok-list.was c.in_ok-list.ensures.byte
 
 pub returns-in_err-end_body : goal.returns-in_err-end_body
 returns-in_err-end_body c =

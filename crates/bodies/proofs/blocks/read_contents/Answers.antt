@@ -20,9 +20,10 @@ returns-in_err-read_attribute c = let a = c.args in
 
 pub loop-row-preserved : goal.loop-row-preserved
 loop-row-preserved c = let a = c.args in
-    let few : c.loop-row.row-index < 12 = omega (arith, c.requires.few, c.loop-row-test.true) in
-    (rows_next_row a.reader.now a.rows.now (flags_as a.numbers) c.loop-row-test.true (omega (arith, c.requires.few, digits_many a.numbers 12)) (digit_here a.numbers c.loop-row.flags c.loop-row.row-index few c.loop-row.invariant.1) c.loop-row.invariant.0 c.read_attribute.ensures c.in_ok-read_attribute.was,
-    digits_after a.numbers c.loop-row.flags c.loop-row.row-index few c.loop-row.invariant.1)
+    let few : c.loop-row.row-index < 12 = omega (arith, c.requires.few, c.loop-row-test.true) in (
+      rows_next_row a.reader.now a.rows.now (flags_as a.numbers) c.loop-row-test.true (omega (arith, c.requires.few, digits_many a.numbers 12)) (digit_here a.numbers c.loop-row.flags c.loop-row.row-index few c.loop-row.invariant.1) c.loop-row.invariant.0 c.read_attribute.ensures c.in_ok-read_attribute.was,
+      digits_after a.numbers c.loop-row.flags c.loop-row.row-index few c.loop-row.invariant.1,
+    )
 
 pub returns : goal.returns
 returns c = let a = c.args in rows_done a.reader.now a.rows.now (flags_as a.numbers) c.loop-row-test.false c.loop-row.invariant.0
