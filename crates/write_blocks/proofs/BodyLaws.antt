@@ -9,7 +9,7 @@ use lib.ListN.{length, take, drop, length-append}
 use lib.Pow.{pow_pos}
 use lib.Seq.{sets, length-sets}
 use lib.Dec.{leb, eqb}
-use Rattle.std.specs.Prelude.{Result, Ok, Err, IsErr}
+use Rattle.std.specs.Prelude.{Result, Ok, Err}
 use borrow.Author.Tests.{leb-true, leb-false, le-leb, lt-leb}
 use Rattle.format.specs.Tests.{pick}
 use Rattle.format.specs.Bits.{Order}
@@ -381,8 +381,3 @@ module _ (o : Order) (ks : List Attribute) (t : List ℕ) (has : HasFlags ks) (o
 
         pub block_done : {x : Possible Lain} {o' : Order} → o' ≡ o → x ≡ under_flags v a (flag_bytes o' (bits_of o' f)) (stop - (a + 1)) → x ≡ lies out a (write_body o (attributes ks) t)
         block_done same q = q ∙ ap (λ (y : Order). under_flags v a (flag_bytes y (bits_of y f)) (stop - (a + 1))) same ∙ sym (ends ∙ rw z)
-
--- where the code answers that no file has the block
-pub err_lain : (u : List ℕ) (C : Result BytePlace Impossible) {x : Possible Lain} → IsErr C → cannot ≡ x → lain_as u C ≡ x
-err_lain u (Ok p) h e = cc
-err_lain u (Err z) h e = e

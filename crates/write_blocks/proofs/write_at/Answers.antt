@@ -2,8 +2,9 @@
 use Rattle.std.proofs.Common.{ap, ◌∙◌}
 use Rattle.bits.specs.Places.{order_of}
 use Rattle.attributes.specs.Rows.{rows_from}
+use Rattle.spelling.proofs.EndLaws.{err_lain}
 use Rattle.spelling.proofs.WriteLaws.{onward_then}
-use Rattle.write_blocks.proofs.BodyLaws.{block_gone, block_stop, block_room, block_done, err_lain}
+use Rattle.write_blocks.proofs.BodyLaws.{block_gone, block_stop, block_room, block_done}
 use Rattle.write_blocks.proofs.write_at.Goals as goal
 
 pub returns-in_err-flags-clause-lain : goal.returns-in_err-flags-clause-lain
