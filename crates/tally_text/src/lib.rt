@@ -9,6 +9,9 @@ ghost use Rattle.tally_text.specs.Report.{header_line, count_line, count_lines, 
 use listing::fields::Text;
 use tally::Tally;
 
+// The count that has no line.
+const UNPRINTED: u64 = 0;
+
 // `header` and the header count.
 fn put_header(text: &mut Text<'_>, headers: u64)
     requires { text.old.used + 28 ≤ length text.old.out.now }
@@ -23,7 +26,7 @@ fn put_count(text: &mut Text<'_>, code: usize, count: u64)
     requires { text.old.used + 42 ≤ length text.old.out.now }
     ensures { Adds text.old text.new (count_line code count) × (text.new.used ≤ text.old.used + 42) }
 {
-    if count == 0 {
+    if count == UNPRINTED {
         return;
     }
     text.field(code as u64, b'\t');
