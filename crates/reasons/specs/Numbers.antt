@@ -1,5 +1,5 @@
 -- The paper's number of each reason.
-use Rattle.std.specs.Prelude.{ℕ}
+use Rattle.std.specs.Prelude.{ℕ, Result, Ok, Err}
 use Rattle.reasons.specs.declared.Reason.{Reason}
 use Rattle.reasons.specs.declared.Reason.TheVariants.{LevelAbove1023, FewerThan9Bytes, SignatureWrong, VersionNot1, LengthFieldWrong, HeaderCut, ListWithoutEnd, BodyLongerThanList, EndWithABody, BytesAfterEnd, ContainerAtDepth8, ItemPastTheBody, Spelling, SkippedBitNotZero, UnlistedValue, CountOutsideItsRange, BodyNotUsedUp, TableTooShort, NoFileHasThisTable, OutputTooShort, KNotBelowTheCount, IndexTooShort, OrderUnknown, TallyFull, TimeTooLate, TimesDoNotRise, FrameInBezier, StepBeyondSingles, NotTheIndex}
 
@@ -33,3 +33,8 @@ number_of TimesDoNotRise = 27
 number_of FrameInBezier = 28
 number_of StepBeyondSingles = 29
 number_of NotTheIndex = 30
+
+-- the number of a refusal; 0 where there is none
+abbrev pub fault_of : {A : Type 0} → Result A Reason → ℕ
+fault_of (Ok x) = 0
+fault_of (Err r) = number_of r

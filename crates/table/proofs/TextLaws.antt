@@ -2,7 +2,10 @@
 use Prim.Native.Nat.{ℕ, zero, suc, ◌+◌, ◌-◌, ◌*◌, ◌≤◌, ◌<◌, min}
 use mathlib.Core.List.{List, [], ◌∷◌}
 use mathlib.Core.Path.{◌≡◌, refl, ap, ap₂, sym, ◌∙◌}
-use lib.ListN.{length, length-set, set, get_or}
+use lib.ListN.{length, length-set, set, get_or, take, drop, length-drop}
+use Rattle.std.proofs.Common.{take_all, get_or-drop}
+use mir.Syntax.{w8}
+use mir.Val.{Fits}
 use lib.Seq.{sets, set_comm, set_out}
 use borrow.Author.Tests.{le-leb, lt-leb, eq-eqb, ne_eqb}
 use native.Mathlib.Nat.{add-zero, mod-eq_of_lt}
@@ -85,6 +88,17 @@ pub text_cut : (o : Order) (s : List ℕ) (p m : ℕ) → 8 * length s < p + 8 �
 unfolding read_text
 text_cut o s p zero h = refl
 text_cut o s p (suc m) h = rw (lt-leb (p + 8) (8 * length s) h)
+
+-- what is left of the bytes from i on, as the code slices it
+rest_is : (s : List ℕ) (i : ℕ) → take (length s - i) (drop i s) ≡ drop i s
+rest_is s i = take_all (length s - i) (drop i s) (omega (arith, length-drop i s))
+
+pub rest_length : (s : List ℕ) (i : ℕ) → length (take (length s - i) (drop i s)) ≡ length s - i
+rest_length s i = ap length (rest_is s i) ∙ length-drop i s
+
+-- the byte that comes next in it
+pub rest_byte : (s : List ℕ) (i n : ℕ) → ((k : ℕ) → Fits w8 (get_or s k 0)) → (get_or (take (length s - i) (drop i s)) n 0 ≡ get_or s (i + n) 0) × (get_or (take (length s - i) (drop i s)) n 0 < 256)
+rest_byte s i n h = let e : get_or (take (length s - i) (drop i s)) n 0 ≡ get_or s (i + n) 0 = rw (rest_is s i) (get_or-drop i s n 0) in (e, omega (arith, e, h (i + n)))
 
 -- ---- the loop: the whole from the start is what is left after n bytes
 pub record Going (o : Order) (s t₀ : List ℕ) (k i p : ℕ) (t : List ℕ) (n : ℕ) : Type 0 where
