@@ -1,11 +1,10 @@
 -- What the functions leave: the lent numbers, and whether a coordinate is beyond. And where the coordinates of a path stand.
-use Rattle.std.specs.Prelude.{ℕ, suc, ◌+◌, ◌-◌, min, Bool, List, ◌++◌, map, length, get_or, take, drop}
+use Rattle.std.specs.Prelude.{ℕ, suc, ◌+◌, ◌-◌, min, Bool, List, ◌++◌, map, length, get_or, take, drop, Option, Some, None}
 use Rattle.format.specs.Tests.{pick}
 use Rattle.format.specs.Bits.{high}
 use Rattle.format.specs.Bodies.{Attribute}
 use Rattle.format.specs.Reasons.{Answer, refused}
 use Rattle.format.specs.Items.{coordinates}
-use Rattle.path_singles.specs.declared.tags.First.{First}
 use Rattle.path_singles.specs.Coordinates.{Singled, as_single, any_beyond, plain, is_path, earlier, behind_flag}
 
 abbrev pub left : List ℕ → Bool → Singled
@@ -41,10 +40,12 @@ between v i j s = left (take i v ++ (s.shown ++ drop j v)) s.beyond
 abbrev pub body_at : List ℕ → ℕ → ℕ → List ℕ
 body_at f p n = take n (drop p f)
 
--- the first that was noted stays
-abbrev pub noted : First → Bool → ℕ → First
-noted a b place = pick a.beyond a (record { beyond = b; place = place })
+-- the place of the first tag with a coordinate beyond, when one tag more is known
+abbrev pub noted : Option ℕ → Bool → ℕ → Option ℕ
+noted (Some p) beyond place = Some p
+noted None beyond place = pick beyond (Some place) None
 
--- and refuses the file, whatever the rest would answer
-abbrev pub carried : First → Answer → Answer
-carried a x = pick a.beyond (refused 29 a.place) x
+-- it refuses the file, whatever the rest would answer
+abbrev pub carried : Option ℕ → Answer → Answer
+carried (Some p) x = refused 29 p
+carried None x = x
