@@ -3,7 +3,7 @@ ghost use Rattle.std.specs.Prelude.{◌≡◌, ◌≤◌, ◌<◌, ◌^◌, leng
 ghost use Rattle.format.specs.Bits.{high};
 ghost use Rattle.attributes.specs.Rows.{attribute_of, attributes_in, attributes_of};
 ghost use Rattle.path_singles.specs.Coordinates.{is_path, earlier, block};
-ghost use Rattle.path_singles.specs.Converting.{left, row_of};
+ghost use Rattle.path_singles.specs.Converting.{left};
 
 use crate::convert_attribute;
 use attributes::{Attribute, DataType, Kind};
@@ -44,18 +44,6 @@ fn numbers_before(rows: &[Attribute], row: usize, body: &[u8]) -> usize
     reader.index
 }
 
-// The attribute of this row, if it is a path.
-fn convert_row(rows: &[Attribute], row: usize, body: &[u8], values: &mut [u64]) -> bool
-    requires { (length rows.now ≤ 12) × (row < length rows.now) × (length body.now < 2 ^ 60) × (length values.old < 2 ^ 32) }
-    ensures { left values.new result ≡ row_of body.now (attributes_in rows.now) (attribute_of (row_at rows.now row)) row values.old }
-{
-    if !is_path(rows[row]) {
-        return false;
-    }
-    let index = numbers_before(rows, row, body);
-    convert_attribute(values, index)
-}
-
 // The values of a tag with this code and this body.
 pub fn convert_block(code: u32, body: &[u8], values: &mut [u64]) -> bool
     requires { (length body.now < 2 ^ 60) × (length values.old < 2 ^ 32) }
@@ -63,8 +51,12 @@ pub fn convert_block(code: u32, body: &[u8], values: &mut [u64]) -> bool
 {
     let rows = attributes::blocks::block_of(code);
     let mut beyond = false;
-    for row in 0..rows.len() {
-        beyond |= convert_row(rows, row, body, values);
+    for (row, &attribute) in rows.iter().enumerate() {
+        // Few attributes are paths, so only for these the rows before are read again.
+        if is_path(attribute) {
+            let flag = numbers_before(rows, row, body);
+            beyond |= convert_attribute(values, flag);
+        }
     }
     beyond
 }

@@ -6,6 +6,8 @@ ghost use Rattle.format.specs.Items.{coordinates as coordinates_in};
 ghost use Rattle.path_singles.specs.Coordinates.{as_single, is_beyond, any_beyond, paths, frames, behind_flag};
 ghost use Rattle.path_singles.specs.Converting.{left, from as from_index, over, first_of, behind_of};
 
+pub mod blocks;
+pub mod tags;
 
 use answers::Answer;
 use table::fields::Field;

@@ -37,9 +37,8 @@ pub fn convert(file: &[u8], rows: &[u32], table: &mut [u64]) -> Answer
         let state = table[index + 1];
         let start = index + 3;
         let end = start + table[index + 2] as usize;
-        if convert_tag(file, row, state, &mut table[start..end]) && first.is_none() {
-            first = Some(u64::from(row[2]));
-        }
+        let beyond = convert_tag(file, row, state, &mut table[start..end]);
+        first = first.or(beyond.then_some(u64::from(row[2])));
         index = end;
     }
     match first {
