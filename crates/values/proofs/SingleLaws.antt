@@ -1,6 +1,4 @@
 -- Values that are one item, and those that are not: what `single_of` tells of their formats.
-use Prim.Native.Nat.{ℕ}
-use mathlib.Core.List.{List, [], ◌∷◌}
 use mathlib.Core.Path.{◌≡◌, refl, sym, ap, subst, ◌∙◌}
 use Rattle.std.specs.Prelude.{Option, Some, None}
 use Rattle.format.specs.Formats.{Format, nothing}
