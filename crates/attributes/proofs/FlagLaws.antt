@@ -6,11 +6,11 @@ use mathlib.Core.Bool as truth
 use mathlib.Core.Bool.{true, false}
 use native.Mathlib.Numerals.{add-one}
 use native.Mathlib.Omega.{arith}
-use native.Mathlib.Nat.{pow-suc, mul-le-mul_right, div-div-eq-div-mul}
-use lib.Pow.{pow_pos}
-use lib.ListN.{length, get_or, take, drop}
+use native.Mathlib.Nat.{pow-suc, mul-le-mul_right, pow-le-pow_right, div-div-eq-div-mul}
+use lib.Pow.{pow_pos, pow_mono}
+use lib.ListN.{length, get_or, take, drop, drop_of_length-le}
 use lib.Seq.{drop-cons}
-use lib.Dec.{leb, eqb}
+use lib.Dec.{leb}
 use borrow.Author.Tests.{le-leb, lt-leb, ne_eqb}
 use Rattle.std.proofs.Common.{Result, Ok, Err}
 use Rattle.std.proofs.lemmas.List.{length-map}
@@ -18,10 +18,9 @@ use Rattle.format.specs.Tests.{pick}
 use Rattle.format.specs.Bits.{Order, ub}
 use Rattle.format.specs.Reading.{Ending, Reading, At, Fault, shows, follow}
 use Rattle.format.specs.Formats.{Item, item, ◌▸◌, the}
-use Rattle.format.specs.Items.{Num, num, bad, room, exist, read_ub, read_flag, read_item, show_num, run}
+use Rattle.format.specs.Items.{Num, num, bad, exist, read_flag, read_item, show_num, run}
 use Rattle.format.specs.Bodies.{flags_of, all_flags}
 use Rattle.format.proofs.Absurd.{clash}
-use Rattle.format.proofs.BitLaws.{ub_lt}
 use Rattle.reasons.specs.Numbers.{number_of}
 use Rattle.reasons.specs.declared.Reason.{Reason}
 use Rattle.reasons.proofs.NumberLaws.{number_one}
@@ -43,10 +42,7 @@ pub rows_next : {i : ℕ} (rows : List Attribute) → i < length rows → attrib
 rows_next {i} rows h = rw (add-one i) (ap attributes_in (drop-cons rows i (record { kind = Value; data_type = U32 }) h))
 
 pub rows_none : (rows : List Attribute) (i : ℕ) → length rows ≤ i → attributes_in (drop i rows) ≡ []
-rows_none [] zero h = refl
-rows_none [] (suc i) h = refl
-rows_none (row ∷ rows) zero h = absurd (omega arith)
-rows_none (row ∷ rows) (suc i) h = rows_none rows i (omega arith)
+rows_none rows i h = ap attributes_in (drop_of_length-le rows h)
 
 pub rows_many : (rows : List Attribute) → length (attributes_in rows) ≡ length rows
 rows_many rows = length-map rows attribute_of
@@ -105,31 +101,6 @@ module _ (x y i : ℕ) (some : i < 12) (left : drop i (flags_as x) ≡ digits y 
 
 -- ---- flag bits
 
--- the first bit, and at most n after it
-abbrev onward : Order → List ℕ → ℕ → Num → Num
-onward o b n (num v q) = pick (eqb v 0) (num 0 q) (exist (read_flag o b q n))
-onward o b n (bad e) = bad e
-
-flag_bit : (o : Order) (b : List ℕ) (p n : ℕ) → read_flag o b p (suc n) ≡ onward o b n (read_ub o b p 1)
-unfolding read_flag
-flag_bit o b p n = go (room b p 1)
-  where
-    go : (t : truth.Bool) → pick t (pick (eqb (ub o b p 1) 0) (num 0 (p + 1)) (exist (read_flag o b (p + 1) n))) (bad 13)
-        ≡ onward o b n (pick t (num (ub o b p 1) (p + 1)) (bad 13))
-    go true = refl
-    go false = refl
-
--- one bit is a field of one bit
-flag_one : (o : Order) (b : List ℕ) (p : ℕ) → read_flag o b p 1 ≡ read_ub o b p 1
-unfolding read_flag
-flag_one o b p = flag_bit o b p 0 ∙ go (room b p 1) (ub o b p 1) (ub_lt o b p 1)
-  where
-    go : (t : truth.Bool) (v : ℕ) → v < 2 → onward o b 0 (pick t (num v (p + 1)) (bad 13)) ≡ pick t (num v (p + 1)) (bad 13)
-    go true zero h = refl
-    go true (suc zero) h = refl
-    go true (suc (suc v)) h = absurd (omega arith)
-    go false v h = refl
-
 -- the number that a reading shows
 abbrev num_from : Ending → ℕ → Num
 num_from (At p) v = num v p
@@ -166,13 +137,6 @@ module _ (o : Order) (x p : ℕ) {v : ℕ} (few : p < 40) (first : (v ≡ bit_of
   first_is : (b : List ℕ) → x ≡ ub o b 0 40 → v ≡ ub o b p 1
   first_is b e = first.0 ∙ bit_in o b p e few
 
-  -- it is the only one
-  means_only : {q : ℕ} → p + 1 ≡ q → Means o x 1 p v q
-  means_only s b e l = rw (← s) (sym (flag_one o b p ∙ rw (← first_is b e)))
-
-  pub flag_only : {q : ℕ} → p + 1 ≡ q → FlagRead o x (Item.flag 1) p 1 v q
-  flag_only {q} s = record { means = means_shown o x 1 p v q (means_only s); small = first.1; near = omega arith }
-
   -- it is 0
   means_none : (n : ℕ) {q : ℕ} → v ≡ 0 → p + 1 ≡ q → Means o x (suc n) p 0 q
   unfolding read_flag
@@ -194,18 +158,63 @@ module _ (o : Order) (x p : ℕ) {v : ℕ} (few : p < 40) (first : (v ≡ bit_of
     pub flag_more : FlagRead o x (Item.flag (suc n)) p (suc n) y q
     flag_more = record { means = means_shown o x (suc n) p y q means_more; small = omega (arith, rest.small, pow-suc 2 n); near = omega (arith, rest.near) }
 
+-- no bit
+flag_end : (o : Order) (x p : ℕ) → FlagRead o x (Item.flag 0) p 0 0 p
+unfolding run read_item read_flag
+flag_end o x p = record { means = λ b e l. rw (le-leb p (8 * length b) l); small = omega arith; near = omega arith }
+
+-- the first k of up to n bits are set, and count for v: whatever those after them give counts 2 ^ k times
+pub record Flagging (o : Order) (x p n v k : ℕ) : Type 0 where
+  pub rest : (w q : ℕ) → FlagRead o x (Item.flag (n - k)) (p + k) (n - k) w q → FlagRead o x (Item.flag n) p n (v + 2 ^ k * w) q
+  pub set : v + 1 ≡ 2 ^ k
+
+module _ (o : Order) (x p n : ℕ) where
+  pub flagging_start : Flagging o x p n 0 0
+  flagging_start = record {
+    rest = λ w q f. let a : n - 0 ≡ n = omega arith in let b : p + 0 ≡ p = omega arith in let c : 0 + 1 * w ≡ w = omega arith in rw c (rw (a, b) at f);
+    set = refl;
+  }
+
+  module _ {v k b : ℕ} (some : k < n) (few : p + k < 40) (g : Flagging o x p n v k) (bit : (b ≡ bit_of o x (p + k)) × (b < 2)) where
+    one_more : n - k ≡ suc (n - (k + 1))
+    one_more = omega arith
+
+    pub flagging_next : (b ≡ 0 → ⊥) → Flagging o x p n (2 * v + 1) (k + 1)
+    flagging_next one =
+        let e : k + 1 ≡ suc k = omega arith in
+        let z : 2 ^ (k + 1) ≡ 2 ^ k * 2 = rw e (pow-suc 2 k) in
+        record {
+          rest = λ w q f.
+              let t : v + 2 ^ k * (1 + 2 * w) ≡ 2 * v + 1 + 2 ^ (k + 1) * w = omega (arith, ap (λ (y : ℕ). y * w) z, g.set) in
+              let m : FlagRead o x (Item.flag (suc (n - (k + 1)))) (p + k) (suc (n - (k + 1))) (1 + 2 * w) q = flag_more o x (p + k) few bit (n - (k + 1)) one f (omega arith) refl in
+              rw t at (g.rest (1 + 2 * w) q (rw one_more m));
+          set = omega (arith, z, g.set);
+        }
+
+    pub flagging_stop : b ≡ 0 → FlagRead o x (Item.flag n) p n v (p + k + 1)
+    flagging_stop none =
+        let t : v + 2 ^ k * 0 ≡ v = omega arith in
+        rw t at (g.rest 0 (p + k + 1) (rw one_more (flag_none o x (p + k) few bit (n - (k + 1)) none refl)))
+
+  pub flagging_done : {v k : ℕ} → n ≤ k → k ≤ n → Flagging o x p n v k → FlagRead o x (Item.flag n) p n v (p + n)
+  flagging_done {v} {k} h l g =
+      let t : v + 2 ^ k * 0 ≡ v = omega arith in
+      let z : n - k ≡ 0 = omega arith in
+      let e : k ≡ n = omega arith in
+      rw t at (g.rest 0 (p + n) (rw (z, e) (flag_end o x (p + n))))
+
+-- at most three are set
+pub few_bits : {o : Order} {x p n v k : ℕ} → Flagging o x p n v k → k < 3 → v ≤ 3
+few_bits {k = k} g h = let h' : k ≤ 2 = omega arith in omega (arith, g.set, pow_mono {j = 2} h')
+
 -- no bit, and the number 1
 pub flag_fixed : (o : Order) (x p : ℕ) → FlagRead o x (Item.echo 1) p 3 1 p
 unfolding run read_item
 flag_fixed o x p = record { means = λ b e l. rw (le-leb p (8 * length b) l); small = omega arith; near = omega arith }
 
 -- ---- the flags of all rows, one after the other, as the digits of one number
-eight_up : (i m : ℕ) → 8 ^ i ≤ 8 ^ (i + m)
-eight_up i zero = let e : i + 0 ≡ i = omega arith in rw e (omega arith)
-eight_up i (suc m) = let e : i + suc m ≡ suc (i + m) = omega arith in rw e (omega (arith, pow-suc 8 (i + m), eight_up i m))
-
 pub eight_few : (i : ℕ) → i < 12 → 8 ^ i ≤ 8589934592
-eight_few i h = let e : i + (11 - i) ≡ 11 = omega arith in rw e at (eight_up i (11 - i))
+eight_few i h = let l : i ≤ 11 = omega arith in let z : 0 < 8 = omega arith in pow-le-pow_right {n = 8} z {i = i} {j = 11} l
 
 digits_taken : (x m n : ℕ) → m ≤ n → take m (digits x n) ≡ digits x m
 unfolding digits

@@ -2,6 +2,7 @@
 #![tactic(auto)]
 
 ghost use Rattle.std.specs.Prelude.{◌≡◌, ◌+◌, ◌≤◌, ◌<◌, length};
+ghost use Rattle.format.specs.Formats.{Item};
 ghost use Rattle.format.specs.Items.{run};
 ghost use Rattle.format.specs.Bodies.{flags_of, all_flags, dimensions as dimensions_of, curves as curves_of};
 ghost use Rattle.bits.specs.Places.{PlaceIn, order_of};
@@ -64,52 +65,25 @@ struct Flag {
     behind: u64,
 }
 
-// One bit.
-fn read_one_flag(order: Order, first: u64, at: u64) -> Flag
-    requires { at < 40 }
-    ensures { FlagRead (order_of order) first (flags_of (kind_of Kind.Value)) at 1 result.number result.behind }
+// Up to MOST bits: exist, animatable and hasSpatial. The first that is not set is the last, and each that is set adds a digit in base 2.
+fn read_bits<const MOST: u64>(order: Order, first: u64, at: u64) -> Flag
+    requires { (MOST ≤ 3) × (at + MOST ≤ 40) }
+    ensures { FlagRead (order_of order) first (Item.flag MOST) at MOST result.number result.behind }
 {
+    let mut number = 0;
+    for step in 0..MOST {
+        let place = at + step;
+        if bits::fields::bit_of(order, first, place) == 0 {
+            return Flag {
+                number,
+                behind: place + 1,
+            };
+        }
+        number = 2 * number + 1;
+    }
     Flag {
-        number: bits::fields::bit_of(order, first, at),
-        behind: at + 1,
-    }
-}
-
-// An exist bit; if set, an animatable bit.
-fn read_two_flags(order: Order, first: u64, at: u64) -> Flag
-    requires { at + 1 < 40 }
-    ensures { FlagRead (order_of order) first (flags_of (kind_of Kind.Simple)) at 2 result.number result.behind }
-{
-    let exist = bits::fields::bit_of(order, first, at);
-    if exist == 0 {
-        return Flag {
-            number: 0,
-            behind: at + 1,
-        };
-    }
-    let animatable = bits::fields::bit_of(order, first, at + 1);
-    Flag {
-        number: 1 + 2 * animatable,
-        behind: at + 2,
-    }
-}
-
-// An exist bit; if set, an animatable bit; if that is set too, a hasSpatial bit.
-fn read_three_flags(order: Order, first: u64, at: u64) -> Flag
-    requires { at + 2 < 40 }
-    ensures { FlagRead (order_of order) first (flags_of (kind_of Kind.Spatial)) at 3 result.number result.behind }
-{
-    let exist = bits::fields::bit_of(order, first, at);
-    if exist == 0 {
-        return Flag {
-            number: 0,
-            behind: at + 1,
-        };
-    }
-    let more = read_two_flags(order, first, at + 1);
-    Flag {
-        number: 1 + 2 * more.number,
-        behind: more.behind,
+        number,
+        behind: at + MOST,
     }
 }
 
@@ -119,13 +93,13 @@ fn read_flag(order: Order, kind: Kind, first: u64, at: u64) -> Flag
     ensures { FlagRead (order_of order) first (flags_of (kind_of kind)) at 3 result.number result.behind }
 {
     match kind {
-        Kind::Value | Kind::BitFlag | Kind::Custom => read_one_flag(order, first, at),
+        Kind::Value | Kind::BitFlag | Kind::Custom => read_bits::<1>(order, first, at),
         Kind::Fixed => Flag {
             number: 1,
             behind: at,
         },
-        Kind::Simple | Kind::Discrete | Kind::MultiDimension => read_two_flags(order, first, at),
-        Kind::Spatial => read_three_flags(order, first, at),
+        Kind::Simple | Kind::Discrete | Kind::MultiDimension => read_bits::<2>(order, first, at),
+        Kind::Spatial => read_bits::<3>(order, first, at),
     }
 }
 
@@ -135,7 +109,7 @@ pub fn read_flags(order: Order, rows: &[Attribute], body: &[u8]) -> Result<Numbe
     requires { (length rows.now ≤ 12) × PlaceIn body.now 0 }
     ensures { FlagsRead (length rows.now) (run (order_of order) body.now (all_flags (attributes_in rows.now)) 0) result }
 {
-    // Sliced again: see `items::read_item`.
+    // The same bytes: sliced again they are handed on in registers, and not through memory (docs/SPEED.md).
     let bytes = &body[..];
     let first = bits::fields::first_bits(order, bytes);
     let end = (bytes.len() * 8) as u64;

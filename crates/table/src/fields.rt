@@ -101,11 +101,11 @@ impl Reader<'_> {
     }
 
     // After so many fields one is not allowed (16).
-    fn stop(&mut self, there: usize) -> Result<usize, Reason>
-        requires { self.old.index + there < 2 ^ 64 }
-        ensures { Stops self.old self.new there result }
+    fn stop(&mut self, passed: usize) -> Result<usize, Reason>
+        requires { self.old.index + passed < 2 ^ 64 }
+        ensures { Stops self.old self.new passed result }
     {
-        self.index += there;
+        self.index += passed;
         Err(Reason::UnlistedValue)
     }
 
@@ -151,17 +151,17 @@ impl Reader<'_> {
         ensures { Reads self.old self.new result (times count (field_of kind width)) }
     {
         let step = width as usize;
-        let there = fitting(self.body.len(), self.place, step, count);
+        let whole = fitting(self.body.len(), self.place, step, count);
         let size = 1u64 << width;
         let negatives = negatives_of(kind, size);
         let first = self.place.0;
         let from = self.index;
         let table = &mut *self.table;
-        for i in 0..room_for(table.len(), from, there) {
+        for i in 0..room_for(table.len(), from, whole) {
             let raw = bits::fields::field(self.order, self.body, BitPlace(first + i * step), width);
             table[from + i] = bits::fields::with_sign(raw, size, negatives);
         }
-        self.pass(step, there, count)
+        self.pass(step, whole, count)
     }
 
     // A width, and n fields of it.
