@@ -1,6 +1,6 @@
 -- Numbers and items from a whole byte on, by the byte place behind them.
 use Rattle.std.proofs.Common.{◌≡◌, ℕ, ◌+◌, ◌-◌, ◌*◌, ◌%◌, ◌<◌, ◌≤◌, Bool, true, false, eqb, ltb, List, length, get_or, sym, refl, ap, ◌∙◌, ap₂, arith, pow_pos, ltb-false, ltb-true}
-use Rattle.std.specs.Prelude.{Result, Ok, Err, IsErr}
+use Rattle.std.specs.Prelude.{Result, Ok, Err, IsErr, is_err}
 use Rattle.format.specs.Tests.{pick}
 use Rattle.format.specs.Bits.{Order}
 use Rattle.format.proofs.Absurd.{clash}
@@ -10,6 +10,9 @@ use Rattle.format.specs.Possible.{Possible, this, cannot}
 use Rattle.format.specs.WritingItems.{dig, before}
 use Rattle.items.specs.Kinds.{format_of, range_fault}
 use Rattle.items.specs.declared.Item.{Item}
+use Rattle.reasons.specs.Numbers.{fault_of}
+use Rattle.reasons.specs.declared.Reason.{Reason}
+use Rattle.reasons.proofs.NumberLaws.{positive}
 use Rattle.sink.specs.declared.Impossible.{Impossible}
 use Rattle.sink.specs.Laying.{State, mk, Skipped}
 use Rattle.sink.proofs.LayingLaws.{mk_eq, skip_none, field_none}
@@ -21,6 +24,15 @@ use Rattle.spelling.proofs.NumberLaws.{bits_of, item_is, item_out, item_in}
 -- ---- a number that was put
 pub spelled : (u : List ℕ) (p q : ℕ) {x : Possible State} → q ≡ 8 * p → this (mk u q 0) ≡ x → spelled_to u (Ok p) ≡ x
 spelled u p q e d = ap this (mk_eq refl (sym e) refl) ∙ d
+
+-- ---- what the code asks of a number's range
+pub range_out : (r : Result (Unit {0}) Reason) → is_err r ≡ true → fault_of r ≡ 0 → ⊥
+range_out (Ok x) h e = cc
+range_out (Err z) h e = omega (arith, positive z)
+
+pub range_in : (r : Result (Unit {0}) Reason) → is_err r ≡ false → fault_of r ≡ 0
+range_in (Ok x) h = refl
+range_in (Err z) h = cc
 
 -- ---- an item from a whole byte on
 module _ (o : Order) (kind : Item) (t out : List ℕ) (at k : ℕ) where

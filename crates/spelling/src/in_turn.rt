@@ -28,7 +28,7 @@ pub trait Part {
 pub fn write_all<P: Part>(part: &P, count: usize, writer: &mut Writer) -> Result<(), Impossible>
     ensures writes { Writes writer.old writer.new result (times count (P.format part.now)) }
 {
-    for _i in 0..count {
+    for _ in 0..count {
         part.write(writer)?;
     }
     Ok(())

@@ -58,7 +58,7 @@ pub(crate) fn spell_next(
     ensures within { IfOk result (λ p. p ≤ 16777216) }
 {
     let value = number_at(values, from)?;
-    if items::out_of_range(kind, value) != 0 {
+    if items::in_range(kind, value).is_err() {
         return Err(Impossible);
     }
     let next = numbers::spell_item(kind, out, at, value)?;
