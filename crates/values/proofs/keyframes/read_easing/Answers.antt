@@ -1,16 +1,11 @@
-use mathlib.Core.Path.{sym, ◌∙◌}
-use Rattle.bits.specs.Places.{order_of}
-use Rattle.format.specs.Bodies.{aligned}
+-- `values::keyframes::read_easing` meets its contract: the skip, and then the fields.
 use Rattle.format.specs.Items.{scaled}
-use Rattle.table.proofs.EngineLaws.{then_none, then_never}
-use Rattle.table.proofs.RunLaws.{align_none, align_never, align_fits}
+use Rattle.reasons.proofs.NumberLaws.{passed_on}
+use Rattle.table.proofs.ReaderLaws.{reads_then, reads_stop}
 use Rattle.values.proofs.keyframes.read_easing.Goals as goal
 
-pub returns-in_default : goal.returns-in_default
-returns-in_default c = let a = c.args in then_never (order_of a.order) a.body.now a.table.now a.from aligned (λ xs. scaled a.count) a.at.0 (align_never (order_of a.order) a.body.now a.at.0 (sym c.align-aligned.ensures ∙ c.in_default.is))
-
-pub read_scaled-requires : goal.read_scaled-requires
-read_scaled-requires c = let a = c.args in (align_fits (order_of a.order) a.body.now a.at.0 (sym c.align-aligned.ensures ∙ c.in-Clean.is) c.requires.0, c.requires.1)
+pub returns-in_err-align : goal.returns-in_err-align
+returns-in_err-align c = reads_stop (λ xs. scaled c.args.count) c.align.ensures c.in_err-align.was (passed_on c.from_residual.result c.from_residual.ensures.1)
 
 pub returns : goal.returns
-returns c = let a = c.args in then_none (order_of a.order) a.body.now a.table.now a.from aligned (λ xs. scaled a.count) a.at.0 (align_none (order_of a.order) a.body.now a.at.0 (sym c.align-aligned.ensures ∙ c.in-Clean.is)) c.read_scaled.ensures
+returns c = reads_then (λ xs. scaled c.args.count) c.align.ensures c.in_ok-align.was c.scaled.ensures
