@@ -1,5 +1,5 @@
 -- From bits to bytes: a format that was put through a sink, with the skip to a whole byte at its end.
-use Rattle.std.proofs.Common.{◌≡◌, ℕ, ◌+◌, ◌*◌, ◌/◌, ◌%◌, ◌<◌, ◌≤◌, Bool, true, false, eqb, leb, List, [], ◌∷◌, ◌++◌, length, sym, refl, ap, ◌∙◌, subst, ap₂, append-nil, arith, length-append, pow_pos, eq-eqb, ne_eqb, le-leb, leb-false, leb-true}
+use Rattle.std.proofs.Common.{◌≡◌, ℕ, ◌+◌, ◌*◌, ◌/◌, ◌%◌, ◌<◌, ◌≤◌, Bool, true, false, eqb, leb, List, [], ◌∷◌, ◌++◌, length, sym, refl, ap, ◌∙◌, ap₂, append-nil, arith, length-append, pow_pos, eq-eqb, ne_eqb, le-leb, leb-false, leb-true}
 use lib.Seq.{sets}
 use borrow.Author.Tests.{lt-leb}
 use Rattle.format.specs.Tests.{pick}
@@ -14,14 +14,11 @@ use Rattle.format.specs.WritingBodies.{whole_bytes, bytes_of, write_part, write_
 use Rattle.format.proofs.BitLaws.{length_dig}
 use Rattle.format.proofs.ByteLaws.{length_bytes_of}
 use Rattle.sink.specs.Lain.{Lain, lain, lies, longest}
-use Rattle.sink.specs.Laying.{State, mk, at, lay, Holds, Skipped}
-use Rattle.sink.specs.declared.Sink.{Sink}
+use Rattle.sink.specs.Laying.{State, mk, lay, Holds, Skipped}
 use Rattle.sink.proofs.LayingLaws.{lay_append, lay_bytes_of, lay_place}
-use Rattle.spelling.specs.Ends.{skipped_to, concluded, FineAfter}
-use Rattle.spelling.specs.Writing.{Seen, here, seen, ends, written_over, ran, limit, Fine}
-use Rattle.spelling.specs.declared.Put.{Put}
-use Rattle.spelling.specs.declared.Put.TheVariants.{Done, Impossible}
-use Rattle.spelling.proofs.RunLaws.{ends_in, ends_out, parts, ran_fine, skip_le}
+use Rattle.spelling.specs.Ends.{skipped_to, concluded}
+use Rattle.spelling.specs.Writing.{Seen, here, ends, written_over, ran, limit}
+use Rattle.spelling.proofs.RunLaws.{ends_in, ends_out, parts, skip_le}
 use Rattle.spelling.proofs.ShiftLaws.{shift, whole_bytes_lem}
 
 -- a format, and the skip to a whole byte behind it
@@ -125,24 +122,16 @@ unfolding lies
 lies_over out a cannot h = refl
 lies_over out a (this x) h = rw (lt-leb (a + length x) longest (omega arith))
 
--- what was written leaves a sink to go on with
-pub front_fine : (o : Order) (vs out : List ℕ) (s : Sink) (f : Format) (u : List ℕ) (R : Put) → Fine s → seen u R ≡ ran o vs (at out s) 0 f → FineAfter R
-front_fine o vs out s f u Impossible fine e = tt
-front_fine o vs out s f u (Done r k) fine e = ran_fine o vs out s 0 f u (Done r k) fine e r k refl
-
 -- ---- the end of a body
-module _ (o : Order) (n : ℕ) (out : List ℕ) (R : Put) (s : Sink) (k : ℕ) (e : R ≡ Done s k) where
-  pub end_fine : FineAfter R → Fine s
-  end_fine h = subst FineAfter e h
+module _ (o : Order) (n : ℕ) (st : State) (k : ℕ) where
+  pub end_left : (k ≡ n → ⊥) → cannot ≡ concluded o n (this (here st k))
+  end_left h = rw (ne_eqb k n h)
 
-  pub end_left : (k ≡ n → ⊥) → cannot ≡ concluded o n (seen out R)
-  end_left h = rw (e, ne_eqb k n h)
-
-  pub end_done : {u : List ℕ} {byte bit : ℕ} → k ≡ n → Skipped o (at out s) u byte bit → this (lain u byte) ≡ concluded o n (seen out R)
+  pub end_done : {u : List ℕ} {byte bit : ℕ} → k ≡ n → Skipped o st u byte bit → this (lain u byte) ≡ concluded o n (this (here st k))
   end_done {u} {byte} {bit} h skip =
-      let p : skipped_to o (at out s) ≡ mk u bit 0 = sym skip.laid in
+      let p : skipped_to o st ≡ mk u bit 0 = sym skip.laid in
       let d : bit / 8 ≡ byte = omega (arith, skip.whole) in
-      rw (e, eq-eqb k n h, p, d)
+      rw (eq-eqb k n h, p, d)
 
 pub start_fine : (a q : ℕ) → q ≡ 8 * a → a ≤ longest → Holds q 0 × (q ≤ limit)
 start_fine a q e h = (pow_pos (q % 8), omega arith)

@@ -14,7 +14,6 @@ use Rattle.format.specs.Bodies as bodies
 use Rattle.format.specs.Bodies.{values, interpolations, how_many, aligned, spatial, has_spatial}
 use Rattle.bits.specs.Places.{PlaceIn, order_of}
 use Rattle.bits.specs.declared.Order.{Order as Code}
-use Rattle.bits.specs.declared.Number.{Number}
 use Rattle.bits.proofs.FieldLaws.{IsField, ub_got}
 use Rattle.reasons.specs.declared.Reason.{Reason}
 use Rattle.reasons.specs.Numbers.{number_of}
@@ -22,13 +21,13 @@ use Rattle.items.specs.Kinds.{format_of}
 use Rattle.items.specs.declared.Item.TheVariants.{Count}
 use Rattle.items.proofs.ItemLaws.{count_range}
 use Rattle.table.specs.Fields.{field_of, announced}
-use Rattle.table.specs.Readers.{state_of, Reads, Room, Shown}
+use Rattle.table.specs.Readers.{state_of, Reads, Room}
 use Rattle.table.specs.State.{State, shown_over}
 use Rattle.table.specs.declared.fields.Field.TheVariants.{Verb, Interpolation, SpatialFlag}
 use Rattle.table.specs.declared.reader.Reader.{Reader}
 use Rattle.table.proofs.EngineLaws.{Alike, none_then, alike_nothing, alike_assoc, alike_after}
 use Rattle.table.proofs.FieldLaws.{announced_verbs, announced_frames, announced_points}
-use Rattle.table.proofs.ReaderLaws.{reading, reads_then, reads_as, reads_one, on_start, on_done}
+use Rattle.table.proofs.ReaderLaws.{reading, reads_as, on_start, on_done}
 use Rattle.attributes.specs.Contents.{interpolated}
 use Rattle.attributes.proofs.ContentLaws.{interpolations_some, interpolations_none}
 use Rattle.values.specs.Parts.{announcing, frames_of, stop_of, stops_of, after_alphas}
@@ -41,14 +40,10 @@ reads_is {a = a} {b = b} {r = r} e h = subst (Reads a b r) e h
 pub reads_nothing : {A : Type 0} {a : Reader} {x : A} → Room a → Reads a a (Ok x) nothing
 reads_nothing z = on_done (on_start z refl) refl
 
--- what follows numbers that were shown
-module _ {A : Type 0} {a b : Reader} {r : Result A Reason} {f : Format} {xs : List ℕ} {x : A} (h : Reads a b r f) (e : r ≡ Ok x) (shown : (reading a f).shown ≡ xs) where
-  pub reads_told : {B : Type 0} {c : Reader} {s : Result B Reason} (g : List ℕ → Format) → Reads b c s (g xs) → Reads a c s (f ▹ g)
-  reads_told g k = reads_then g h e (reads_is (ap g (sym shown)) k)
-
-  pub reads_shows : reading a f ≡ shows xs b.place.0
-  unfolding shown_over
-  reads_shows = ap₂ (λ (ys : List ℕ) (z : Ending). record { shown = ys; ended = z }) shown (ap (λ (s : State). s.ended) (sym h.left ∙ ap (state_of b) e))
+-- what was shown, and where it ended, is the reading
+pub reads_shows : {A : Type 0} {a b : Reader} {r : Result A Reason} {f : Format} {xs : List ℕ} {x : A} → Reads a b r f → r ≡ Ok x → (reading a f).shown ≡ xs → reading a f ≡ shows xs b.place.0
+unfolding shown_over
+reads_shows {b = b} h e shown = ap₂ (λ (ys : List ℕ) (z : Ending). record { shown = ys; ended = z }) shown (ap (λ (s : State). s.ended) (sym h.left ∙ ap (state_of b) e))
 
 -- a count is not above 4,096
 pub count_few : {a b : Reader} {r : Result ℕ Reason} {v : ℕ} (lo : ℕ) → Reads a b r (format_of (Count lo)) → r ≡ Ok v → (reading a (format_of (Count lo))).shown ≡ v ∷ [] → v ≤ 4096
@@ -177,15 +172,6 @@ module _ (o : Order) (b : List ℕ) (p : ℕ) where
   -- its number ends behind its place, and fits its bits
   pub ub_behind : (n : ℕ) {v q : ℕ} → 1 ≤ n → num v q ≡ read_ub o b p n → (p < q) × (v < 2 ^ n)
   ub_behind n l e = let i : IsField o (λ x. x) b p n _ _ = ub_got o b p n e in (omega (arith, i.next), omega (arith, i.value, i.below))
-
--- the same where the number is shown: what was read, and what follows it
-module _ {a b : Reader} {n : Number} (z : Room a) (h : Shown a b n) where
-  pub ub_read : (w : ℕ) → 1 ≤ w → num n.value n.next.0 ≡ read_ub (order_of a.order) a.body.now a.place.0 w → Reads a b (Ok n) (item (Item.UB w))
-  ub_read w l e = reads_one z (ub_behind (order_of a.order) a.body.now a.place.0 w l e).0 h (ub_one (order_of a.order) a.body.now a.place.0 w e)
-
-  pub ub_then : (w : ℕ) → 1 ≤ w → num n.value n.next.0 ≡ read_ub (order_of a.order) a.body.now a.place.0 w → {A : Type 0} {c : Reader} {r : Result A Reason} (g : List ℕ → Format) → Reads b c r (g (n.value ∷ []))
-      → Reads a c r (item (Item.UB w) ▹ g)
-  ub_then w l e g k = reads_told (ub_read w l e) refl (ap (λ (r : Reading). r.shown) (ub_one (order_of a.order) a.body.now a.place.0 w e)) g k
 
 -- ---- Points in turn are twice as many Floats
 pub alike_pairs : (f : Format) (n : ℕ) → Alike (times (n * 2) f) (times n (f ▸ f))

@@ -1,24 +1,24 @@
 -- `values::read_gradient` meets its contract: both counts, the alpha stops, the color stops.
 use Rattle.format.specs.Formats.{the, times}
 use Rattle.reasons.proofs.NumberLaws.{passed_on}
-use Rattle.table.proofs.ReaderLaws.{reads_then, reads_stop}
+use Rattle.table.proofs.ReaderLaws.{reads_then, reads_stop, reads_item}
 use Rattle.values.specs.Parts.{stop_of, stops_of, after_alphas}
-use Rattle.values.proofs.ValueLaws.{reads_told, gradient_is}
+use Rattle.values.proofs.ValueLaws.{gradient_is}
 use Rattle.values.proofs.read_gradient.Goals as goal
 
 pub returns-in_err-alphas : goal.returns-in_err-alphas
-returns-in_err-alphas c = gradient_is (reads_stop (λ alphas. after_alphas (the alphas)) c.item.ensures.reads c.in_err-alphas.was (passed_on c.from_residual.result c.from_residual.ensures.1))
+returns-in_err-alphas c = gradient_is (reads_stop _ c.item.ensures.reads c.in_err-alphas.was (passed_on c.from_residual.result c.from_residual.ensures.1))
 
 pub returns-in_err-colors : goal.returns-in_err-colors
-returns-in_err-colors c = gradient_is (reads_told c.item.ensures.reads c.in_ok-alphas.was c.in_ok-alphas.ensures.shown (λ alphas. after_alphas (the alphas))
-    (reads_stop (λ colors. stops_of c.in_ok-alphas.alphas (the colors)) c.item-2.ensures.reads c.in_err-colors.was (passed_on c.from_residual-in_err-colors.result c.from_residual-in_err-colors.ensures.1)))
+returns-in_err-colors c = gradient_is (reads_item _ c.item.ensures.reads c.in_ok-alphas.was c.in_ok-alphas.ensures.shown
+    (reads_stop _ c.item-2.ensures.reads c.in_err-colors.was (passed_on c.from_residual-in_err-colors.result c.from_residual-in_err-colors.ensures.1)))
 
 pub returns-in_err-in_turn : goal.returns-in_err-in_turn
-returns-in_err-in_turn c = gradient_is (reads_told c.item.ensures.reads c.in_ok-alphas.was c.in_ok-alphas.ensures.shown (λ alphas. after_alphas (the alphas))
-    (reads_told c.item-2.ensures.reads c.in_ok-colors.was c.in_ok-colors.ensures.shown (λ colors. stops_of c.in_ok-alphas.alphas (the colors))
-    (reads_stop (λ xs. times c.in_ok-colors.colors (stop_of 3)) c.in_turn.ensures c.in_err-in_turn.was (passed_on c.from_residual-in_err-in_turn.result c.from_residual-in_err-in_turn.ensures.1))))
+returns-in_err-in_turn c = gradient_is (reads_item _ c.item.ensures.reads c.in_ok-alphas.was c.in_ok-alphas.ensures.shown
+    (reads_item _ c.item-2.ensures.reads c.in_ok-colors.was c.in_ok-colors.ensures.shown
+    (reads_stop _ c.in_turn.ensures c.in_err-in_turn.was (passed_on c.from_residual-in_err-in_turn.result c.from_residual-in_err-in_turn.ensures.1))))
 
 pub returns : goal.returns
-returns c = gradient_is (reads_told c.item.ensures.reads c.in_ok-alphas.was c.in_ok-alphas.ensures.shown (λ alphas. after_alphas (the alphas))
-    (reads_told c.item-2.ensures.reads c.in_ok-colors.was c.in_ok-colors.ensures.shown (λ colors. stops_of c.in_ok-alphas.alphas (the colors))
-    (reads_then (λ xs. times c.in_ok-colors.colors (stop_of 3)) c.in_turn.ensures c.in_ok-in_turn.was c.in_turn-2.ensures)))
+returns c = gradient_is (reads_item _ c.item.ensures.reads c.in_ok-alphas.was c.in_ok-alphas.ensures.shown
+    (reads_item _ c.item-2.ensures.reads c.in_ok-colors.was c.in_ok-colors.ensures.shown
+    (reads_then _ c.in_turn.ensures c.in_ok-in_turn.was c.in_turn-2.ensures)))

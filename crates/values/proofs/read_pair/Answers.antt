@@ -5,7 +5,7 @@ use Rattle.table.proofs.ReaderLaws.{reads_then, reads_stop}
 use Rattle.values.proofs.read_pair.Goals as goal
 
 pub returns-in_err-item : goal.returns-in_err-item
-returns-in_err-item c = reads_stop (λ xs. format_of c.args.second) c.item.ensures.reads c.in_err-item.was (passed_on c.from_residual.result c.from_residual.ensures.1)
+returns-in_err-item c = reads_stop _ c.item.ensures.reads c.in_err-item.was (passed_on c.from_residual.result c.from_residual.ensures.1)
 
 pub returns : goal.returns
-returns c = reads_then (λ xs. format_of c.args.second) c.item.ensures.reads c.in_ok-item.was c.read.ensures
+returns c = reads_then _ c.item.ensures.reads c.in_ok-item.was c.read.ensures

@@ -5,7 +5,7 @@ use Rattle.table.proofs.ReaderLaws.{reads_then, reads_stop}
 use Rattle.values.proofs.keyframes.read_easing.Goals as goal
 
 pub returns-in_err-align : goal.returns-in_err-align
-returns-in_err-align c = reads_stop (λ xs. scaled c.args.count) c.align.ensures c.in_err-align.was (passed_on c.from_residual.result c.from_residual.ensures.1)
+returns-in_err-align c = reads_stop _ c.align.ensures c.in_err-align.was (passed_on c.from_residual.result c.from_residual.ensures.1)
 
 pub returns : goal.returns
-returns c = reads_then (λ xs. scaled c.args.count) c.align.ensures c.in_ok-align.was c.scaled.ensures
+returns c = reads_then _ c.align.ensures c.in_ok-align.was c.scaled.ensures

@@ -12,21 +12,21 @@ use Rattle.values.proofs.keyframes.read_frames.Goals as goal
 
 pub returns-in_err-times : goal.returns-in_err-times
 returns-in_err-times c = let a = c.args in frames_is (kind_of a.kind) (type_of a.what) a.flag a.frames a.easing
-    (reads_stop (λ xs. (aligned ▸ values (kind_of a.kind) (type_of a.what) (a.frames + 1)) ▸ ((aligned ▸ scaled a.easing) ▸ pick (has_spatial a.flag) (spatial a.frames) nothing)) c.times.ensures c.in_err-times.was (passed_on c.from_residual.result c.from_residual.ensures.1))
+    (reads_stop _ c.times.ensures c.in_err-times.was (passed_on c.from_residual.result c.from_residual.ensures.1))
 
 pub returns-in_err-read_values_part : goal.returns-in_err-read_values_part
 returns-in_err-read_values_part c = let a = c.args in frames_is (kind_of a.kind) (type_of a.what) a.flag a.frames a.easing
-    (reads_then (λ xs. (aligned ▸ values (kind_of a.kind) (type_of a.what) (a.frames + 1)) ▸ ((aligned ▸ scaled a.easing) ▸ pick (has_spatial a.flag) (spatial a.frames) nothing)) c.times.ensures c.in_ok-times.was
-    (reads_stop (λ xs. (aligned ▸ scaled a.easing) ▸ pick (has_spatial a.flag) (spatial a.frames) nothing) c.read_values_part.ensures c.in_err-read_values_part.was (passed_on c.from_residual-in_err-read_values_part.result c.from_residual-in_err-read_values_part.ensures.1)))
+    (reads_then _ c.times.ensures c.in_ok-times.was
+    (reads_stop _ c.read_values_part.ensures c.in_err-read_values_part.was (passed_on c.from_residual-in_err-read_values_part.result c.from_residual-in_err-read_values_part.ensures.1)))
 
 pub returns-in_err-read_easing : goal.returns-in_err-read_easing
 returns-in_err-read_easing c = let a = c.args in frames_is (kind_of a.kind) (type_of a.what) a.flag a.frames a.easing
-    (reads_then (λ xs. (aligned ▸ values (kind_of a.kind) (type_of a.what) (a.frames + 1)) ▸ ((aligned ▸ scaled a.easing) ▸ pick (has_spatial a.flag) (spatial a.frames) nothing)) c.times.ensures c.in_ok-times.was
-    (reads_then (λ xs. (aligned ▸ scaled a.easing) ▸ pick (has_spatial a.flag) (spatial a.frames) nothing) c.read_values_part.ensures c.in_ok-read_values_part.was
-    (reads_stop (λ xs. pick (has_spatial a.flag) (spatial a.frames) nothing) c.read_easing.ensures c.in_err-read_easing.was (passed_on c.from_residual-in_err-read_easing.result c.from_residual-in_err-read_easing.ensures.1))))
+    (reads_then _ c.times.ensures c.in_ok-times.was
+    (reads_then _ c.read_values_part.ensures c.in_ok-read_values_part.was
+    (reads_stop _ c.read_easing.ensures c.in_err-read_easing.was (passed_on c.from_residual-in_err-read_easing.result c.from_residual-in_err-read_easing.ensures.1))))
 
 pub returns : goal.returns
 returns c = let a = c.args in frames_is (kind_of a.kind) (type_of a.what) a.flag a.frames a.easing
-    (reads_then (λ xs. (aligned ▸ values (kind_of a.kind) (type_of a.what) (a.frames + 1)) ▸ ((aligned ▸ scaled a.easing) ▸ pick (has_spatial a.flag) (spatial a.frames) nothing)) c.times.ensures c.in_ok-times.was
-    (reads_then (λ xs. (aligned ▸ scaled a.easing) ▸ pick (has_spatial a.flag) (spatial a.frames) nothing) c.read_values_part.ensures c.in_ok-read_values_part.was
-    (reads_then (λ xs. pick (has_spatial a.flag) (spatial a.frames) nothing) c.read_easing.ensures c.in_ok-read_easing.was c.read_spatial.ensures)))
+    (reads_then _ c.times.ensures c.in_ok-times.was
+    (reads_then _ c.read_values_part.ensures c.in_ok-read_values_part.was
+    (reads_then _ c.read_easing.ensures c.in_ok-read_easing.was c.read_spatial.ensures)))

@@ -4,23 +4,21 @@ use Rattle.format.specs.Formats.{the}
 use Rattle.format.specs.Bodies.{how_many, curves}
 use Rattle.attributes.specs.Rows.{kind_of, type_of}
 use Rattle.reasons.proofs.NumberLaws.{passed_on}
-use Rattle.table.proofs.ReaderLaws.{reads_then, reads_stop}
+use Rattle.table.proofs.ReaderLaws.{reads_then, reads_stop, reads_item}
 use Rattle.values.specs.Parts.{frames_of, keyframes_of}
-use Rattle.values.proofs.ValueLaws.{reads_is, reads_told, count_few, easing_small}
+use Rattle.values.proofs.ValueLaws.{reads_is, count_few, easing_small}
 use Rattle.values.proofs.keyframes.read_keyframed.Goals as goal
 
 pub returns-in_err-frames : goal.returns-in_err-frames
-returns-in_err-frames c = let a = c.args in reads_stop (λ n. keyframes_of (kind_of a.kind) (type_of a.what) a.flag (the n)) c.item.ensures.reads c.in_err-frames.was (passed_on c.from_residual.result c.from_residual.ensures.1)
+returns-in_err-frames c = reads_stop _ c.item.ensures.reads c.in_err-frames.was (passed_on c.from_residual.result c.from_residual.ensures.1)
 
 pub read_interpolations-requires : goal.read_interpolations-requires
 read_interpolations-requires c = (c.in_ok-frames.ensures.reads.room, count_few 1 c.item.ensures.reads c.in_ok-frames.was c.in_ok-frames.ensures.shown)
 
 pub returns-in_err-beziers : goal.returns-in_err-beziers
 returns-in_err-beziers c =
-    let a = c.args in
-    let n = c.in_ok-frames.frames in
-    reads_told c.item.ensures.reads c.in_ok-frames.was c.in_ok-frames.ensures.shown (λ n. keyframes_of (kind_of a.kind) (type_of a.what) a.flag (the n))
-    (reads_stop (λ kinds. frames_of (kind_of a.kind) (type_of a.what) a.flag n (how_many 2 kinds * 4 * curves (kind_of a.kind) (type_of a.what))) c.read_interpolations.ensures.reads c.in_err-beziers.was (passed_on c.from_residual-in_err-beziers.result c.from_residual-in_err-beziers.ensures.1))
+    reads_item _ c.item.ensures.reads c.in_ok-frames.was c.in_ok-frames.ensures.shown
+    (reads_stop _ c.read_interpolations.ensures.reads c.in_err-beziers.was (passed_on c.from_residual-in_err-beziers.result c.from_residual-in_err-beziers.ensures.1))
 
 pub overflow_mul-easing : goal.overflow_mul-easing
 overflow_mul-easing c =
@@ -36,6 +34,6 @@ pub returns : goal.returns
 returns c =
     let a = c.args in
     let n = c.in_ok-frames.frames in
-    reads_told c.item.ensures.reads c.in_ok-frames.was c.in_ok-frames.ensures.shown (λ n. keyframes_of (kind_of a.kind) (type_of a.what) a.flag (the n))
-    (reads_then (λ kinds. frames_of (kind_of a.kind) (type_of a.what) a.flag n (how_many 2 kinds * 4 * curves (kind_of a.kind) (type_of a.what))) c.read_interpolations.ensures.reads c.in_ok-beziers.was
+    reads_item _ c.item.ensures.reads c.in_ok-frames.was c.in_ok-frames.ensures.shown
+    (reads_then _ c.read_interpolations.ensures.reads c.in_ok-beziers.was
     (reads_is (ap (frames_of (kind_of a.kind) (type_of a.what) a.flag n) (ap₂ (λ (x y : ℕ). x * y) c.in_ok-beziers.ensures.counts.0 c.curves.ensures.0)) c.read_frames.ensures))
