@@ -86,12 +86,10 @@ pub fn at_level(level: u32, code: u32, listed: Class) -> Class
 pub fn taken_as(scope: Scope, class: Class) -> Class
     ensures { result ≡ taken_as scope class }
 {
-    match scope {
-        Scope::All => class,
-        Scope::Lists => match class {
-            Class::End | Class::Container => class,
-            _ => Class::Opaque,
-        },
+    if scope == Scope::All || matches!(class, Class::End | Class::Container) {
+        class
+    } else {
+        Class::Opaque
     }
 }
 

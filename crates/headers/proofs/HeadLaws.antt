@@ -4,7 +4,7 @@ use mathlib.Core.List.{List}
 use mathlib.Core.Bool.{Bool, true, false}
 use mathlib.Core.Path.{◌≡◌, ◌∙◌, refl, ap, sym, subst}
 use native.Mathlib.Omega.{arith}
-use lib.ListN.{length, drop, length-drop}
+use lib.ListN.{length, get_or, drop, length-drop}
 use lib.Dec.{ltb, eqb}
 use borrow.Author.Tests.{ne_eqb}
 use Rattle.std.proofs.Common.{Result, Ok, Err}
@@ -18,8 +18,9 @@ use Rattle.reasons.specs.Numbers.{number_of}
 use Rattle.reasons.proofs.NumberLaws.{number_one}
 use Rattle.classes.specs.Classes.{bare, ends, contains}
 use Rattle.classes.specs.declared.Class.{Class}
+use Rattle.classes.specs.declared.Class.TheVariants.{Opaque}
 use Rattle.headers.specs.declared.Header.{Header}
-use Rattle.headers.specs.Heads.{as_head, head_by, fault_by}
+use Rattle.headers.specs.Heads.{as_head, class_here, head_by, fault_by}
 
 -- ---- No second answer fits.
 
@@ -64,6 +65,10 @@ module _ (class : Class) (left : ℕ) (s : List ℕ) (i : ℕ) {H : Header} {res
 
 pub head_none : (left : ℕ) (r : List ℕ) (e : Reason) (class : Class) → as_head (Err e) ≡ raw_head r → head_by class left r ≡ no_head (number_of e)
 head_none left r e class at = rw (sym at)
+
+-- the class that was looked up is that of the code there
+pub head_here : (cs : List Class) (left : ℕ) (s : List ℕ) (i : ℕ) {H : Header} {h : paper.Head} → StandsAt s i H → head_by (get_or cs H.code Opaque) left (drop i s) ≡ h → h ≡ head_by (class_here cs (drop i s)) left (drop i s)
+head_here cs left s i at e = sym e ∙ ap (λ (code : ℕ). head_by (get_or cs code Opaque) left (drop i s)) at.coded
 
 -- ---- The definitions' header, by the name of the class of its code, whatever the classes are.
 pub head_by_lem : (class : ℕ → paper.Class) (left : ℕ) (r : List ℕ) (c : Class) → is_end (class (le16 r / 64)) ≡ ends c → is_container (class (le16 r / 64)) ≡ contains c → read_head class left r ≡ head_by c left r

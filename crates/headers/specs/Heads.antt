@@ -1,13 +1,15 @@
 -- The answer of the header's reader, in the words of the definitions.
-use Rattle.std.specs.Prelude.{ℕ, List, Result, Ok, Err, ltb, eqb}
+use Rattle.std.specs.Prelude.{ℕ, List, Result, Ok, Err, get_or, ltb, eqb, ◌/◌}
 use Rattle.format.specs.FileAndTags as paper
-use Rattle.format.specs.FileAndTags.{read_head}
+use Rattle.format.specs.FileAndTags.{le16, read_head}
 use Rattle.format.specs.Tests.{pick, ◌and◌}
 use Rattle.classes.specs.Classes.{bare, ends, contains}
 use Rattle.classes.specs.declared.Class.{Class}
 use Rattle.reasons.specs.declared.Reason.{Reason}
 use Rattle.reasons.specs.Numbers.{number_of}
+use Rattle.classes.specs.declared.Class.TheVariants.{Opaque}
 use Rattle.headers.specs.declared.Header.{Header}
+use Rattle.headers.specs.declared.Passed.{Passed}
 
 abbrev pub as_head : Result Header Reason → paper.Head
 as_head (Ok h) = paper.head h.code h.length h.size
@@ -26,3 +28,13 @@ fault_by class left rest len =
 abbrev pub fault_of : Result Unit Reason → ℕ
 fault_of (Ok passed) = 0
 fault_of (Err e) = number_of e
+
+-- ---- a header that passes, by the classes that are lent
+
+abbrev pub as_passed : Result Passed Reason → paper.Head
+as_passed (Ok p) = paper.head p.header.code p.header.length p.header.size
+as_passed (Err e) = paper.no_head (number_of e)
+
+-- the class of the code that stands at the start of r
+abbrev pub class_here : List Class → List ℕ → Class
+class_here cs r = get_or cs (le16 r / 64) Opaque

@@ -3,7 +3,7 @@
 
 ghost use Rattle.std.specs.Prelude.{◌≡◌, ◌+◌, ◌<◌, ◌≤◌, length, drop, IfOk};
 ghost use Rattle.format.specs.FileAndTags.{le16, le32, raw_head};
-ghost use Rattle.headers.specs.Heads.{as_head, fault_of, fault_by};
+ghost use Rattle.headers.specs.Heads.{as_head, as_passed, class_here, fault_of, fault_by, head_by};
 
 use bits::BytePlace;
 use classes::Class;
@@ -76,4 +76,30 @@ pub fn passes(class: Class, depths: u32, rest: usize, len: u32) -> Result<(), Re
         Class::Container if depths == 0 => Err(Reason::ContainerAtDepth8),
         _ => Ok(()),
     }
+}
+
+// A header that passes, and the class of its code.
+#[derive(Clone, Copy, Debug, PartialEq, Eq)]
+pub struct Passed {
+    pub class: Class,
+    pub header: Header,
+}
+
+// The header at a place of a list's room, if it passes: once as it stands, then the class of its code among those lent, then the judge.
+pub fn read_head(
+    classes: &[Class],
+    depths: u32,
+    room: &[u8],
+    at: BytePlace,
+) -> Result<Passed, Reason>
+    requires { (length classes.now ≡ 1024) × (at.0 ≤ length room.now) }
+    ensures told { as_passed result ≡ head_by (class_here classes.now (drop at.0 room.now)) depths (drop at.0 room.now) }
+    ensures class { IfOk result (λ passed. passed.class ≡ class_here classes.now (drop at.0 room.now)) }
+    ensures inside { IfOk result (λ passed. at.0 + passed.header.size + passed.header.length ≤ length room.now) }
+{
+    let header = raw_head(room, at)?;
+    let class = classes[header.code as usize];
+    let start = at.0 + header.size as usize;
+    passes(class, depths, room.len() - start, header.length)?;
+    Ok(Passed { class, header })
 }

@@ -43,7 +43,7 @@ pub going_none : (a : Writer) (f : Format) → Going a a f f
 going_none a f = record { onward = onward_none a; rest = refl }
 
 -- the same writer sees the same
-same_run : {a b : Writer} → Onward a b → (g : Format) → ran (order_of b.order) b.values.now (state b) b.index g ≡ ran (order_of a.order) a.values.now (state b) b.index g
+pub same_run : {a b : Writer} → Onward a b → (g : Format) → ran (order_of b.order) b.values.now (state b) b.index g ≡ ran (order_of a.order) a.values.now (state b) b.index g
 same_run {a} {b} p g = ap₂ (λ (o : Order) (t : List ℕ). ran (order_of o) t (state b) b.index g) p.order p.values
 
 pub going_over : {T : Type 0} {a b : Writer} {f g : Format} (x : T) → Going a b f g → g ≡ nothing → Writes a b (Ok x) f

@@ -108,6 +108,19 @@ impl Writer<'_> {
         Ok(values[index] as usize)
     }
 
+    // The next number, which has no bits here: a flag number, say.
+    pub fn take(&mut self) -> Result<u64, Impossible>
+        ensures onward { Onward self.old self.new }
+        ensures stays { state self.new ≡ state self.old }
+        ensures taken { Numbered self.old.values.now self.old.index result }
+        ensures placed { IfOk result (λ _. self.new.index ≡ self.old.index + 1) }
+    {
+        let index = self.index;
+        let number = number_at(self.values, index)?;
+        self.index = index + 1;
+        Ok(number)
+    }
+
     // Zero bits up to the next whole byte.
     pub fn skip(&mut self)
         ensures writes { Writes self.old self.new done aligned }

@@ -4,3 +4,4 @@ pub mod ReaderLaws
 pub mod FloatLaws
 pub mod TextLaws
 pub mod FieldLaws
+pub mod OneLaws

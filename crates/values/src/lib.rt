@@ -1,5 +1,5 @@
 // The values of attributes, by their data type: one, or several in turn.
-#![tactic(auto)]
+#![tactic(auto, using(crate::proofs::ReadingRules::reading))]
 
 ghost use Rattle.std.specs.Prelude.{false, ◌≡◌, ◌≤◌};
 ghost use Rattle.format.specs.Formats.{times, ◌▸◌};

@@ -7,8 +7,5 @@ use Rattle.table.proofs.ReaderLaws.{reads_then, reads_stop}
 use Rattle.values.proofs.ValueLaws.{reads_is}
 use Rattle.values.proofs.read_announcing.Goals as goal
 
-pub returns-in_err-announced : goal.returns-in_err-announced
-returns-in_err-announced c = reads_stop _ c.fields.ensures.reads c.in_err-announced.was (passed_on c.from_residual.result c.from_residual.ensures.1)
-
 pub returns : goal.returns
 returns c = reads_then _ c.fields.ensures.reads c.in_ok-announced.was (reads_is (ap scaled c.in_ok-announced.ensures.counts.0) c.scaled.ensures)

@@ -8,17 +8,6 @@ use Rattle.values.specs.Parts.{offset_flag}
 use Rattle.values.proofs.ValueLaws.{dash_one, dash_stop, ub_behind}
 use Rattle.values.proofs.read_dashes.Goals as goal
 
-pub returns-in_err-align : goal.returns-in_err-align
-returns-in_err-align c = reads_stop _ c.align.ensures c.in_err-align.was (passed_on c.from_residual.result c.from_residual.ensures.1)
-
-pub returns-in_err-length : goal.returns-in_err-length
-returns-in_err-length c = let a = c.align.new.self in
-    reads_then _ c.align.ensures c.in_ok-align.was
-    (reads_never_then _ (passed_on c.from_residual-in_err-length.result c.from_residual-in_err-length.ensures.1) (dash_stop (order_of a.order) a.body.now a.place.0 c.in_err-length.ensures))
-
-pub overflow_add-length : goal.overflow_add-length
-overflow_add-length c = let a = c.align.new.self in omega (arith, (ub_behind (order_of a.order) a.body.now a.place.0 3 (lit≤ tt) c.in_ok-length.ensures).1)
-
 pub returns : goal.returns
 returns c =
     let a = c.align.new.self in

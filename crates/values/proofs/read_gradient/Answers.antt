@@ -6,9 +6,6 @@ use Rattle.values.specs.Parts.{stop_of, stops_of, after_alphas}
 use Rattle.values.proofs.ValueLaws.{gradient_is}
 use Rattle.values.proofs.read_gradient.Goals as goal
 
-pub returns-in_err-alphas : goal.returns-in_err-alphas
-returns-in_err-alphas c = gradient_is (reads_stop _ c.item.ensures.reads c.in_err-alphas.was (passed_on c.from_residual.result c.from_residual.ensures.1))
-
 pub returns-in_err-colors : goal.returns-in_err-colors
 returns-in_err-colors c = gradient_is (reads_item _ c.item.ensures.reads c.in_ok-alphas.was c.in_ok-alphas.ensures.shown
     (reads_stop _ c.item-2.ensures.reads c.in_err-colors.was (passed_on c.from_residual-in_err-colors.result c.from_residual-in_err-colors.ensures.1)))

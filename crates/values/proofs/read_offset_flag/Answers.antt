@@ -7,14 +7,6 @@ use Rattle.table.proofs.ReaderLaws.{reads_first, reads_never_then, reads_ok, rea
 use Rattle.values.proofs.ValueLaws.{ub_one, ub_stop, ub_behind}
 use Rattle.values.proofs.read_offset_flag.Goals as goal
 
-pub returns-in_err-exist : goal.returns-in_err-exist
-returns-in_err-exist c = let a = c.args.reader.now in
-    reads_never_then _ (passed_on c.from_residual.result c.from_residual.ensures.1) (ub_stop (order_of a.order) a.body.now a.place.0 1 c.in_err-exist.ensures)
-
-pub fields-requires : goal.fields-requires
-fields-requires c = let a = c.args.reader.now in let k = ub_behind (order_of a.order) a.body.now a.place.0 1 (lit≤ tt) c.in_ok-exist.ensures in
-    (shown_room c.requires k.0 c.show.ensures, lit≤ tt, lit≤ tt, omega (arith, k.1), refl)
-
 pub returns-in_err-fields : goal.returns-in_err-fields
 returns-in_err-fields c = let a = c.args.reader.now in let k = ub_behind (order_of a.order) a.body.now a.place.0 1 (lit≤ tt) c.in_ok-exist.ensures in
     reads_first _ c.requires k.0 c.show.ensures (ub_one (order_of a.order) a.body.now a.place.0 1 c.in_ok-exist.ensures) (reads_err c.in_err-fields.was (passed_on c.from_residual-in_err-fields.result c.from_residual-in_err-fields.ensures.1) c.fields.ensures.reads)

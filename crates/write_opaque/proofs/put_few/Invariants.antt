@@ -6,7 +6,4 @@ use Rattle.format.specs.TableOfNumbers.{eight_of}
 use Rattle.write_opaque.proofs.put_few.Given as goal
 
 abbrev pub invariant-loop-i : goal.invariant-loop-i
-invariant-loop-i l = (l.out ≡ sets l.initial.out l.at (take l.i (eight_of l.number))) × (l.i ≤ l.count)
-
-abbrev pub decreases-loop-i : goal.decreases-loop-i
-decreases-loop-i l = l.count - l.i
+invariant-loop-i l = l.out ≡ sets l.initial.out l.at (take l.i (eight_of l.number))

@@ -10,10 +10,6 @@ use Rattle.table.proofs.ReaderLaws.{reads_then, reads_stop}
 use Rattle.values.proofs.ValueLaws.{frames_is}
 use Rattle.values.proofs.keyframes.read_frames.Goals as goal
 
-pub returns-in_err-times : goal.returns-in_err-times
-returns-in_err-times c = let a = c.args in frames_is (kind_of a.kind) (type_of a.what) a.flag a.frames a.easing
-    (reads_stop _ c.times.ensures c.in_err-times.was (passed_on c.from_residual.result c.from_residual.ensures.1))
-
 pub returns-in_err-read_values_part : goal.returns-in_err-read_values_part
 returns-in_err-read_values_part c = let a = c.args in frames_is (kind_of a.kind) (type_of a.what) a.flag a.frames a.easing
     (reads_then _ c.times.ensures c.in_ok-times.was

@@ -8,13 +8,6 @@ use Rattle.table.proofs.ReaderLaws.{reads_then, reads_stop}
 use Rattle.values.proofs.ValueLaws.{reads_is, reads_nothing, eases_some, eases_none}
 use Rattle.values.proofs.keyframes.read_interpolations.Goals as goal
 
-pub returns-in_err-align-clause-reads : goal.returns-in_err-align-clause-reads
-returns-in_err-align-clause-reads c = reads_stop _ c.align.ensures c.in_err-align.was (passed_on c.from_residual.result c.from_residual.ensures.1)
-
-pub returns-then-has_interpolations-clause-reads : goal.returns-then-has_interpolations-clause-reads
-returns-then-has_interpolations-clause-reads c = let k = kind_of c.args.kind in
-    reads_then _ c.align.ensures c.in_ok-align.was (reads_is (sym (interpolations_some k c.args.frames (sym c.if-has_interpolations.true ∙ c.has_interpolations.ensures))) c.fields.ensures.reads)
-
 pub returns-then-has_interpolations-clause-counts : goal.returns-then-has_interpolations-clause-counts
 returns-then-has_interpolations-clause-counts c = eases_some c.align.ensures c.in_ok-align.was (kind_of c.args.kind) c.args.frames c.fields.result (sym c.if-has_interpolations.true ∙ c.has_interpolations.ensures) c.fields.ensures.counts
 

@@ -9,27 +9,6 @@ use Rattle.values.specs.Parts.{frames_of, keyframes_of}
 use Rattle.values.proofs.ValueLaws.{reads_is, count_few, easing_small}
 use Rattle.values.proofs.keyframes.read_keyframed.Goals as goal
 
-pub returns-in_err-frames : goal.returns-in_err-frames
-returns-in_err-frames c = reads_stop _ c.item.ensures.reads c.in_err-frames.was (passed_on c.from_residual.result c.from_residual.ensures.1)
-
-pub read_interpolations-requires : goal.read_interpolations-requires
-read_interpolations-requires c = (c.in_ok-frames.ensures.reads.room, count_few 1 c.item.ensures.reads c.in_ok-frames.was c.in_ok-frames.ensures.shown)
-
-pub returns-in_err-beziers : goal.returns-in_err-beziers
-returns-in_err-beziers c =
-    reads_item _ c.item.ensures.reads c.in_ok-frames.was c.in_ok-frames.ensures.shown
-    (reads_stop _ c.read_interpolations.ensures.reads c.in_err-beziers.was (passed_on c.from_residual-in_err-beziers.result c.from_residual-in_err-beziers.ensures.1))
-
-pub overflow_mul-easing : goal.overflow_mul-easing
-overflow_mul-easing c =
-    let n : c.in_ok-frames.frames ≤ 4096 = count_few 1 c.item.ensures.reads c.in_ok-frames.was c.in_ok-frames.ensures.shown in
-    omega (arith, easing_small c.in_ok-frames.frames c.in_ok-beziers.ensures.counts.1 c.curves.ensures.1 n)
-
-pub read_frames-requires : goal.read_frames-requires
-read_frames-requires c =
-    let n : c.in_ok-frames.frames ≤ 4096 = count_few 1 c.item.ensures.reads c.in_ok-frames.was c.in_ok-frames.ensures.shown in
-    (c.in_ok-beziers.ensures.reads.room, n, omega (arith, easing_small c.in_ok-frames.frames c.in_ok-beziers.ensures.counts.1 c.curves.ensures.1 n))
-
 pub returns : goal.returns
 returns c =
     let a = c.args in

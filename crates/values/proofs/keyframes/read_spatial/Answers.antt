@@ -10,8 +10,5 @@ use Rattle.values.proofs.keyframes.read_spatial.Goals as goal
 pub returns-then-flag-ne7 : goal.returns-then-flag-ne7
 returns-then-flag-ne7 c = reads_is (spatial_none c.args.flag c.args.frames c.if-flag-ne7.true) (reads_nothing c.requires.0)
 
-pub returns-in_err-align : goal.returns-in_err-align
-returns-in_err-align c = reads_is (spatial_some c.args.flag c.args.frames (omega arith)) (reads_stop _ c.align.ensures c.in_err-align.was (passed_on c.from_residual.result c.from_residual.ensures.1))
-
 pub returns : goal.returns
 returns c = reads_is (spatial_some c.args.flag c.args.frames (omega arith)) (reads_then _ c.align.ensures c.in_ok-align.was c.read_announcing.ensures)
