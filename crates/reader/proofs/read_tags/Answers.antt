@@ -1,5 +1,5 @@
 -- `reader::read_tags` meets its contract: the classes that are made here are those of the walk.
-use mathlib.Core.Path.{refl, sym, ap, ◌∙◌}
+use mathlib.Core.Path.{sym, ap, ◌∙◌}
 use Rattle.std.proofs.Common.{Result}
 use Rattle.bits.specs.Places.{order_of}
 use Rattle.classes.proofs.FillLaws.{classed}
