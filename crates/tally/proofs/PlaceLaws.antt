@@ -108,14 +108,8 @@ module _ (o : Order) (code : ℕ) (body : List ℕ) {a b : Reader} {y : Result (
   pub list_open : {q : BytePlace} → y ≡ Ok (Some q) → q.0 ≡ list_in o code body
   list_open e = subst Starts e list_told
 
-  -- there is none
-  pub list_else : ((q : BytePlace) → y ≡ Ok (Some q) → ⊥) → length body ≡ list_in o code body
-  list_else h = go y refl list_told
-    where
-      go : (z : Result (Option BytePlace) Reason) → y ≡ z → Starts z → length body ≡ list_in o code body
-      go (Ok (Some q)) e s = absurd (h q e)
-      go (Ok None) e s = s
-      go (Err x) e s = s
+  pub list_stop : {e : Reason} → y ≡ Err e → length body ≡ list_in o code body
+  list_stop e = subst Starts e list_told
 
 pub list_le : (o : Order) (code : ℕ) (body : List ℕ) {n : ℕ} → n ≡ list_in o code body → n ≤ length body
 list_le o code body e = rw e (go (own_part o (container_body code) body).ended refl (has_list_in o (container_body code) body))

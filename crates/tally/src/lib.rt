@@ -111,20 +111,18 @@ pub fn add(tally: Tally, level: u32, order: u32, file: &[u8]) -> Added
             answer: Answer::Refused(Reason::TallyFull, 0),
         };
     }
-    let judged = reader::tags(level, order, file, &mut []);
-    if !matches!(
-        judged,
-        Answer::Accepted(_) | Answer::Refused(Reason::TableTooShort, _)
-    ) {
-        return Added {
+    match reader::tags(level, order, file, &mut []) {
+        Answer::Accepted(_) | Answer::Refused(Reason::TableTooShort, _) => {
+            answers::is_file(file);
+            let named = Order::try_from(order).unwrap();
+            Added {
+                tally: with_file(tally, level, named, file),
+                answer: Answer::Accepted(file.len() as u64),
+            }
+        }
+        refused => Added {
             tally,
-            answer: judged,
-        };
-    }
-    answers::is_file(file);
-    let named = Order::try_from(order).unwrap();
-    Added {
-        tally: with_file(tally, level, named, file),
-        answer: Answer::Accepted(file.len() as u64),
+            answer: refused,
+        },
     }
 }
