@@ -3,7 +3,6 @@ use Prim.Native.Nat.{ℕ, ◌+◌, ◌-◌, ◌^◌, ◌≤◌, ◌<◌}
 use mathlib.Core.List.{List, [], ◌∷◌}
 use mathlib.Core.Path.{◌≡◌, refl, ap, sym, subst, ◌∙◌}
 use mathlib.Core.Bool.{true, false}
-use mathlib.Core.Logic.{◌⊎◌, inl, inr}
 use native.Mathlib.Omega.{arith}
 use lib.ListN.{length, get_or, drop, set}
 use Rattle.std.specs.Result.{IsOk}
@@ -136,14 +135,16 @@ module _ (order level : ℕ) (t : Tally) (f : List ℕ) where
     call = record { call = demands.tags; before = m; after = m'; answer = r; promise = judged }
 
     -- it refused the file
-    pub adding_refused : {e : Reason} {n : ℕ} → is_full t ≡ false → r ≡ Refused e n → (e ≡ TableTooShort → ⊥) → record { tally = t; answer = answer_of r } ≡ adding order level t f
+    pub adding_refused : {e : Reason} {n : ℕ} → is_full t ≡ false → r ≡ Refused e n → (e ≡ TableTooShort → ⊥) → record { tally = t; answer = paper.refused (number_of e) n } ≡ adding order level t f
     adding_refused {e} {n} h q k =
-        rw q (adding_by h (demands.was_refused call (record { refused = ap answer_of q; not_room = λ w. k (number_one e TableTooShort w) })))
+        (adding_by h (demands.was_refused call (record { refused = ap answer_of q; not_room = λ w. k (number_one e TableTooShort w) })))
 
-    -- it had no fault to tell
-    pub judged_whole : {n m : ℕ} → (r ≡ Accepted n) ⊎ (r ≡ Refused TableTooShort m) → (walk_file order level f).ended ≡ whole
-    judged_whole (inl q) = demands.was_read call (rw q tt)
-    judged_whole (inr q) = demands.was_read call (rw q refl)
+    -- it had no room, or it had
+    pub no_room : {e : Reason} {n : ℕ} → r ≡ Refused e n → e ≡ TableTooShort → (walk_file order level f).ended ≡ whole
+    no_room q e = demands.was_read call (rw q (ap number_of e))
+
+    pub room : {n : ℕ} → r ≡ Accepted n → (walk_file order level f).ended ≡ whole
+    room q = demands.was_read call (rw q tt)
 
 -- the order that its number names
 module _ (order level : ℕ) (f : List ℕ) (judged : (walk_file order level f).ended ≡ whole) where

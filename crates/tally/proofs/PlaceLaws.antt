@@ -118,18 +118,3 @@ list_le o code body e = rw e (go (own_part o (container_body code) body).ended r
     go (Fault x) q list = omega arith
     go (At p) q true = omega (arith, values_le o Container code body p q)
     go (At p) q false = omega arith
-
--- ---- by the class
-module _ (o : Order) (c : Class) (code len s : ℕ) (f : List ℕ) where
-  pub next_container : {n : ℕ} → c ≡ Container → n ≡ list_in o code (take (s + len - s) (drop s f)) → s + n ≡ next_by o c code len s f
-  next_container e q = let l : s + len - s ≡ len = omega arith in rw (e, q, l)
-
-  pub next_else : (c ≡ Container → ⊥) → s + len ≡ next_by o c code len s f
-  next_else h = go c refl
-    where
-      go : (d : Class) → c ≡ d → s + len ≡ next_by o d code len s f
-      go Opaque e = refl
-      go End e = refl
-      go Container e = absurd (h e)
-      go Fixed e = refl
-      go Attributes e = refl

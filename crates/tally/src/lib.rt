@@ -111,18 +111,19 @@ pub fn add(tally: Tally, level: u32, order: u32, file: &[u8]) -> Added
             answer: Answer::Refused(Reason::TallyFull, 0),
         };
     }
-    match reader::tags(level, order, file, &mut []) {
-        Answer::Accepted(_) | Answer::Refused(Reason::TableTooShort, _) => {
-            answers::is_file(file);
-            let named = Order::try_from(order).unwrap();
-            Added {
-                tally: with_file(tally, level, named, file),
-                answer: Answer::Accepted(file.len() as u64),
-            }
+    let judged = reader::tags(level, order, file, &mut []);
+    if let Answer::Refused(reason, _) = judged {
+        if reason != Reason::TableTooShort {
+            return Added {
+                tally,
+                answer: judged,
+            };
         }
-        refused => Added {
-            tally,
-            answer: refused,
-        },
+    }
+    answers::is_file(file);
+    let named = Order::try_from(order).unwrap();
+    Added {
+        tally: with_file(tally, level, named, file),
+        answer: Answer::Accepted(file.len() as u64),
     }
 }
