@@ -163,7 +163,7 @@ fn put_flags(
 }
 
 // An attribute block, by a writer that stands one byte after its place.
-fn write_at(block: Block, writer: &mut Writer, at: BytePlace) -> Result<BytePlace, Impossible>
+fn write_at(rows: &[Attribute], writer: &mut Writer, at: BytePlace) -> Result<BytePlace, Impossible>
     requires flags { HasFlags (attributes_in rows.now) }
     requires first { (writer.old.index ≡ 0) × (writer.old.sink.place.0 ≡ 8 * (at.0 + 1)) × (writer.old.sink.part ≡ 0) }
     ensures onward { Onward writer.old writer.new }

@@ -65,7 +65,7 @@ block_flags code h = both (any_flag (attributes_of code)) refl (leb (most_flags 
     both false p d q e = let z : true ≡ false = sym e ∙ rw p in clash cc
 
 -- ---- as the code has it
-module _ (code : ℕ) {rows : List Attribute} (block : is_block code ≡ true) (are : attributes_in rows ≡ attributes_of code) where
+module _ (code : ℕ) (rows : List Attribute) (block : is_block code ≡ true) (are : attributes_in rows ≡ attributes_of code) where
   pub rows_flags : HasFlags (attributes_in rows)
   rows_flags = subst HasFlags (sym are) (block_flags code block)
 
