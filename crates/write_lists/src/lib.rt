@@ -8,7 +8,7 @@ ghost use Rattle.format.specs.WritingFiles.{claims, unwalk_list};
 ghost use Rattle.bits.specs.Places.{InEither, order_of};
 ghost use Rattle.classes.specs.Classes.{ends};
 ghost use Rattle.classes.specs.declared.Class.TheVariants.{Opaque};
-ghost use Rattle.tags.specs.Lent.{classes_in, Tabled};
+ghost use Rattle.tags.specs.Lent.{class_in, classes_in, Tabled};
 ghost use Rattle.sink.specs.Lain.{longest, lies, lain_as};
 ghost use Rattle.write_heads.specs.Heads.{kept_bytes};
 ghost use Rattle.write_lists.specs.Stood.{over, stood_as};
@@ -23,6 +23,14 @@ use sink::Impossible;
 pub struct Reached {
     pub place: BytePlace,
     pub index: usize,
+}
+
+// The class of a code.
+fn class_of(classes: &[Class], code: u32) -> Class
+    requires { code < length classes.now }
+    ensures { result ≡ class_in classes.now code }
+{
+    classes[code as usize]
 }
 
 // The values of a tag that is not opaque, by its class.
@@ -64,12 +72,7 @@ fn claims_long(table: &[u64], index: usize) -> bool
 }
 
 // Where the values of the tag at an index end, if the table has all of them and its state is one of its class.
-fn values_end(
-    class: Class,
-    claimed: bool,
-    table: &[u64],
-    index: usize,
-) -> Result<usize, Impossible>
+fn values_end(class: Class, claimed: bool, table: &[u64], index: usize) -> Result<usize, Impossible>
     requires { index < length table.now }
     ensures { ValuesEnd claimed class table.now index result }
 {
@@ -201,9 +204,9 @@ fn ends_list(class: Class) -> bool
 }
 
 // The tag list whose numbers start at an index; so many `depths` may lie below it. It calls itself for the list in a container, which comes
-// between the container's own values and its header. The classes of the 1,024 codes are lent as numbers: they were made once, for all lists.
+// between the container's own values and its header. The classes of the 1,024 codes are lent: they were made once, for all lists.
 pub fn write_list(
-    classes: &[u8],
+    classes: &[Class],
     order: Order,
     depths: u32,
     out: &mut [u8],
@@ -222,7 +225,7 @@ pub fn write_list(
             return Err(Impossible);
         }
         let code = number as u32;
-        let class = classes::class_numbered(classes[code as usize]);
+        let class = class_of(classes, code);
         let claimed = claims_long(table, index);
         if is_opaque(class) {
             let whole = write_opaque_tag(code, out, place, claimed, table, index)?;

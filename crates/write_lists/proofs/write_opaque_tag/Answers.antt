@@ -1,5 +1,5 @@
 -- `write_lists::write_opaque_tag` meets its contract.
-use Rattle.std.proofs.Common.{sym, ap, ◌∙◌, arith}
+use Rattle.std.proofs.Common.{sym, ap, ◌∙◌}
 use Rattle.std.specs.Prelude.{Result}
 use Rattle.bits.specs.declared.BytePlace.{BytePlace}
 use Rattle.classes.specs.declared.Class.TheVariants.{Opaque}
