@@ -18,12 +18,17 @@ use classes::{Class, Scope};
 use lists::{Fault, Lent, TagList, Walk};
 use reasons::Reason;
 
+// The highest level that has a meaning, and the bytes of the longest file.
+const HIGHEST_LEVEL: u32 = 1023;
+
+const LONGEST_FILE: usize = 16777216;
+
 // 1 to 5 are tried in this order, and 24 after 1. A file that passes is read in the order that the number names.
 pub fn start(level: u32, order: u32, file: &[u8]) -> Result<Order, Reason>
     ensures fault { fault_of result ≡ start_fault order level file.now }
     ensures named { IfOk result (λ named. order_of named ≡ order_named order) }
 {
-    if 1023 < level {
+    if HIGHEST_LEVEL < level {
         return Err(Reason::LevelAbove1023);
     }
     let named = Order::try_from(order)?;
@@ -37,7 +42,7 @@ pub fn start(level: u32, order: u32, file: &[u8]) -> Result<Order, Reason>
     if file[3] != 1 {
         return Err(Reason::VersionNot1);
     }
-    if headers::le32_at(file, 4) as usize != size || 16777216 < size {
+    if headers::le32_at(file, 4) as usize != size || LONGEST_FILE < size {
         return Err(Reason::LengthFieldWrong);
     }
     Ok(named)
