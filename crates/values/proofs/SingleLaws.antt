@@ -1,7 +1,5 @@
 -- Values that are one item, and those that are not: what `single_of` tells of their formats.
-use Prim.Native.Nat.{ℕ}
-use mathlib.Core.List.{List, [], ◌∷◌}
-use mathlib.Core.Path.{◌≡◌, refl, sym, ap, subst, ◌∙◌}
+use mathlib.Core.Path.{◌≡◌, refl}
 use Rattle.std.specs.Prelude.{Option, Some, None}
 use Rattle.format.specs.Formats.{Format, nothing}
 use Rattle.format.specs.Bodies.{value}
@@ -10,7 +8,7 @@ use Rattle.items.specs.declared.Item.{Item}
 use Rattle.attributes.specs.Rows.{type_of}
 use Rattle.attributes.specs.declared.DataType.{DataType}
 use Rattle.attributes.specs.declared.DataType.TheVariants.{U32, Time, Float, Ratio, Bool, Byte, BlendMode, Path, Point, Color, GradientColor, EnumTo1, EnumTo2, EnumTo4, EnumTo6, EnumTo7, Dashes, TagBlock}
-use Rattle.values.specs.Single.{single_by, unless_single, compound_of}
+use Rattle.values.specs.Single.{single_by, compound_of}
 
 -- a value that is one item has its format
 abbrev pub ValueIs : Option Item → Format → Type 0
@@ -36,13 +34,6 @@ single_value EnumTo6 = refl
 single_value EnumTo7 = refl
 single_value Dashes = tt
 single_value TagBlock = tt
-
--- ---- what a `match` on `single_of` tells
-pub value_single : (d : DataType) {s : Option Item} (k : Item) → s ≡ single_by d → s ≡ Some k → format_of k ≡ value (type_of d)
-value_single d k e h = sym (subst (λ (z : Option Item). ValueIs z (value (type_of d))) (sym e ∙ h) (single_value d))
-
-pub value_compound : (d : DataType) {s : Option Item} → s ≡ single_by d → s ≡ None → compound_of d ≡ value (type_of d)
-value_compound d e h = ap (λ (z : Option Item). unless_single z (value (type_of d))) (sym e ∙ h)
 
 -- ---- the others of a `match` on the six data types that are not one item and have something
 pub others_nothing : (d : DataType) → (d ≡ Ratio → ⊥) → (d ≡ Path → ⊥) → (d ≡ Point → ⊥) → (d ≡ Color → ⊥) → (d ≡ GradientColor → ⊥) → (d ≡ Dashes → ⊥) → compound_of d ≡ nothing

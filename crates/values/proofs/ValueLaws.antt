@@ -1,5 +1,5 @@
 -- Values and keyframed content: the formats of their parts, and what a `match` tells.
-use Rattle.std.proofs.Common.{◌≡◌, ℕ, zero, suc, ◌+◌, ◌*◌, ◌^◌, ◌<◌, ◌≤◌, Bool, true, false, List, [], ◌∷◌, ◌++◌, length, refl, sym, ap, ap₂, ◌∙◌, arith, Result, Ok, Err, IfOk}
+use Rattle.std.proofs.Common.{◌≡◌, ℕ, zero, suc, ◌+◌, ◌*◌, ◌^◌, ◌<◌, ◌≤◌, Bool, true, false, List, [], ◌∷◌, ◌++◌, refl, sym, ap, ap₂, ◌∙◌, arith, Result, Ok, IfOk}
 use mathlib.Core.Path.{subst}
 use native.Mathlib.Nat.{mul-le-mul}
 use native.Mathlib.Numerals.{add-one}
@@ -9,14 +9,13 @@ use Rattle.format.specs.Tests.{pick}
 use Rattle.format.specs.Bits.{Order, ub}
 use Rattle.format.specs.Reading.{Ending, At, Fault, Reading, shows, stop, follow}
 use Rattle.format.specs.Formats.{Item, Format, nothing, item, ◌▹◌, ◌▸◌, times, the}
-use Rattle.format.specs.Items.{run, read_item, read_align, skipped, Num, num, bad, map_num, show_num, read_ub, byte, uint16, time, color, count, scaled, coordinates, alpha_stop, color_stop, gradient_color}
+use Rattle.format.specs.Items.{run, read_item, skipped, Num, num, bad, map_num, show_num, read_ub, byte, uint16, time, color, count, scaled, coordinates, alpha_stop, color_stop, gradient_color}
 use Rattle.format.specs.Bodies as bodies
 use Rattle.format.specs.Bodies.{values, interpolations, how_many, aligned, spatial, has_spatial}
-use Rattle.bits.specs.Places.{PlaceIn, order_of}
+use Rattle.bits.specs.Places.{order_of}
 use Rattle.bits.specs.declared.Order.{Order as Code}
 use Rattle.bits.proofs.FieldLaws.{IsField, ub_got}
 use Rattle.reasons.specs.declared.Reason.{Reason}
-use Rattle.reasons.specs.Numbers.{number_of}
 use Rattle.items.specs.Kinds.{format_of}
 use Rattle.items.specs.declared.Item.TheVariants.{Count}
 use Rattle.items.proofs.ItemLaws.{count_range}

@@ -17,11 +17,7 @@ use table::Reader;
 use table::fields::Field;
 
 // The interpolations of n frames, UB[2] each, if the kind has them. A Bezier frame announces four easing numbers for each of its curves.
-fn read_interpolations(
-    reader: &mut Reader<'_>,
-    kind: Kind,
-    frames: usize,
-) -> Result<usize, Reason>
+fn read_interpolations(reader: &mut Reader<'_>, kind: Kind, frames: usize) -> Result<usize, Reason>
     requires { Room reader.old × (frames ≤ 4096) }
     ensures reads { Reads reader.old reader.new result (aligned ▸ interpolations_of (kind_of kind) frames) }
     ensures counts { IfOk result (λ n. (n ≡ how_many 2 (run (order_of reader.old.order) reader.old.body.now (aligned ▸ interpolations_of (kind_of kind) frames) reader.old.place.0).shown * 4) × (n ≤ 6 * frames)) }

@@ -1,9 +1,7 @@
 -- `values::read_announcing` meets its contract: the fields, and then as many as they announce.
 use Rattle.std.proofs.Common.{ap}
 use Rattle.format.specs.Items.{scaled}
-use Rattle.reasons.proofs.NumberLaws.{passed_on}
-use Rattle.table.specs.Fields.{announced}
-use Rattle.table.proofs.ReaderLaws.{reads_then, reads_stop}
+use Rattle.table.proofs.ReaderLaws.{reads_then}
 use Rattle.values.proofs.ValueLaws.{reads_is}
 use Rattle.values.proofs.read_announcing.Goals as goal
 

@@ -1,11 +1,8 @@
 -- `values::read_dashes` meets its contract: the skip, the length, and the flag of the offset.
-use Rattle.std.proofs.Common.{lit≤, arith}
+use Rattle.std.proofs.Common.{lit≤}
 use Rattle.bits.specs.Places.{order_of}
-use Rattle.format.specs.Formats.{Item, item, ◌▸◌}
-use Rattle.reasons.proofs.NumberLaws.{passed_on}
-use Rattle.table.proofs.ReaderLaws.{reads_then, reads_stop, reads_first, reads_never_then}
-use Rattle.values.specs.Parts.{offset_flag}
-use Rattle.values.proofs.ValueLaws.{dash_one, dash_stop, ub_behind}
+use Rattle.table.proofs.ReaderLaws.{reads_then, reads_first}
+use Rattle.values.proofs.ValueLaws.{dash_one, ub_behind}
 use Rattle.values.proofs.read_dashes.Goals as goal
 
 pub returns : goal.returns

@@ -1,8 +1,6 @@
 -- `values::read_gradient` meets its contract: both counts, the alpha stops, the color stops.
-use Rattle.format.specs.Formats.{the, times}
 use Rattle.reasons.proofs.NumberLaws.{passed_on}
 use Rattle.table.proofs.ReaderLaws.{reads_then, reads_stop, reads_item}
-use Rattle.values.specs.Parts.{stop_of, stops_of, after_alphas}
 use Rattle.values.proofs.ValueLaws.{gradient_is}
 use Rattle.values.proofs.read_gradient.Goals as goal
 

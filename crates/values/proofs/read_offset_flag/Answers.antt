@@ -1,10 +1,9 @@
 -- `values::read_offset_flag` meets its contract: one bit, and another if it is set.
-use Rattle.std.proofs.Common.{refl, lit≤, arith}
+use Rattle.std.proofs.Common.{lit≤}
 use Rattle.bits.specs.Places.{order_of}
-use Rattle.format.specs.Formats.{Item, item, times, the}
 use Rattle.reasons.proofs.NumberLaws.{passed_on}
-use Rattle.table.proofs.ReaderLaws.{reads_first, reads_never_then, reads_ok, reads_err, shown_room}
-use Rattle.values.proofs.ValueLaws.{ub_one, ub_stop, ub_behind}
+use Rattle.table.proofs.ReaderLaws.{reads_first, reads_ok, reads_err}
+use Rattle.values.proofs.ValueLaws.{ub_one, ub_behind}
 use Rattle.values.proofs.read_offset_flag.Goals as goal
 
 pub returns-in_err-fields : goal.returns-in_err-fields

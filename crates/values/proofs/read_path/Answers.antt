@@ -1,10 +1,6 @@
 -- `values::read_path` meets its contract: the count, and then the verbs and what they announce.
-use Rattle.std.proofs.Common.{refl, lit≤, arith}
-use Rattle.format.specs.Formats.{Item, item, ◌▹◌, times, the}
-use Rattle.format.specs.Items.{coordinates, scaled}
-use Rattle.reasons.proofs.NumberLaws.{passed_on}
-use Rattle.table.proofs.ReaderLaws.{reads_stop, reads_item}
-use Rattle.values.proofs.ValueLaws.{reads_is, count_few, path_is}
+use Rattle.table.proofs.ReaderLaws.{reads_item}
+use Rattle.values.proofs.ValueLaws.{reads_is, path_is}
 use Rattle.values.proofs.read_path.Goals as goal
 
 pub returns : goal.returns

@@ -1,9 +1,4 @@
 -- `values::keyframes::read_frames` meets its contract: the times, the values, the easing and the spatial part, one after the other.
-use Rattle.std.proofs.Common.{◌+◌}
-use Rattle.format.specs.Tests.{pick}
-use Rattle.format.specs.Formats.{nothing, ◌▸◌}
-use Rattle.format.specs.Items.{scaled}
-use Rattle.format.specs.Bodies.{aligned, values, spatial, has_spatial}
 use Rattle.attributes.specs.Rows.{kind_of, type_of}
 use Rattle.reasons.proofs.NumberLaws.{passed_on}
 use Rattle.table.proofs.ReaderLaws.{reads_then, reads_stop}

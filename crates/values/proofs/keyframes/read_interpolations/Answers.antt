@@ -1,10 +1,8 @@
 -- `values::keyframes::read_interpolations` meets its contract: the skip, and then fields of two bits, if the kind has them.
 use Rattle.std.proofs.Common.{sym, ◌∙◌}
-use Rattle.format.specs.Bodies.{interpolations}
 use Rattle.attributes.specs.Rows.{kind_of}
-use Rattle.attributes.proofs.ContentLaws.{interpolations_some, interpolations_none}
-use Rattle.reasons.proofs.NumberLaws.{passed_on}
-use Rattle.table.proofs.ReaderLaws.{reads_then, reads_stop}
+use Rattle.attributes.proofs.ContentLaws.{interpolations_none}
+use Rattle.table.proofs.ReaderLaws.{reads_then}
 use Rattle.values.proofs.ValueLaws.{reads_is, reads_nothing, eases_some, eases_none}
 use Rattle.values.proofs.keyframes.read_interpolations.Goals as goal
 

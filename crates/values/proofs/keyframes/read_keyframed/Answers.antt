@@ -1,12 +1,9 @@
 -- `values::keyframes::read_keyframed` meets its contract: the count, the interpolations, and the parts that follow them.
-use Rattle.std.proofs.Common.{ℕ, ◌*◌, ◌≤◌, ap, ap₂, arith}
-use Rattle.format.specs.Formats.{the}
-use Rattle.format.specs.Bodies.{how_many, curves}
+use Rattle.std.proofs.Common.{ℕ, ◌*◌, ap, ap₂}
 use Rattle.attributes.specs.Rows.{kind_of, type_of}
-use Rattle.reasons.proofs.NumberLaws.{passed_on}
-use Rattle.table.proofs.ReaderLaws.{reads_then, reads_stop, reads_item}
-use Rattle.values.specs.Parts.{frames_of, keyframes_of}
-use Rattle.values.proofs.ValueLaws.{reads_is, count_few, easing_small}
+use Rattle.table.proofs.ReaderLaws.{reads_then, reads_item}
+use Rattle.values.specs.Parts.{frames_of}
+use Rattle.values.proofs.ValueLaws.{reads_is}
 use Rattle.values.proofs.keyframes.read_keyframed.Goals as goal
 
 pub returns : goal.returns

@@ -1,9 +1,6 @@
 -- `values::keyframes::read_spatial` meets its contract: nothing, or flags that announce Points.
-use Rattle.std.proofs.Common.{◌*◌, arith}
-use Rattle.reasons.proofs.NumberLaws.{passed_on}
-use Rattle.table.specs.declared.fields.Field.TheVariants.{SpatialFlag}
-use Rattle.table.proofs.ReaderLaws.{reads_then, reads_stop}
-use Rattle.values.specs.Parts.{announcing}
+use Rattle.std.proofs.Common.{arith}
+use Rattle.table.proofs.ReaderLaws.{reads_then}
 use Rattle.values.proofs.ValueLaws.{reads_is, reads_nothing, spatial_none, spatial_some}
 use Rattle.values.proofs.keyframes.read_spatial.Goals as goal
 
