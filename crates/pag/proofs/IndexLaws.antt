@@ -20,12 +20,6 @@ use Rattle.pag.specs.Plain.{plain, plain_of}
 use Rattle.pag.specs.PlainIndex.{leaves_both}
 use Rattle.pag.proofs.PlainLaws.{plain_is, accepted_by}
 
-pub asked_plainly : (y : paper.Answer) (a : Answer) {r : PagAnswer} → answer_of a ≡ y → r ≡ plain a → r ≡ plain_of y
-asked_plainly y a e d = d ∙ plain_is a ∙ ap plain_of e
-
-pub built_plainly : (b : Built) {m x : List ℕ} (a : Answer) {r : PagAnswer} → builds m x a ≡ b → r ≡ plain a → leaves_both m x r b
-built_plainly b a e d = (d ∙ plain_is a ∙ ap (λ (b : Built). plain_of b.answer) e, ap (λ (b : Built). b.tags) e, ap (λ (b : Built). b.index) e)
-
 -- no second answer fits
 pub both_one : (b : Built) {m m' x x' : List ℕ} {r r' : PagAnswer} → leaves_both m x r b → leaves_both m' x' r' b → (r ≡ r') × (m ≡ m') × (x ≡ x')
 both_one b p q = (p.0 ∙ sym q.0, p.1 ∙ sym q.1, p.2 ∙ sym q.2)

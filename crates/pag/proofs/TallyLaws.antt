@@ -9,11 +9,6 @@ use Rattle.pag.specs.Plain.{plain, plain_of}
 use Rattle.pag.specs.PlainTally.{leaves_tally}
 use Rattle.pag.proofs.PlainLaws.{plain_is}
 
--- the call's promise, with its answer made plain
-pub tally_plainly : (x : Left) (a : Added) {r : PagAnswer} → leaves a ≡ x → r ≡ plain a.answer → leaves_tally a.tally.counts a.tally.headers r x
-tally_plainly x a e d =
-    (d ∙ plain_is a.answer ∙ ap (λ (l : Left). plain_of l.answer) e, ap (λ (l : Left). l.tally.counts) e, ap (λ (l : Left). l.tally.headers) e)
-
 -- no second answer, and no second tally, fits
 pub tally_one : (x : Left) (counts counts' : List ℕ) (headers headers' : ℕ) (r r' : PagAnswer) → leaves_tally counts headers r x → leaves_tally counts' headers' r' x
     → (r ≡ r') × (counts ≡ counts') × (headers ≡ headers')

@@ -17,12 +17,15 @@ pub extern "C" fn pag_tally(
 ) -> PagAnswer
     ensures { leaves_tally counts.new headers.new result (adding order level (tally_of counts.old headers.old) file.now) }
 {
+    let before = *counts;
     let tally = Tally {
-        counts: *counts,
+        counts: before,
         headers: *headers,
     };
     let added = tally::add(tally, level, order, file);
-    *counts = added.tally.counts;
-    *headers = added.tally.headers;
+    let after = added.tally;
+    let numbers = after.counts;
+    *counts = numbers;
+    *headers = after.headers;
     PagAnswer::from(added.answer)
 }
