@@ -1,17 +1,19 @@
 -- Whole files: the reasons 1 to 5 and 24, the run that counts, and what the two public calls leave.
 use Prim.Native.Nat.{ℕ, ◌+◌, ◌≤◌, ◌<◌}
-use mathlib.Core.List.{List, ◌++◌}
+use mathlib.Core.List.{List, [], ◌∷◌, ◌++◌}
+use mathlib.Core.Bool.{Bool, true, false, ◌&&◌}
 use mathlib.Core.Path.{◌≡◌, refl, ap, sym, ◌∙◌}
 use native.Mathlib.Nat.{zero-add}
 use native.Mathlib.Omega.{arith}
 use lib.ListN.{length, get_or, drop, set}
 use lib.Seq.{sets, sets-eq}
 use lib.Dec.{leb, eqb}
-use borrow.Author.Tests.{lt-ltb, le-ltb, lt-leb, le-leb, eq-eqb, ne_eqb}
+use borrow.Author.Tests.{lt-ltb, le-ltb, lt-leb, le-leb, eq-eqb, ne_eqb, eqb-true, eqb-false}
+use Rattle.std.specs.List.{starts_with}
 use Rattle.format.specs.Tests.{pick, ◌and◌}
 use Rattle.format.specs.Bits.{Order, order_named}
 use Rattle.format.specs.FileAndTags as paper
-use Rattle.format.specs.FileAndTags.{le32, version_right, length_right, class_of, Outcome, whole, fault, Walk, file, walk_list}
+use Rattle.format.specs.FileAndTags.{le32, signature_right, version_right, length_right, class_of, Outcome, whole, fault, Walk, file, walk_list}
 use Rattle.format.specs.TableOfNumbers.{numbers, table, tag_table}
 use Rattle.format.specs.Reasons.{start_fault, walk_file, gives, refuses, result, read_file, read_tags, into}
 use Rattle.format.proofs.StartLaws.{good_start, whole_start}
@@ -34,6 +36,26 @@ use Rattle.tags.proofs.LentLaws.{class_level}
 use Rattle.reader.specs.Survey.{surveyed}
 use Rattle.reader.proofs.SkimLaws.{skim_rows}
 
+-- the signature, as the code asks for it
+turned : (a b : ℕ) → eqb a b ≡ eqb b a
+turned a b = go (eqb b a) refl
+  where
+    go : (c : Bool) → eqb b a ≡ c → eqb a b ≡ c
+    go true e = eq-eqb a b (sym (eqb-true b a e))
+    go false e = ne_eqb a b (λ z. eqb-false b a e (sym z))
+
+pub signature_is : (f : List ℕ) → 9 ≤ length f → starts_with eqb f (0x50 ∷ 0x41 ∷ 0x47 ∷ []) ≡ signature_right f
+signature_is [] h = absurd (omega arith)
+signature_is (a ∷ []) h = absurd (omega arith)
+signature_is (a ∷ b ∷ []) h = absurd (omega arith)
+signature_is (a ∷ b ∷ c ∷ f) h = rw (turned 0x50 a, turned 0x41 b, turned 0x47 c) (go (eqb a 0x50) (eqb b 0x41) (eqb c 0x47))
+  where
+    go : (x y z : Bool) → x && (y && (z && true)) ≡ x and y and z
+    go true true true = refl
+    go true true false = refl
+    go true false z = refl
+    go false y z = refl
+
 -- ---- 1 to 5, in this order, and 24 after 1
 module _ (order level : ℕ) (f : List ℕ) where
   pub start_1 : 1023 < level → 1 ≡ start_fault order level f
@@ -49,42 +71,34 @@ module _ (order level : ℕ) (f : List ℕ) where
     unfolding start_fault
     start_2 h = rw (le-ltb 1023 level known, le-ltb 1 order ordered, lt-ltb (length f) 9 h)
 
-    -- the numbers that the code looks at, one after the other
-    module _ (long : 9 ≤ length f) {a : ℕ} (a-is : a ≡ get_or f 0 0) where
-      pub start_3_first : (a ≡ 0x50 → ⊥) → 3 ≡ start_fault order level f
+    module _ (long : 9 ≤ length f) where
+      pub start_3 : signature_right f ≡ false → 3 ≡ start_fault order level f
       unfolding start_fault
-      start_3_first h = rw (le-ltb 1023 level known, le-ltb 1 order ordered, le-ltb (length f) 9 long, ← a-is, ne_eqb a 0x50 h)
+      start_3 h = rw (le-ltb 1023 level known, le-ltb 1 order ordered, le-ltb (length f) 9 long, h)
 
-      module _ (p-is : a ≡ 0x50) {b : ℕ} (b-is : b ≡ get_or f 1 0) where
-        pub start_3_second : (b ≡ 0x41 → ⊥) → 3 ≡ start_fault order level f
+      module _ (named : signature_right f ≡ true) where
+        -- the signature is judged
+        signed : pick (version_right f) (pick (length_right f) 0 5) 4 ≡ start_fault order level f
         unfolding start_fault
-        start_3_second h = rw (le-ltb 1023 level known, le-ltb 1 order ordered, le-ltb (length f) 9 long, ← a-is, eq-eqb a 0x50 p-is, ← b-is, ne_eqb b 0x41 h)
+        signed = rw (le-ltb 1023 level known, le-ltb 1 order ordered, le-ltb (length f) 9 long, named)
 
-        module _ (q-is : b ≡ 0x41) {c : ℕ} (c_is : c ≡ get_or f 2 0) where
-          -- the signature is judged
-          signed : pick (eqb c 0x47) (pick (version_right f) (pick (length_right f) 0 5) 4) 3 ≡ start_fault order level f
-          unfolding start_fault
-          signed = rw (le-ltb 1023 level known, le-ltb 1 order ordered, le-ltb (length f) 9 long, ← a-is, eq-eqb a 0x50 p-is, ← b-is, eq-eqb b 0x41 q-is, ← c_is)
+        -- the numbers that the code looks at, one after the other
+        module _ {v : ℕ} (v_is : v ≡ get_or f 3 0) where
+          pub start_4 : (v ≡ 1 → ⊥) → 4 ≡ start_fault order level f
+          start_4 h = rw (← v_is, ne_eqb v 1 h) at signed
 
-          pub start_3 : (c ≡ 0x47 → ⊥) → 3 ≡ start_fault order level f
-          start_3 h = rw (ne_eqb c 0x47 h) at signed
+          module _ (first : v ≡ 1) {n : ℕ} (n_is : n ≡ le32 (drop 4 f)) where
+            start_5_or_0 : pick (eqb n (length f) and leb (length f) 16777216) 0 5 ≡ start_fault order level f
+            start_5_or_0 = rw (← v_is, eq-eqb v 1 first, ← n_is) at signed
 
-          module _ (g-is : c ≡ 0x47) {v : ℕ} (v_is : v ≡ get_or f 3 0) where
-            pub start_4 : (v ≡ 1 → ⊥) → 4 ≡ start_fault order level f
-            start_4 h = rw (eq-eqb c 0x47 g-is, ← v_is, ne_eqb v 1 h) at signed
+            pub start_5 : (n ≡ length f → ⊥) → 5 ≡ start_fault order level f
+            start_5 h = rw (ne_eqb n (length f) h) at start_5_or_0
 
-            module _ (first : v ≡ 1) {n : ℕ} (n_is : n ≡ le32 (drop 4 f)) where
-              start_5_or_0 : pick (eqb n (length f) and leb (length f) 16777216) 0 5 ≡ start_fault order level f
-              start_5_or_0 = rw (eq-eqb c 0x47 g-is, ← v_is, eq-eqb v 1 first, ← n_is) at signed
+            pub start_5_long : n ≡ length f → 16777216 < length f → 5 ≡ start_fault order level f
+            start_5_long e h = rw (eq-eqb n (length f) e, lt-leb (length f) 16777216 h) at start_5_or_0
 
-              pub start_5 : (n ≡ length f → ⊥) → 5 ≡ start_fault order level f
-              start_5 h = rw (ne_eqb n (length f) h) at start_5_or_0
-
-              pub start_5_long : n ≡ length f → 16777216 < length f → 5 ≡ start_fault order level f
-              start_5_long e h = rw (eq-eqb n (length f) e, lt-leb (length f) 16777216 h) at start_5_or_0
-
-              pub start_0 : n ≡ length f → length f ≤ 16777216 → 0 ≡ start_fault order level f
-              start_0 e h = rw (eq-eqb n (length f) e, le-leb (length f) 16777216 h) at start_5_or_0
+            pub start_0 : n ≡ length f → length f ≤ 16777216 → 0 ≡ start_fault order level f
+            start_0 e h = rw (eq-eqb n (length f) e, le-leb (length f) 16777216 h) at start_5_or_0
 
   -- a file that passes them: what `read_tags` requires of it
   pub fair_file : start_fault order level f ≡ 0 → (9 ≤ length f) × (length f ≤ 16777216)

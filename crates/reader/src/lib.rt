@@ -36,7 +36,7 @@ pub fn start(level: u32, order: u32, file: &[u8]) -> Result<Order, Reason>
     if size < 9 {
         return Err(Reason::FewerThan9Bytes);
     }
-    if file[0] != b'P' || file[1] != b'A' || file[2] != b'G' {
+    if !file.starts_with(b"PAG") {
         return Err(Reason::SignatureWrong);
     }
     if file[3] != 1 {
