@@ -8,7 +8,7 @@ ghost use Rattle.format.specs.Bodies.{composition_attributes, fixed, read_body};
 ghost use Rattle.format.specs.FileAndTags.{head, walk_list};
 ghost use Rattle.bits.specs.Places.{order_of};
 ghost use Rattle.tags.specs.Shown.{values_of, list_of};
-ghost use Rattle.lists.specs.Lists.{owner_of, ended_by, last_of};
+ghost use Rattle.lists.specs.Lists.{owner_of};
 ghost use Rattle.tags.specs.Lent.{classes_in, Tabled};
 ghost use Rattle.canvas.specs.Canvas.{canvas_of, canvas_file};
 ghost use Rattle.canvas.specs.Looking.{refusal, is_looked, judged_by, Valued, numbered, judged_at, Judges, judged_in, Looks, zeros, answered, Answers};
@@ -161,18 +161,6 @@ fn judge_tag(
     judge_body(walk.order, passed.class, passed.header, list.room, place)
 }
 
-// After End the room is used up, else 11.
-fn after_end(list: &TagList<'_>, stop: BytePlace) -> Result<(), Fault>
-    requires { stop.0 ≤ length list.now.room.now }
-    ensures { ended_by result ≡ last_of list.now.owner list.now.at.0 stop.0 (length list.now.room.now) }
-{
-    if stop.0 == list.room.len() {
-        Ok(())
-    } else {
-        Err(list.refuses(Reason::BytesAfterEnd, stop.0))
-    }
-}
-
 // The body of the tag that is looked for, as a part of the file, if a list or one inside it has that tag. The headers that pass are counted.
 fn look_in(walk: &Walk<'_>, list: &TagList<'_>, headers: &mut usize) -> Result<Option<Span>, Fault>
     requires tabled { Tabled walk.now.classes.now }
@@ -191,7 +179,7 @@ fn look_in(walk: &Walk<'_>, list: &TagList<'_>, headers: &mut usize) -> Result<O
                 }));
             }
             Ok(Judged::Last(stop)) => {
-                after_end(list, stop)?;
+                list.ends_at(stop)?;
                 return Ok(None);
             }
             Ok(Judged::Next(stop)) => place = stop,

@@ -15,14 +15,14 @@ overflow_add-result-in-Ok-Canvas t c = omega (arith, c.args.list.now.inside, (te
 pub returns-in-Ok-Canvas : goal.returns-in-Ok-Canvas
 returns-in-Ok-Canvas t c = tell_canvas _ _ _ _ _ _ _ c.requires.tabled c.loop-place-test.true c.loop-place.invariant c.judge_tag.ensures (c.in-Ok-Canvas.is ∙ ap Ok c.in-Ok-Canvas.field-0-is)
 
-pub after_end-requires : goal.after_end-requires
-after_end-requires t c = tell_ends _ _ _ _ _ _ _ c.requires.tabled c.loop-place-test.true c.loop-place.invariant c.judge_tag.ensures (c.in-Ok-Last.is ∙ ap Ok c.in-Ok-Last.field-0-is)
+pub ends_at-requires : goal.ends_at-requires
+ends_at-requires t c = tell_ends _ _ _ _ _ _ _ c.requires.tabled c.loop-place-test.true c.loop-place.invariant c.judge_tag.ensures (c.in-Ok-Last.is ∙ ap Ok c.in-Ok-Last.field-0-is)
 
-pub returns-in_err-after_end-in-Ok-Last : goal.returns-in_err-after_end-in-Ok-Last
-returns-in_err-after_end-in-Ok-Last t c = tell_over _ _ _ _ _ _ _ c.requires.tabled c.loop-place-test.true c.loop-place.invariant c.judge_tag.ensures c.args.list.now.owner refl (c.in-Ok-Last.is ∙ ap Ok c.in-Ok-Last.field-0-is) c.after_end.result c.after_end.ensures c.in_err-after_end-in-Ok-Last.was (passed_on c.from_residual.result c.from_residual.ensures.1)
+pub returns-in_err-ends_at-in-Ok-Last : goal.returns-in_err-ends_at-in-Ok-Last
+returns-in_err-ends_at-in-Ok-Last t c = tell_over _ _ _ _ _ _ _ c.requires.tabled c.loop-place-test.true c.loop-place.invariant c.judge_tag.ensures c.args.list.now.owner refl (c.in-Ok-Last.is ∙ ap Ok c.in-Ok-Last.field-0-is) c.ends_at.result c.ends_at.ensures c.in_err-ends_at-in-Ok-Last.was (passed_on c.from_residual.result c.from_residual.ensures.1)
 
 pub returns-in-Ok-Last : goal.returns-in-Ok-Last
-returns-in-Ok-Last t c = tell_whole _ _ _ _ _ _ _ c.requires.tabled c.loop-place-test.true c.loop-place.invariant c.judge_tag.ensures c.args.list.now.owner refl (c.in-Ok-Last.is ∙ ap Ok c.in-Ok-Last.field-0-is) c.after_end.result c.after_end.ensures c.in_ok-after_end-in-Ok-Last.was
+returns-in-Ok-Last t c = tell_whole _ _ _ _ _ _ _ c.requires.tabled c.loop-place-test.true c.loop-place.invariant c.judge_tag.ensures c.args.list.now.owner refl (c.in-Ok-Last.is ∙ ap Ok c.in-Ok-Last.field-0-is) c.ends_at.result c.ends_at.ensures c.in_ok-ends_at-in-Ok-Last.was
 
 pub loop-place-preserved-in-Ok-Next : goal.loop-place-preserved-in-Ok-Next
 loop-place-preserved-in-Ok-Next t c = (tell_next _ _ _ _ _ _ _ c.requires.tabled c.loop-place-test.true c.loop-place.invariant c.judge_tag.ensures (c.in-Ok-Next.is ∙ ap Ok c.in-Ok-Next.field-0-is)).1
