@@ -9,6 +9,7 @@ use lib.ListN.{length, take, drop, length-append, length-drop}
 use lib.Seq.{sets, length-sets, length-take-le, drop-drop, drop-length, take_all, take-nil}
 use lib.Dec.{eqb}
 use borrow.Author.Tests.{eqb-true, eqb-false}
+use Rattle.std.proofs.Common.{Option}
 use Rattle.format.specs.Tests.{pick}
 use Rattle.format.specs.Bits.{Order}
 use Rattle.format.specs.Reading.{Ending, At, Fault, Reading}
@@ -37,12 +38,10 @@ use Rattle.tags.proofs.TagLaws.{values_le}
 use Rattle.tags.proofs.LentLaws.{fair_in, with_named}
 use Rattle.bits.specs.declared.BytePlace.{BytePlace}
 use Rattle.lists.specs.Lists.{owner_of, byte_at, tag_shown, step_of, Stepped, stepped, tag_at, last_of, Listed, listed, walked_of, walk_over, Bounds}
-use Rattle.lists.specs.declared.Owner.{Owner}
-use Rattle.lists.specs.declared.Opened.{Opened}
-use Rattle.lists.specs.declared.Step.{Step}
-use Rattle.lists.specs.declared.Step.TheVariants as step
-use Rattle.lists.specs.declared.Walked.{Walked}
-use Rattle.lists.specs.declared.Walked.TheVariants as walked
+use Rattle.lists.specs.Steps.{Opened, Step}
+use Rattle.lists.specs.Steps as step
+use Rattle.lists.specs.Walks.{Walked}
+use Rattle.lists.specs.Walks as walked
 
 -- ---- parts of a list
 -- from f up to t, as the code takes it
@@ -80,7 +79,7 @@ abbrev pub inside_of : Order → (paper.Owner → ℕ → List ℕ → Walk) →
 inside_of o R c code a s body =
     record { values = (values_of o c code body).shown; walk = walk_of R (list_of o c code body) a s body (values_of o c code body).ended }
 
-pub within_is : (o : Order) (R : paper.Owner → ℕ → List ℕ → Walk) (ns : List ℕ) (code a s : ℕ) (body : List ℕ)
+pub within_is : (o : Order) (R : paper.Owner → ℕ → List ℕ → Walk) (ns : List Class) (code a s : ℕ) (body : List ℕ)
     → within o R (classes_in ns code) a s body ≡ inside_of o R (class_in ns code) code a s body
 within_is o R ns code a s body = go (class_in ns code)
   where
@@ -143,7 +142,7 @@ listed_eq : {t t' g g' : List ℕ} {x x' : Walked} → t ≡ t' → g ≡ g' →
 listed_eq p q r = λ i. record { table = p i; rows = q i; answer = r i }
 
 -- the list of the owner at place a, whose room is r, over the tables t₀ from k on and g₀ from m on
-module _ (o : Order) (ns : List ℕ) (depths : ℕ) (own : paper.Owner) (a : ℕ) (r t₀ : List ℕ) (k : ℕ) (g₀ : List ℕ) (m : ℕ) where
+module _ (o : Order) (ns : List Class) (depths : ℕ) (own : paper.Owner) (a : ℕ) (r t₀ : List ℕ) (k : ℕ) (g₀ : List ℕ) (m : ℕ) where
   abbrev from : ℕ → Walk
   from i = walk_list o (classes_in ns) depths own (a + i) (drop i r)
 
@@ -354,14 +353,14 @@ module _ (o : Order) (ns : List ℕ) (depths : ℕ) (own : paper.Owner) (a : ℕ
         nothing_inside {b} e f = ap (λ (v : Walk). chain v.tags v.ended (later (ends c))) f ∙ ap (λ (x : Bool). chain [] whole (later x)) e
 
         -- End
-        stood_last : {p : BytePlace} {n : ℕ} {x : Walked} (own' : Owner) → own ≡ owner_of own' → S ≡ step.Last p n → x ≡ last_of own' a p.0 (length r) n (w + 5) → listed t' g' x ≡ walk_over t₀ k g₀ m all
+        stood_last : {p : BytePlace} {n : ℕ} {x : Walked} (own' : Option BytePlace) → own ≡ owner_of own' → S ≡ step.Last p n → x ≡ walked_of n (w + 5) (last_of own' a p.0 (length r)) → listed t' g' x ≡ walk_over t₀ k g₀ m all
         stood_last {p} {n} {x} own' is z e =
             let f : (p.0 ≡ stop) × (n ≡ j') × (ends c ≡ true) × (inner ≡ no_tags whole) = subst (Follows R a (a + i) start stop body c inner j') z tag_follows in
             ap (listed t' g') (e ∙ rw (f.0, f.1)) ∙ go (eqb stop (length r)) refl (drop stop r) refl
             (passed_as (chain inner.tags inner.ended (later (ends c))) (later true) (nothing_inside f.2 f.3) tag_passed)
           where
             go : (y : Bool) → eqb stop (length r) ≡ y → (q : List ℕ) → drop stop r ≡ q → Passed t' g' j' (w + 5) (at_end own (a + stop) (drop stop r))
-                → listed t' g' (pick y (walked.Next j' (w + 5)) (walked.Fault 11 (byte_at (blame (owner_of own') (a + stop))))) ≡ walk_over t₀ k g₀ m all
+                → listed t' g' (walked_of j' (w + 5) (pick y whole (fault 11 (blame (owner_of own') (a + stop))))) ≡ walk_over t₀ k g₀ m all
             go true u [] v s = passed_whole (at_end own (a + stop) (drop stop r)) s (ap (at_end own (a + stop)) v)
             go true u (y ∷ q) v s = absurd (omega (arith, eqb-true stop (length r) u, ap length v, length-drop stop r))
             go false u [] v s = absurd (eqb-false stop (length r) u (omega (arith, ap length v, length-drop stop r, stop_fits.1)))
@@ -431,9 +430,9 @@ module _ (o : Order) (ns : List ℕ) (depths : ℕ) (own : paper.Owner) (a : ℕ
       tag_stops {p} {n} =
           by_head (λ (s : Stepped). s.step ≡ step.Last p n → p.0 ≤ length r) (λ e q z. clash cc) (λ code len size q z. stood_stops q _ refl z)
 
-      pub tag_last : {p : BytePlace} {n : ℕ} {y : Walked} (own' : Owner) → own ≡ owner_of own' → x ≡ step.Last p n → y ≡ last_of own' a p.0 (length r) n (w + 5) → listed t' g' y ≡ walk_over t₀ k g₀ m all
+      pub tag_last : {p : BytePlace} {n : ℕ} {y : Walked} (own' : Option BytePlace) → own ≡ owner_of own' → x ≡ step.Last p n → y ≡ walked_of n (w + 5) (last_of own' a p.0 (length r)) → listed t' g' y ≡ walk_over t₀ k g₀ m all
       tag_last {p} {n} {y} own' is =
-          by_head (λ (s : Stepped). s.step ≡ step.Last p n → y ≡ last_of own' a p.0 (length r) n (w + 5) → listed s.table s.rows y ≡ walk_over t₀ k g₀ m all)
+          by_head (λ (s : Stepped). s.step ≡ step.Last p n → y ≡ walked_of n (w + 5) (last_of own' a p.0 (length r)) → listed s.table s.rows y ≡ walk_over t₀ k g₀ m all)
           (λ e q z v. clash cc) (λ code len size q z v. stood_last q _ refl own' is z v)
 
       pub tag_next : {p : BytePlace} {n : ℕ} → x ≡ step.Next p n → (i < p.0) × Going t' g' p.0 n (w + 5)

@@ -3,7 +3,7 @@ ghost use Rattle.std.specs.Prelude.{◌≡◌};
 ghost use Rattle.tally.specs.Adding.{adding};
 ghost use Rattle.pag.specs.PlainTally.{tally_of, leaves_tally};
 
-use crate::{PagAnswer, plain};
+use crate::PagAnswer;
 use tally::Tally;
 
 // Adds a file to a host's tally: its 1,024 counts and its header count are lent.
@@ -17,16 +17,12 @@ pub extern "C" fn pag_tally(
 ) -> PagAnswer
     ensures { leaves_tally counts.new headers.new result (adding order level (tally_of counts.old headers.old) file.now) }
 {
-    let before = *counts;
     let tally = Tally {
-        counts: before,
+        counts: *counts,
         headers: *headers,
     };
     let added = tally::add(tally, level, order, file);
-    let after = added.tally;
-    let numbers = after.counts;
-    *counts = numbers;
-    *headers = after.headers;
-    let answer = added.answer;
-    plain(answer)
+    *counts = added.tally.counts;
+    *headers = added.tally.headers;
+    PagAnswer::from(added.answer)
 }
