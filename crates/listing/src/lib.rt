@@ -45,6 +45,7 @@ fn number_at(table: &[u64], index: usize) -> u64
     table.get(index).copied().unwrap_or(0)
 }
 
+// Stays: beside `number_at`, since the promise of one function for both would have to name what its bound makes of a number.
 // A number of the tag table, 0 past its end.
 fn row_at(rows: &[u32], index: usize) -> u64
     ensures { result ≡ get_or rows.now index 0 }

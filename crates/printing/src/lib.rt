@@ -42,23 +42,17 @@ pub fn write(rt: &(impl Print + Eprint), text: &[u8]) -> io::Result<()> {
     Err(error)
 }
 
-// A line of its own: what cannot be written was said, and nothing follows.
-fn write_line(rt: &(impl Print + Eprint), line: &[u8; 64], count: usize)
-    requires { count ≤ 64 }
-{
-    let _ = write(rt, &line[..count]);
-}
-
+// The line of a refusal. What cannot be written was said, and nothing follows.
 pub fn print_refusal(rt: &(impl Print + Eprint), reason: Reason, number: u64) {
     let mut line = [0u8; 64];
     let count = listing::put_refusal(reason, number, &mut line);
-    write_line(rt, &line, count);
+    let _ = write(rt, &line[..count]);
 }
 
 pub fn print_too_long(rt: &(impl Print + Eprint)) {
     let mut line = [0u8; 64];
     let count = listing::put_too_long(&mut line);
-    write_line(rt, &line, count);
+    let _ = write(rt, &line[..count]);
 }
 
 // The listing of a file with these two tables, in parts through the lent buffer: a write for each.

@@ -5,8 +5,9 @@ use mathlib.Core.Path.{◌≡◌, refl, ap, sym, subst, ◌∙◌}
 use mathlib.Core.Bool.{true, false}
 use native.Mathlib.Omega.{arith}
 use lib.ListN.{length, get_or, drop, set}
+use Rattle.std.specs.Result.{IsOk}
 use Rattle.std.proofs.Common.{Result, Ok, Err}
-use Rattle.format.specs.Bits.{Order}
+use Rattle.format.specs.Bits.{Order, order_named}
 use Rattle.format.specs.FileAndTags.{class_of, Tag, Outcome, whole, head, no_head, raw_head}
 use Rattle.format.specs.Reasons as paper
 use Rattle.format.specs.Reasons.{IsFile, walk_file, read_tags, into}
@@ -19,6 +20,9 @@ use Rattle.reasons.specs.declared.Reason.{Reason}
 use Rattle.reasons.specs.declared.Reason.TheVariants.{TableTooShort}
 use Rattle.reasons.specs.Numbers.{number_of}
 use Rattle.reasons.proofs.NumberLaws.{number_one}
+use Rattle.bits.specs.Places.{order_of, order_by}
+use Rattle.bits.specs.declared.Order.{Order as Code}
+use Rattle.bits.proofs.FieldLaws.{Named, order_told}
 use Rattle.classes.specs.Classes.{class_at}
 use Rattle.classes.specs.declared.Class.{Class}
 use Rattle.headers.specs.Heads.{as_head}
@@ -29,7 +33,7 @@ use Rattle.tally.specs.Adding.{adds, with_file, is_full, by_outcome, adding}
 use Rattle.tally.specs.Places.{next_by, NoneAbove, Good, tags_in}
 use Rattle.tally.specs.declared.Tally.{Tally}
 use Rattle.tally.proofs.WalkLaws.{Flat, First, flat_first, flat_over, flat_le}
-use Rattle.tally.proofs.PlaceLaws.{good_flat, leads_by, code_below}
+use Rattle.tally.proofs.PlaceLaws.{good_flat, file_start, leads_by, code_below}
 use Rattle.tally.proofs.CountLaws.{none_above_set, none_above_more}
 
 -- ---- tag by tag: the tags that are left, added to the counts of now, give what all of them added to the first counts give
@@ -65,7 +69,7 @@ module _ (o : Order) (level : ℕ) (f counts₀ : List ℕ) where
       pub fits : place + H.size + H.length ≤ length f
       pub taken : {c : Class} {n : ℕ} → c ≡ class_at level H.code → n ≡ next_by o c H.code H.length (place + H.size) f → Taken n
 
-  module _ {counts : List ℕ} {place : ℕ} (good : Good o level f) (g : Going o level f counts₀ counts place) (inside : place < length f) {y : Result Header Reason} (read : as_head y ≡ raw_head (drop place f)) where
+  module _ {counts : List ℕ} {place : ℕ} (good : Good o level f) (g : Going o level f counts₀ counts place) (inside : place < length f) where
     abbrev first : First o (class_of level) f place g.ts
     first = flat_first o (class_of level) f g.flat inside
 
@@ -73,14 +77,15 @@ module _ (o : Order) (level : ℕ) (f counts₀ : List ℕ) where
     t = first.t
 
     -- no header is cut
-    pub never_cut : {e : Reason} → y ≡ Err e → ⊥
-    never_cut {e} q =
-        let m : no_head (number_of e) ≡ head t.code t.body_length t.header_size = sym (ap as_head q) ∙ read ∙ first.at.header in
+    pub never_cut : (y : Result Header Reason) → as_head y ≡ raw_head (drop place f) → IsOk y
+    never_cut (Ok H) read = refl
+    never_cut (Err e) read =
+        let m : no_head (number_of e) ≡ head t.code t.body_length t.header_size = read ∙ first.at.header in
         clash cc
 
-    pub found : IsFile f → {H : Header} → y ≡ Ok H → Found counts place H
+    pub found : IsFile f → {y : Result Header Reason} {H : Header} → as_head y ≡ raw_head (drop place f) → y ≡ Ok H → Found counts place H
     unfolding adds
-    found bytes {H} q =
+    found bytes {y} {H} read q =
         let m : head H.code H.length H.size ≡ head t.code t.body_length t.header_size = sym (ap as_head q) ∙ read ∙ first.at.header in
         let h : H.code ≡ t.code = cc in
         let l : H.length ≡ t.body_length = cc in
@@ -129,19 +134,26 @@ module _ (order level : ℕ) (t : Tally) (f : List ℕ) where
     abbrev call : demands.Called order level f
     call = record { call = demands.tags; before = m; after = m'; answer = r; promise = judged }
 
-    -- it answered neither that it is accepted nor that there is no room
-    pub adding_refused : is_full t ≡ false → ((n : ℕ) → r ≡ Accepted n → ⊥) → ((n : ℕ) → r ≡ Refused TableTooShort n → ⊥) → record { tally = t; answer = answer_of r } ≡ adding order level t f
-    adding_refused h k l = go r refl
-      where
-        go : (x : Answer) → r ≡ x → record { tally = t; answer = answer_of x } ≡ adding order level t f
-        go (Accepted n) q = absurd (k n q)
-        go (Refused e n) q = adding_by h (demands.was_refused call (record { refused = ap answer_of q; not_room = λ w. l n (q ∙ ap (λ (x : Reason). Refused x n) (number_one e TableTooShort w)) }))
+    -- it refused the file
+    pub adding_refused : {e : Reason} {n : ℕ} → is_full t ≡ false → r ≡ Refused e n → (e ≡ TableTooShort → ⊥) → record { tally = t; answer = paper.refused (number_of e) n } ≡ adding order level t f
+    adding_refused {e} {n} h q k =
+        (adding_by h (demands.was_refused call (record { refused = ap answer_of q; not_room = λ w. k (number_one e TableTooShort w) })))
 
-    pub judged_whole : demands.WasRead r → (walk_file order level f).ended ≡ whole
-    judged_whole h = demands.was_read call h
-
-    pub no_room : {n : ℕ} → r ≡ Refused TableTooShort n → (walk_file order level f).ended ≡ whole
-    no_room q = judged_whole (rw q refl)
+    -- it had no room, or it had
+    pub no_room : {e : Reason} {n : ℕ} → r ≡ Refused e n → e ≡ TableTooShort → (walk_file order level f).ended ≡ whole
+    no_room q e = demands.was_read call (rw q (ap number_of e))
 
     pub room : {n : ℕ} → r ≡ Accepted n → (walk_file order level f).ended ≡ whole
-    room q = judged_whole (rw q tt)
+    room q = demands.was_read call (rw q tt)
+
+-- the order that its number names
+module _ (order level : ℕ) (f : List ℕ) (judged : (walk_file order level f).ended ≡ whole) where
+  pub order_there : (y : Result Code Reason) → y ≡ order_by order → IsOk y
+  order_there y e = go y (order_told order e)
+    where
+      go : (y : Result Code Reason) → Named order y → IsOk y
+      go (Ok o) k = refl
+      go (Err x) k = absurd (omega (arith, k.1, (file_start order level f judged).ordered))
+
+  pub order_is : {y : Result Code Reason} {o : Code} → y ≡ order_by order → y ≡ Ok o → order_of o ≡ order_named order
+  order_is e q = (subst (Named order) q (order_told order e)).0

@@ -108,14 +108,8 @@ module _ (o : Order) (code : ℕ) (body : List ℕ) {a b : Reader} {y : Result (
   pub list_open : {q : BytePlace} → y ≡ Ok (Some q) → q.0 ≡ list_in o code body
   list_open e = subst Starts e list_told
 
-  -- there is none
-  pub list_else : ((q : BytePlace) → y ≡ Ok (Some q) → ⊥) → length body ≡ list_in o code body
-  list_else h = go y refl list_told
-    where
-      go : (z : Result (Option BytePlace) Reason) → y ≡ z → Starts z → length body ≡ list_in o code body
-      go (Ok (Some q)) e s = absurd (h q e)
-      go (Ok None) e s = s
-      go (Err x) e s = s
+  pub list_stop : {e : Reason} → y ≡ Err e → length body ≡ list_in o code body
+  list_stop e = subst Starts e list_told
 
 pub list_le : (o : Order) (code : ℕ) (body : List ℕ) {n : ℕ} → n ≡ list_in o code body → n ≤ length body
 list_le o code body e = rw e (go (own_part o (container_body code) body).ended refl (has_list_in o (container_body code) body))
@@ -124,18 +118,3 @@ list_le o code body e = rw e (go (own_part o (container_body code) body).ended r
     go (Fault x) q list = omega arith
     go (At p) q true = omega (arith, values_le o Container code body p q)
     go (At p) q false = omega arith
-
--- ---- by the class
-module _ (o : Order) (c : Class) (code len s : ℕ) (f : List ℕ) where
-  pub next_container : {n : ℕ} → c ≡ Container → n ≡ list_in o code (take (s + len - s) (drop s f)) → s + n ≡ next_by o c code len s f
-  next_container e q = let l : s + len - s ≡ len = omega arith in rw (e, q, l)
-
-  pub next_else : (c ≡ Container → ⊥) → s + len ≡ next_by o c code len s f
-  next_else h = go c refl
-    where
-      go : (d : Class) → c ≡ d → s + len ≡ next_by o d code len s f
-      go Opaque e = refl
-      go End e = refl
-      go Container e = absurd (h e)
-      go Fixed e = refl
-      go Attributes e = refl

@@ -112,14 +112,13 @@ pub fn add(tally: Tally, level: u32, order: u32, file: &[u8]) -> Added
         };
     }
     let judged = reader::tags(level, order, file, &mut []);
-    if !matches!(
-        judged,
-        Answer::Accepted(_) | Answer::Refused(Reason::TableTooShort, _)
-    ) {
-        return Added {
-            tally,
-            answer: judged,
-        };
+    if let Answer::Refused(reason, _) = judged {
+        if reason != Reason::TableTooShort {
+            return Added {
+                tally,
+                answer: judged,
+            };
+        }
     }
     answers::is_file(file);
     let named = Order::try_from(order).unwrap();
