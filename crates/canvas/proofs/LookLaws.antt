@@ -534,8 +534,7 @@ module _ (o : Order) (cs : List Class) (depths : ℕ) (own : paper.Owner) (a : �
           open_some {s} q =
               let u = sees_as q in
               let v : body_at (a + l) (piece l p r) s.start.0 s.stop.0 ≡ body_at a r s.start.0 s.stop.0 = body_in_lem u.0 in
-              looks_at g (inner_ends (found (read_body o (fixed composition_attributes) (body_at (a + l) (piece l p r) s.start.0 s.stop.0)).shown) u.1 (λ d n. refl)) counts
-              (
+              looks_at g (inner_ends (found (read_body o (fixed composition_attributes) (body_at (a + l) (piece l p r) s.start.0 s.stop.0)).shown) u.1 (λ d n. refl)) counts (
                 record {
                   after = omega (arith, u.0.after);
                   order = u.0.order;

@@ -172,11 +172,7 @@ fn after_end(list: &TagList<'_>, stop: BytePlace) -> Result<(), Fault>
 }
 
 // The body of the tag that is looked for, as a part of the file, if a list or one inside it has that tag. The headers that pass are counted.
-fn look_in(
-    walk: &Walk<'_>,
-    list: &TagList<'_>,
-    headers: &mut usize,
-) -> Result<Option<Span>, Fault>
+fn look_in(walk: &Walk<'_>, list: &TagList<'_>, headers: &mut usize) -> Result<Option<Span>, Fault>
     requires tabled { Tabled walk.now.classes.now }
     requires few { headers.old ≤ (9 - list.now.depths) * 16777216 }
     ensures { Looks (order_of walk.now.order) list.now.at.0 list.now.room.now headers.old headers.new result (canvas_of (walk_list (order_of walk.now.order) (classes_in walk.now.classes.now) list.now.depths (owner_of list.now.owner) list.now.at.0 list.now.room.now)) }

@@ -168,12 +168,6 @@ module _ (o : Order) (ns : List Class) (depths : ℕ) (own : paper.Owner) (a : �
     passed = record { tags = []; split = rw (add-zero a); table = refl; rows = refl; index = sym (add-zero k); row = sym (add-zero m) };
   }
 
-  pub passed_table : {t g : List ℕ} {j w : ℕ} (rest : Walk) → Passed t g j w rest → length t ≡ length t₀
-  passed_table rest s = ap length s.table ∙ length-sets t₀ k (numbers s.tags)
-
-  pub passed_rows : {t g : List ℕ} {j w : ℕ} (rest : Walk) → Passed t g j w rest → length g ≡ length g₀
-  passed_rows rest s = ap length s.rows ∙ length-sets g₀ m (tag_table s.tags)
-
   -- the indexes stay in the list's room
   pub passed_room : Tabled ns → {t g : List ℕ} {j w : ℕ} (rest : Walk) → Passed t g j w rest → (j ≤ k + 8 * length r) × (w ≤ m + 5 * length r)
   passed_room tabled rest s =
@@ -415,11 +409,6 @@ module _ (o : Order) (ns : List Class) (depths : ℕ) (own : paper.Owner) (a : �
           go (head code len size) q =
               subst (λ (n : ℕ). P (tag_at o (class_in ns n) depths a r i t j g w (head code len size))) (fits q).4 (h code len size q)
 
-      -- the lent tables keep their lengths
-      pub tag_sizes : (length t' ≡ length t₀) × (length g' ≡ length g₀)
-      tag_sizes = by_head (λ (s : Stepped). (length s.table ≡ length t₀) × (length s.rows ≡ length g₀)) (λ e q. (passed_table (from i) going.passed, passed_rows (from i) going.passed))
-          (λ code len size q. (passed_table _ (tag_passed q), passed_rows _ (tag_passed q)))
-
       pub tag_fault : {e : ℕ} → x ≡ step.Fault e → listed t' g' (walked.Fault e (byte_at (a + i))) ≡ walk_over t₀ k g₀ m all
       tag_fault {e} =
           by_head (λ (s : Stepped). s.step ≡ step.Fault e → listed s.table s.rows (walked.Fault e (byte_at (a + i))) ≡ walk_over t₀ k g₀ m all)
@@ -474,12 +463,6 @@ module _ (o : Order) (ns : List Class) (depths : ℕ) (own : paper.Owner) (a : �
         module _ {t'' g'' : List ℕ} (y : Walked) (done : listed t'' g'' y ≡ walk_over t' n g' (w + 5) (walk_list o (classes_in ns) (depths - 1) (paper.inside (a + i)) (a + l) (piece l p r))) where
           read_inner : listed t'' g'' y ≡ walk_over t' n g' (w + 5) R'
           read_inner = rw (pred_is depths) done
-
-          pub open_sizes : (length t'' ≡ length t₀) × (length g'' ≡ length g₀)
-          open_sizes = (
-            ap (λ (l : Listed). length l.table) read_inner ∙ length-sets t' n (numbers R'.tags) ∙ tag_sizes.0,
-            ap (λ (l : Listed). length l.rows) read_inner ∙ length-sets g' (w + 5) (tag_table R'.tags) ∙ tag_sizes.1,
-          )
 
           pub open_next : {j' w' : ℕ} → y ≡ walked.Next j' w' → (i < p) × Going t'' g'' p j' w'
           open_next e = ((tag_open op z).ahead, record { inside = (tag_open op z).inside; passed = inner_next R' (from p) (tag_open op z).passed (ap (listed t'' g'') (sym e) ∙ read_inner) })

@@ -12,14 +12,14 @@ use Rattle.std.specs.Result.{is_ok}
 use Rattle.std.proofs.lemmas.List.{length-take-le, take-map}
 use Rattle.format.specs.Bits.{Order, order_named}
 use Rattle.format.specs.Reading.{Ending, At, Fault, Reading, shows}
-use Rattle.format.specs.Formats.{Format, the}
-use Rattle.format.specs.Items.{run, show_num}
+use Rattle.format.specs.Formats.{Format}
+use Rattle.format.specs.Items.{run}
 use Rattle.format.proofs.Absurd.{clash}
 use Rattle.format.specs.Bodies as bodies
 use Rattle.format.specs.Bodies.{mask_block, all_flags, rows, attributes, read_body}
 use Rattle.reasons.specs.Numbers.{number_of}
 use Rattle.reasons.specs.declared.Reason.{Reason}
-use Rattle.bits.specs.Places.{num_of, order_of}
+use Rattle.bits.specs.Places.{order_of}
 use Rattle.bits.specs.declared.Number.{Number}
 use Rattle.table.specs.State.{State, shown_over}
 use Rattle.table.specs.Readers.{Reads, ending_of, state_of}
@@ -34,16 +34,6 @@ use Rattle.opacity.specs.Opacity.{Opacity, refused_by, from_opacity, shown_at, o
 use Rattle.opacity.specs.Inner.{place_in, is_at, IsAt, Judged, Finds}
 use Rattle.opacity.proofs.ReadLaws.{ended_at}
 use Rattle.opacity.proofs.MaskLaws.{Block, block, flags_in_lem, four, four_there, rows_take, finds}
-
--- ---- an item, as `item_at` takes it: it is there
-pub item_there : (g : Result Number Reason) {R : Reading} → show_num (num_of g) ≡ R → IsAt R.ended → is_ok g ≡ true
-item_there (Ok n) h i = refl
-item_there (Err e) h i = ap (λ (r : Reading). is_at r.ended) h ∙ i
-
-pub item_taken : {g : Result Number Reason} {r : Number} {R : Reading} → g ≡ Ok r → show_num (num_of g) ≡ R → (r.value ≡ the R.shown) × (r.next.0 ≡ place_in R.ended)
-item_taken {g} {r} {R} e h =
-    let k : show_num (num_of (Ok r)) ≡ R = ap (λ (g : Result Number Reason). show_num (num_of g)) (sym e) ∙ h in
-    (ap (λ (r : Reading). the r.shown) k, ap (λ (r : Reading). place_in r.ended) k)
 
 -- how a reader's call ended
 ended_is : {A : Type 0} (x y : Reader) (a : Result A Reason) (r : Reading) → state_of y a ≡ shown_over x.table.now x.index r → ending_of y.place a ≡ r.ended

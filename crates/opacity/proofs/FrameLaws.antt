@@ -1,20 +1,16 @@
 -- Keyframes: what a walk over their times has seen, and the frame that covers t.
-use Prim.Native.Nat.{ℕ, zero, suc, ◌+◌, ◌-◌, ◌*◌, ◌≤◌, ◌<◌}
+use Prim.Native.Nat.{ℕ, zero, suc, ◌≤◌, ◌<◌}
 use mathlib.Core.Bool.{Bool, true, false}
 use mathlib.Core.Path.{◌≡◌, refl, ap, sym, subst, ◌∙◌}
-use native.Mathlib.Nat.{mul-suc, mul-le-mul, mul-le-mul_left}
 use native.Mathlib.Omega.{arith}
 use Rattle.std.proofs.Common.{Option, Some, None}
 use Rattle.std.specs.Option.{is_some}
 use lib.Dec.{ltb, leb}
-use lib.ListN.{length}
-use mathlib.Core.List.{List}
-use Rattle.format.specs.Bits.{Order, ub}
-use borrow.Author.Tests.{lt-ltb, le-ltb, le-leb, lt-leb, ltb-true, ltb-false, leb-true, leb-false, eq-eqb, ne_eqb}
+use borrow.Author.Tests.{lt-ltb, le-ltb, le-leb, lt-leb, ltb-true, ltb-false, leb-true, leb-false}
 use Rattle.format.specs.Tests.{pick, ◌or◌}
 use Rattle.format.proofs.Absurd.{clash}
-use Rattle.opacity.specs.Opacity.{fraction, Keyframes, over1, refused_by, covers, covering, in_frame, at_frame, any, late, falls, keyframed_at}
-use Rattle.opacity.specs.Inner.{ValuesAt, span_of, seen_of, Within}
+use Rattle.opacity.specs.Opacity.{Keyframes, over1, refused_by, covers, covering, in_frame, at_frame, any, late, falls, keyframed_at}
+use Rattle.opacity.specs.Inner.{span_of, seen_of, Within}
 use Rattle.opacity.specs.declared.frames.Seen.{Seen}
 use Rattle.opacity.specs.declared.frames.Span.{Span}
 
@@ -150,32 +146,3 @@ module _ (K : Keyframes) (n t : ℕ) (count : K.count ≡ n) where
           before = c.before;
           small = omega (arith, c.end, none_late K t n none (suc k.frame) (omega (arith, c.inside)));
         }
-
--- by the keyframe's interpolation
-module _ (K : Keyframes) (t k : ℕ) {kind : ℕ} (is : kind ≡ K.kind k) where
-  pub kind_hold : {v : ℕ} → v ≡ K.value k → kind ≡ 3 → over1 v ≡ in_frame K t k
-  kind_hold d e = rw (eq-eqb (K.kind k) 3 (sym is ∙ e)) (ap over1 d)
-
-  pub kind_linear : {u v start end : ℕ} → u ≡ K.value k → v ≡ K.value (suc k) → start ≡ K.time k → end ≡ K.time (suc k) → (kind ≡ 3 → ⊥) → kind ≡ 1
-      → fraction (u * (end - t) + v * (t - start)) (end - start) ≡ in_frame K t k
-  kind_linear p q r s n e = rw (ne_eqb (K.kind k) 3 (λ z. n (is ∙ z)), eq-eqb (K.kind k) 1 (sym is ∙ e), p, q, r, s)
-
-  pub kind_bezier : (kind ≡ 3 → ⊥) → (kind ≡ 1 → ⊥) → refused_by 28 ≡ in_frame K t k
-  kind_bezier n m = rw (ne_eqb (K.kind k) 3 (λ z. n (is ∙ z)), ne_eqb (K.kind k) 1 (λ z. m (is ∙ z)))
-
--- ---- numbers that fit
-pub share_small : (u d : ℕ) → u ≤ 255 → d ≤ 4294967295 → u * d ≤ 1095216660225
-share_small u d h l = mul-le-mul h l
-
-pub part_small : (w k n : ℕ) → k ≤ n → w * k + w ≤ w * suc n
-part_small w k n h = omega (arith, mul-suc w k, mul-le-mul_left {m = suc k} {n = suc n} w (omega arith))
-
--- ---- value k, cut out: its width is f + 1
-module _ (o : Order) (b : List ℕ) (K : Keyframes) {n p : ℕ} (X : ValuesAt o b K n p) (f k : ℕ) (width : f ≡ ub o b p 5) (h : k ≤ n) where
-  pub value_room : p + 5 + ((f + 1) * k + (f + 1)) ≤ 8 * length b
-  value_room = rw width (omega (arith, X.within, part_small (ub o b p 5 + 1) k n h))
-
-  pub value_is : {v : ℕ} → v ≡ ub o b (p + 5 + (f + 1) * k) (f + 1) → (v ≡ K.value k) × (v ≤ 255)
-  value_is {v} e =
-      let d : v ≡ K.value k = e ∙ ap (λ (x : ℕ). ub o b (p + 5 + (x + 1) * k) (x + 1)) width ∙ sym (X.each k h) in
-      (d, omega (arith, d, X.small k h))

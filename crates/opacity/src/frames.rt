@@ -5,7 +5,7 @@ ghost use Rattle.format.specs.Items.{run, time as time_of};
 ghost use Rattle.bits.specs.Places.{order_of};
 ghost use Rattle.opacity.specs.Opacity.{fraction, from_opacity, shown_at, in_frame, at_frame, keyframed_at};
 ghost use Rattle.opacity.specs.Answers.{opacity_of};
-ghost use Rattle.opacity.specs.Inner.{place_in, Framed, mask_frames, TimesAt, ValuesAt, PartsAt, Stands, noted, Walked, Within};
+ghost use Rattle.opacity.specs.Inner.{place_in, Framed, mask_frames, TimesAt, PartsAt, Stands, noted, Walked, Within};
 
 use crate::Fraction;
 use crate::places::Mask;
@@ -73,6 +73,71 @@ fn linear(from: u64, to: u64, span: Span, t: u64) -> Fraction
     }
 }
 
+// The keyframes of a mask whose times were walked over: how many they are, and where their interpolations and their values stand.
+#[derive(Clone, Copy)]
+pub struct Frames<'a> {
+    pub mask: Mask<'a>,
+    pub count: usize,
+    pub kinds: BitPlace,
+    pub values: BitPlace,
+    pub ghost parts: { PartsAt (order_of mask.order) mask.body.now (mask_frames (order_of mask.order) mask.body.now) count kinds.0 values.0 },
+}
+
+impl Frames<'_> {
+    // Value k of n + 1: behind their width they stand in a row.
+    fn value_at(&self, k: usize) -> u64
+        requires { k ≤ self.now.count }
+        ensures { (result ≡ (mask_frames (order_of self.now.mask.order) self.now.mask.body.now).value k) × (result ≤ 255) }
+    {
+        let width = field(self.mask.order, self.mask.body, self.values, 5) + 1;
+        let place = self.values.0 + 5 + width as usize * k;
+        field(self.mask.order, self.mask.body, BitPlace(place), width)
+    }
+
+    // In the keyframe that covers t, by its interpolation: hold, linear, or else Bezier.
+    fn in_frame(&self, span: Span, t: u64) -> Result<Fraction, Reason>
+        requires { Within (mask_frames (order_of self.now.mask.order) self.now.mask.body.now) self.now.count t span }
+        ensures { opacity_of result ≡ in_frame (mask_frames (order_of self.now.mask.order) self.now.mask.body.now) t span.frame }
+    {
+        let frame = span.frame;
+        let place = BitPlace(self.kinds.0 + 2 * frame);
+        let kind = field(self.mask.order, self.mask.body, place, 2);
+        let from = self.value_at(frame);
+        if kind == 3 {
+            return Ok(Fraction {
+                above: from,
+                below: 1,
+            });
+        }
+        if kind == 1 {
+            let to = self.value_at(frame + 1);
+            return Ok(linear(from, to, span, t));
+        }
+        Err(Reason::FrameInBezier)
+    }
+
+    // Before the first start the first value, at or after the last end the last value.
+    fn at_frame(&self, walk: Walk, t: u64) -> Result<Fraction, Reason>
+        requires { Walked (mask_frames (order_of self.now.mask.order) self.now.mask.body.now) self.now.count t walk.seen walk.first walk.last × (walk.seen.late ≡ false) }
+        ensures { opacity_of result ≡ at_frame (mask_frames (order_of self.now.mask.order) self.now.mask.body.now) t }
+    {
+        if t < walk.first {
+            return Ok(Fraction {
+                above: self.value_at(0),
+                below: 1,
+            });
+        }
+        if walk.last <= t {
+            return Ok(Fraction {
+                above: self.value_at(self.count),
+                below: 1,
+            });
+        }
+        let span = walk.seen.covering.unwrap();
+        self.in_frame(span, t)
+    }
+}
+
 impl Mask<'_> {
     // A walk over the times of n keyframes, each read once: the end of one is the start of the next.
     fn walk_times(&self, at: BitPlace, count: usize, t: u64) -> Walk
@@ -104,72 +169,6 @@ impl Mask<'_> {
         }
     }
 
-    // Value k of n + 1: at the place stands their width, and then they.
-    fn value_at(&self, at: BitPlace, count: usize, k: usize) -> u64
-        requires { ValuesAt (order_of self.now.order) self.now.body.now (mask_frames (order_of self.now.order) self.now.body.now) count at.0 × (k ≤ count) × (count ≤ 4096) }
-        ensures { (result ≡ (mask_frames (order_of self.now.order) self.now.body.now).value k) × (result ≤ 255) }
-    {
-        let width = field(self.order, self.body, at, 5) + 1;
-        let place = at.0 + 5 + width as usize * k;
-        field(self.order, self.body, BitPlace(place), width)
-    }
-
-    // In the keyframe that covers t, by its interpolation: hold, linear, or else Bezier.
-    fn in_frame(
-        &self,
-        kinds: BitPlace,
-        values: BitPlace,
-        count: usize,
-        span: Span,
-        t: u64,
-    ) -> Result<Fraction, Reason>
-        requires { PartsAt (order_of self.now.order) self.now.body.now (mask_frames (order_of self.now.order) self.now.body.now) count kinds.0 values.0 × Within (mask_frames (order_of self.now.order) self.now.body.now) count t span }
-        ensures { opacity_of result ≡ in_frame (mask_frames (order_of self.now.order) self.now.body.now) t span.frame }
-    {
-        let frame = span.frame;
-        let kind = field(self.order, self.body, BitPlace(kinds.0 + 2 * frame), 2);
-        let from = self.value_at(values, count, frame);
-        if kind == 3 {
-            return Ok(Fraction {
-                above: from,
-                below: 1,
-            });
-        }
-        if kind == 1 {
-            let to = self.value_at(values, count, frame + 1);
-            return Ok(linear(from, to, span, t));
-        }
-        Err(Reason::FrameInBezier)
-    }
-
-    // Before the first start the first value, at or after the last end the last value.
-    fn at_frame(
-        &self,
-        kinds: BitPlace,
-        values: BitPlace,
-        count: usize,
-        walk: Walk,
-        t: u64,
-    ) -> Result<Fraction, Reason>
-        requires { PartsAt (order_of self.now.order) self.now.body.now (mask_frames (order_of self.now.order) self.now.body.now) count kinds.0 values.0 × Walked (mask_frames (order_of self.now.order) self.now.body.now) count t walk.seen walk.first walk.last × (walk.seen.late ≡ false) }
-        ensures { opacity_of result ≡ at_frame (mask_frames (order_of self.now.order) self.now.body.now) t }
-    {
-        if t < walk.first {
-            return Ok(Fraction {
-                above: self.value_at(values, count, 0),
-                below: 1,
-            });
-        }
-        if walk.last <= t {
-            return Ok(Fraction {
-                above: self.value_at(values, count, count),
-                below: 1,
-            });
-        }
-        let span = walk.seen.covering.unwrap();
-        self.in_frame(kinds, values, count, span, t)
-    }
-
     // n keyframes, whose interpolations stand at the place: a time or t above the limit (26), times that don't rise strictly (27), and then the frame.
     fn stand_at(&self, kinds: BitPlace, count: usize, t: u64) -> Result<Fraction, Reason>
         requires { Stands (order_of self.now.order) self.now.body.now (mask_frames (order_of self.now.order) self.now.body.now) count kinds.0 }
@@ -187,7 +186,13 @@ impl Mask<'_> {
             return Err(Reason::TimesDoNotRise);
         }
         let behind = bits::next_byte(walk.next);
-        self.at_frame(kinds, behind.bit, count, walk, t)
+        let frames = Frames {
+            mask: *self,
+            count,
+            kinds,
+            values: behind.bit,
+        };
+        frames.at_frame(walk, t)
     }
 
     // Keyframed content: its count, and then the interpolations, on a whole byte.

@@ -1,5 +1,5 @@
 -- Coordinates one after the other, each its bits.
-use Prim.Native.Nat.{ℕ, zero, suc, ◌+◌, ◌-◌, ◌*◌, ◌≤◌, ◌<◌}
+use Prim.Native.Nat.{ℕ, suc, ◌+◌, ◌-◌, ◌*◌, ◌≤◌, ◌<◌}
 use mathlib.Core.Bool.{Bool, true, false, ◌||◌}
 use mathlib.Core.List.{List, [], ◌∷◌, ◌++◌, map, append_assoc, append-nil}
 use mathlib.Core.Path.{◌≡◌, refl, ap, ap₂, sym, ◌∙◌}
@@ -8,10 +8,8 @@ use native.Mathlib.Omega.{arith}
 use lib.ListN.{length, get_or, set, take, drop, length-set, take-append-drop, drop_of_length-le}
 use lib.Seq.{take_all, drop-cons, drop-drop, take-suc-set, drop-set-lt}
 use Rattle.format.specs.Tests.{◌or◌}
-use Rattle.format.specs.Reasons.{Answer, accepted, refused}
-use Rattle.format.specs.Items.{coordinates_of, coordinates}
-use Rattle.singles.specs.Single.{of_number}
-use Rattle.path_singles.specs.Coordinates.{Singled, bits_of, as_single, is_refused, is_beyond, any_beyond}
+use Rattle.format.specs.Items.{coordinates}
+use Rattle.path_singles.specs.Coordinates.{Singled, as_single, is_beyond, any_beyond}
 use Rattle.path_singles.specs.Converting.{left, over}
 
 -- ---- the loop: the whole from the start is what is left from here, beside what was beyond so far
@@ -77,34 +75,8 @@ over_part v {i} {j} {u} {x} {b} h e d =
     let o : drop (j - i) (drop i v) ≡ drop j v = drop-drop (j - i) i v ∙ ap (λ (m : ℕ). drop m v) k in
     ap (λ (q : List ℕ). left q b) (e ∙ ap (λ (m : List ℕ). take i v ++ (x ++ m)) o) ∙ ap (λ (s : Singled). left (take i v ++ (s.shown ++ drop j v)) s.beyond) d
 
--- one step, by its answer
-pub step_accepted : (x : ℕ) {a : Answer} {bits : ℕ} → a ≡ of_number x → a ≡ accepted bits → (bits ≡ as_single x) × (false ≡ is_beyond x)
-step_accepted x e d = let f : of_number x ≡ accepted _ = sym e ∙ d in (sym (ap (bits_of x) f), sym (ap is_refused f))
-
-pub step_refused : (x : ℕ) {a : Answer} {r n : ℕ} → a ≡ of_number x → a ≡ refused r n → (x ≡ as_single x) × (true ≡ is_beyond x)
-step_refused x e d = let f : of_number x ≡ refused _ _ = sym e ∙ d in (sym (ap (bits_of x) f), sym (ap is_refused f))
-
 -- ---- the coordinates of verbs
-pub verb_few : (n : ℕ) → coordinates_of n ≤ 6
-verb_few zero = omega arith
-verb_few (suc zero) = omega arith
-verb_few (suc (suc zero)) = omega arith
-verb_few (suc (suc (suc zero))) = omega arith
-verb_few (suc (suc (suc (suc zero)))) = omega arith
-verb_few (suc (suc (suc (suc (suc zero))))) = omega arith
-verb_few (suc (suc (suc (suc (suc (suc zero)))))) = omega arith
-verb_few (suc (suc (suc (suc (suc (suc (suc zero))))))) = omega arith
-verb_few (suc (suc (suc (suc (suc (suc (suc (suc n)))))))) = omega arith
-
 -- the loop: the count so far, and what is left
 pub record Counting (v : List ℕ) (i n : ℕ) : Type 0 where
   pub few : n ≤ 6 * i
   pub same : coordinates v ≡ n + coordinates (drop i v)
-
-pub counts : (v : List ℕ) {i n w : ℕ} → Counting v i n → i < length v → w ≡ coordinates_of (get_or v i 0) → Counting v (i + 1) (n + w)
-counts v {i = i} g h e =
-    let d : coordinates (drop i v) ≡ coordinates_of (get_or v i 0) + coordinates (drop (suc i) v) = ap coordinates (drop-cons v i 0 h) in
-    record { few = omega (arith, g.few, verb_few (get_or v i 0)); same = rw (add-one i) (omega (arith, g.same, d)) }
-
-pub counted : (v : List ℕ) {i n : ℕ} → Counting v i n → i ≡ length v → n ≡ coordinates v
-counted v {i} g e = let d : coordinates (drop i v) ≡ 0 = ap coordinates (drop_of_length-le v (omega arith)) in omega (arith, g.same)

@@ -7,6 +7,7 @@ use native.Mathlib.Omega.{arith}
 use Rattle.std.proofs.Common.{Option, Some, None}
 use Rattle.std.specs.Bool.{then_some}
 use Rattle.std.specs.Option.{option_or}
+use Rattle.std.specs.Simd.{first_chunks}
 use lib.ListN.{length, get_or, take, drop, length-append, length-take, length-drop, take-append-drop}
 use lib.Seq.{slice, get_or-drop, get_or-take, drop-drop, take-add, take_at, drop_at, take-nil, drop-append_seam, take-append_seam}
 use borrow.Author.Tests.{eq-eqb, ne_eqb}
@@ -80,11 +81,16 @@ part_long : (v u x : List ℕ) (i n : ℕ) → u ≡ take i v ++ (x ++ drop n (d
 part_long v u x i n e l =
     omega (arith, ap length e, length-append (take i v) (x ++ drop n (drop i v)), length-append x (drop n (drop i v)), l, parts_long n (drop i v), parts_long i v)
 
--- a number of a row, which is lent as a part of the tag table
-row_number : (g : List ℕ) (m : ℕ) {n : ℕ} (i : ℕ) → n ≡ m + 5 → i < 5 → get_or (take (n - m) (drop m g)) i 0 ≡ get_or g (m + i) 0
-row_number g m {n} i e h =
-    let k : n - m ≡ 5 = omega arith in
-    rw k (get_or-take 5 (drop m g) i 0 h ∙ get_or-drop m g i 0)
+-- a row of five, and a number of it
+row_is : (g : List ℕ) (k i : ℕ) → i < k → get_or (first_chunks 5 k g) i [] ≡ take 5 (drop (5 * i) g)
+row_is g zero i h = absurd (omega arith)
+row_is g (suc k) zero h = refl
+row_is g (suc k) (suc i) h =
+    let e : 5 + 5 * i ≡ 5 * suc i = omega arith in
+    row_is (drop 5 g) k i (omega arith) ∙ ap (take 5) (drop-drop (5 * i) 5 g ∙ ap (λ (m : ℕ). drop m g) e)
+
+row_number : (g : List ℕ) {k i : ℕ} (n : ℕ) → i < k → n < 5 → get_or (get_or (first_chunks 5 k g) i []) n 0 ≡ get_or g (5 * i + n) 0
+row_number g {k} {i} n h l = ap (λ (l : List ℕ). get_or l n 0) (row_is g k i h) ∙ get_or-take 5 (drop (5 * i) g) n 0 l ∙ get_or-drop (5 * i) g n 0
 
 -- ---- the two tables of a file
 gives_one : (ns : List ℕ) (z : Outcome) {t : List ℕ} → result ns z ≡ gives t → (ns ≡ t) × (z ≡ whole)
@@ -169,18 +175,15 @@ module _ (f g T : List ℕ) (J : Answer) (size : ℕ) where
   pub room : {t : List ℕ} {k tag : ℕ} {a : Option ℕ} → Walking t k tag a → tag < length g / 5 → (k + 3 + get_or t (k + 2) 0 ≤ length t) × (length t ≤ 8 * 16777216)
   room W h = let H : Here _ _ _ _ = here W h in (omega (arith, H.ends, H.count), omega (arith, W.long, W.few))
 
-  -- the row of a tag, as it is lent
-  abbrev row_of : ℕ → List ℕ
-  row_of tag = take (5 * tag + 5 - 5 * tag) (drop (5 * tag) g)
-
   -- the tag here was converted: its values, as they are lent, became v
-  pub next : {t u v : List ℕ} {k tag : ℕ} {a c : Option ℕ} (e q : ℕ) {r : Bool} → Walking t k tag a → tag < length g / 5 → e ≡ k + 3 + get_or t (k + 2) 0 → length v ≡ length (take (e - (k + 3)) (drop (k + 3) t))
+  pub next : {t u v : List ℕ} {k tag : ℕ} {a c : Option ℕ} (G : List (List ℕ)) (e q : ℕ) {r : Bool} → G ≡ first_chunks 5 (length g / 5) g → Walking t k tag a → tag < length g / 5 → e ≡ k + 3 + get_or t (k + 2) 0 → length v ≡ length (take (e - (k + 3)) (drop (k + 3) t))
       → u ≡ take (k + 3) t ++ (v ++ drop (e - (k + 3)) (drop (k + 3) t))
-      → left v r ≡ values_by (get_or t (k + 1) 0) (get_or (row_of tag) 1 0) (body_at f (get_or (row_of tag) 2 0 + get_or (row_of tag) 3 0) (get_or (row_of tag) 4 0)) (take (e - (k + 3)) (drop (k + 3) t))
-      → q ≡ get_or (row_of tag) 2 0 → c ≡ option_or a (then_some r q) → Walking u e (tag + 1) c
+      → left v r ≡ values_by (get_or t (k + 1) 0) (get_or (get_or G tag []) 1 0) (body_at f (get_or (get_or G tag []) 2 0 + get_or (get_or G tag []) 3 0) (get_or (get_or G tag []) 4 0)) (take (e - (k + 3)) (drop (k + 3) t))
+      → q ≡ get_or (get_or G tag []) 2 0 → c ≡ option_or a (then_some r q) → Walking u e (tag + 1) c
   unfolding between
-  next {t} {u} {v} {k} {tag} {a} {c} e q {r} W h x n lies d y z =
-      let R : List ℕ = row_of tag in
+  next {t} {u} {v} {k} {tag} {a} {c} G e q {r} rows W h x n lies d y z =
+      let R : List ℕ = get_or G tag [] in
+      let told_row : R ≡ get_or (first_chunks 5 (length g / 5) g) tag [] = ap (λ (G : List (List ℕ)). get_or G tag []) rows in
       let H : Here t k (5 * tag) a = here W h in
       let vals : List ℕ = H.x.values in
       let S : Singled = singled_tag f H.x in
@@ -188,10 +191,10 @@ module _ (f g T : List ℕ) (J : Answer) (size : ℕ) where
       let V : List ℕ = take (e - (k + 3)) (drop (k + 3) t) in
       let b : e ≡ k + 3 + length vals = omega (arith, H.count) in
       let vs : slice (k + 3) e t ≡ vals = ap (λ (j : ℕ). slice (k + 3) j t) b ∙ H.values in
-      let code : get_or R 1 0 ≡ H.x.code = row_number g (5 * tag) 1 refl (omega arith) ∙ H.code in
-      let place : get_or R 2 0 ≡ H.x.place = row_number g (5 * tag) 2 refl (omega arith) ∙ H.place in
-      let header : get_or R 3 0 ≡ H.x.header_size = row_number g (5 * tag) 3 refl (omega arith) ∙ H.header in
-      let bytes : get_or R 4 0 ≡ H.x.body_length = row_number g (5 * tag) 4 refl (omega arith) ∙ H.bytes in
+      let code : get_or R 1 0 ≡ H.x.code = ap (λ (l : List ℕ). get_or l 1 0) told_row ∙ row_number g 1 h (omega arith) ∙ H.code in
+      let place : get_or R 2 0 ≡ H.x.place = ap (λ (l : List ℕ). get_or l 2 0) told_row ∙ row_number g 2 h (omega arith) ∙ H.place in
+      let header : get_or R 3 0 ≡ H.x.header_size = ap (λ (l : List ℕ). get_or l 3 0) told_row ∙ row_number g 3 h (omega arith) ∙ H.header in
+      let bytes : get_or R 4 0 ≡ H.x.body_length = ap (λ (l : List ℕ). get_or l 4 0) told_row ∙ row_number g 4 h (omega arith) ∙ H.bytes in
       let long : length u ≡ length t = part_long t u v (k + 3) (e - (k + 3)) lies n in
       let told : left v r ≡ values_by H.x.state H.x.code (body_at f (H.x.place + H.x.header_size) H.x.body_length) V =
       d ∙ ap₂ (λ (s o : ℕ). values_by s o (body_at f (get_or R 2 0 + get_or R 3 0) (get_or R 4 0)) V) H.state code

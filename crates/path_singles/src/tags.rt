@@ -12,17 +12,17 @@ use answers::Answer;
 use reasons::Reason;
 
 // The values of a tag, by its state and by its row of the tag table. Has it a coordinate beyond?
-fn convert_tag(file: &[u8], row: &[u32], state: u64, values: &mut [u64]) -> bool
-    requires { (length file.now < 2 ^ 60) × (5 ≤ length row.now) × (length values.old < 2 ^ 32) }
+fn convert_tag(file: &[u8], row: &[u32; 5], state: u64, values: &mut [u64]) -> bool
+    requires { (length file.now < 2 ^ 60) × (length values.old < 2 ^ 32) }
     ensures { left values.new result ≡ values_by state (get_or row.now 1 0) (body_at file.now (get_or row.now 2 0 + get_or row.now 3 0) (get_or row.now 4 0)) values.old }
 {
     if state % 2 == 0 {
         return false;
     }
-    let place = u64::from(row[2]) + u64::from(row[3]);
-    let start = up_to(0, place, file.len());
-    let end = up_to(start, u64::from(row[4]), file.len());
-    convert_block(row[1], &file[start..end], values)
+    let [_, code, place, header, length] = *row;
+    let start = up_to(0, u64::from(place) + u64::from(header), file.len());
+    let end = up_to(start, u64::from(length), file.len());
+    convert_block(code, &file[start..end], values)
 }
 
 // The table of a file, with the bits of singles for path coordinates; or 29 with the place of the first tag that has a coordinate beyond.
@@ -32,8 +32,8 @@ pub fn convert(file: &[u8], rows: &[u32], table: &mut [u64]) -> Answer
 {
     let mut first = None;
     let mut index = 1;
-    for tag in 0..rows.len() / 5 {
-        let row = &rows[5 * tag..5 * tag + 5];
+    let (tags, _) = rows.as_chunks::<5>();
+    for row in tags {
         let state = table[index + 1];
         let start = index + 3;
         let end = start + table[index + 2] as usize;

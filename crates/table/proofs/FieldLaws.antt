@@ -29,7 +29,7 @@ use Rattle.std.specs.Prelude.{Result, Ok, Err, IfOk}
 use Rattle.table.specs.State.{shown_over}
 use Rattle.table.specs.Readers.{state_of, Room}
 use Rattle.table.specs.declared.reader.Reader.{Reader}
-use Rattle.table.specs.Fields.{Fits, allows, judge_num, field_of, signed, shows_all, announces, announced, weights}
+use Rattle.table.specs.Fields.{Fits, allows, judge_num, field_of, signed, shows_all, announces, announced, weights, LaysFields}
 use Rattle.table.specs.declared.fields.Field.{Field}
 use Rattle.table.specs.declared.fields.Field.TheVariants.{Verb, Interpolation, SpatialFlag, Plain, ByteValue, Coordinate}
 use Rattle.table.proofs.StoringLaws.{Storing, storing_start, storing_next, storing_done}
@@ -229,7 +229,12 @@ module _ (n w z : ℕ) (wide : 1 ≤ w) where
   pub fits_some : {b : ℕ} → b ≡ z → z < n * w → b / w ≡ min n (z / w)
   fits_some {b} e h = let l : z / w < n = (div-lt_iff_lt-mul wide).1 h in rw e (omega arith)
 
--- of n fields of w bits from p on, m stand in s
+-- m of n fields of w bits from p on stand in s
+pub record Inside (w : ℕ) (s : List ℕ) (p n m : ℕ) : Type 0 where
+  pub upto : m ≤ n
+  pub inside : p + m * w ≤ 8 * length s
+
+-- and no more of them
 pub record Stand (w : ℕ) (s : List ℕ) (p n m : ℕ) : Type 0 where
   pub upto : m ≤ n
   pub inside : p + m * w ≤ 8 * length s
@@ -285,7 +290,7 @@ module _ (o : Order) (kind : Field) {w : ℕ} {s : List ℕ} {p n m q : ℕ} (st
 
 -- ---- a run of fields that may be refused, step by step: m of its n fields stand in the bytes
 
-abbrev fields_from : Order → Field → ℕ → List ℕ → ℕ → ℕ → Reading
+abbrev pub fields_from : Order → Field → ℕ → List ℕ → ℕ → ℕ → Reading
 fields_from o kind w s left p = run o s (times left (field_of kind w)) p
 
 -- after i fields: the whole from the start is what is left from here
@@ -299,7 +304,7 @@ pub record Going (o : Order) (kind : Field) (w : ℕ) (s t₀ : List ℕ) (k n p
 pub going_start : {o : Order} {kind : Field} {w : ℕ} {s t₀ : List ℕ} {k n p₀ m p : ℕ} → p ≡ p₀ + 0 * w → Going o kind w s t₀ k n p₀ m t₀ p 0 0
 going_start {w = w} {k = k} {n} {p₀} e = let z : n - 0 ≡ n = omega arith in let y : p₀ + 0 * w ≡ p₀ = omega arith in record { rest = rw (add-zero k, z, e, y); counts = rw (z, e, y) (sym (zero-add _)); upto = omega arith; place = e; few = omega arith }
 
-module _ {o : Order} {kind : Field} {w : ℕ} {s t₀ : List ℕ} {k n p₀ m : ℕ} {t : List ℕ} {p i count : ℕ} (st : Stand w s p₀ n m) (g : Going o kind w s t₀ k n p₀ m t p i count) where
+module _ {o : Order} {kind : Field} {w : ℕ} {s t₀ : List ℕ} {k n p₀ m : ℕ} {t : List ℕ} {p i count : ℕ} (st : Inside w s p₀ n m) (g : Going o kind w s t₀ k n p₀ m t p i count) where
   module _ (some : i < m) where
     pub fields_in : p + w ≤ 8 * length s
     fields_in = omega (arith, g.place, step_in i m w some, st.inside)
@@ -327,15 +332,25 @@ module _ {o : Order} {kind : Field} {w : ℕ} {s t₀ : List ℕ} {k n p₀ m : 
           (sym (g.counts ∙ ap (λ (y : ℕ). count + y) (shown_stop o kind w s p (n - i) e more h) ∙ add-zero count), omega (arith, g.few, st.upto)),
         )
 
-  -- those that stand there are all read
-  pub fields_end : (b : Reader) {r : Result (Unit {0}) Reason} → m ≤ i → b.table.now ≡ t → b.index ≡ k + m → b.place.0 ≡ p₀ + m * w → r ≡ pick (ltb m n) (Err ItemPastTheBody) (Ok tt)
-      → (state_of b r ≡ shown_over t₀ k (fields_from o kind w s n p₀)) × ((count ≡ announced kind (fields_from o kind w s n p₀).shown) × (count ≤ 6 * n))
-  fields_end b {r} h u j l e =
-      let d : i ≡ m = omega (arith, g.upto) in
-      let q : p ≡ p₀ + m * w = g.place ∙ ap (λ (y : ℕ). p₀ + y * w) d in (
-        rest_left o kind st refl k b j l e ∙ ap₂ (λ (z : List ℕ) (y : ℕ). shown_over z (k + m) (fields_from o kind w s (n - m) y)) u (sym q) ∙ sym (g.rest ∙ ap (λ (y : ℕ). shown_over t (k + y) (fields_from o kind w s (n - y) p)) d),
-        (sym (g.counts ∙ ap (λ (y : ℕ). count + announced kind (fields_from o kind w s (n - y) p).shown) d ∙ ap (λ (y : ℕ). count + y) (rest_announced o kind st q) ∙ add-zero count), omega (arith, g.few, d, st.upto)),
-      )
+-- those that stand there are all read, and what is left of them is passed over
+pub fields_end : {o : Order} {kind : Field} {w : ℕ} {s t₀ : List ℕ} {k n p₀ m count : ℕ} {t : List ℕ} → Stand w s p₀ n m → Going o kind w s t₀ k n p₀ m t (p₀ + m * w) m count
+    → (b : Reader) {r : Result (Unit {0}) Reason} → b.table.now ≡ t → b.index ≡ k + m → b.place.0 ≡ p₀ + m * w → r ≡ pick (ltb m n) (Err ItemPastTheBody) (Ok tt)
+    → (state_of b r ≡ shown_over t₀ k (fields_from o kind w s n p₀)) × ((count ≡ announced kind (fields_from o kind w s n p₀).shown) × (count ≤ 6 * n))
+fields_end {o} {kind} {w} {s} {t₀} {k} {n} {p₀} {m} {count} {t} st g b {r} u j l e = (
+  rest_left o kind st refl k b j l e ∙ ap (λ (z : List ℕ). shown_over z (k + m) (fields_from o kind w s (n - m) (p₀ + m * w))) u ∙ sym g.rest,
+  (sym (g.counts ∙ ap (λ (y : ℕ). count + y) (rest_announced o kind st refl) ∙ add-zero count), omega (arith, g.few, st.upto)),
+)
+
+-- what the code tells of them, as `Going` has it
+pub told_going : {o : Order} {kind : Field} {w : ℕ} {s t₀ : List ℕ} {k p₀ m sum : ℕ} {t : List ℕ} → LaysFields o kind w s t₀ k p₀ m t (Ok sum) → (n : ℕ) → m ≤ n → Going o kind w s t₀ k n p₀ m t (p₀ + m * w) m sum
+told_going h n l = record { rest = (h n l).0; counts = (h n l).1; upto = omega arith; place = refl; few = (h n l).2 }
+
+pub going_told : {o : Order} {kind : Field} {w : ℕ} {s t₀ : List ℕ} {k p₀ m i sum p : ℕ} {t : List ℕ} → m ≤ i → ((n : ℕ) → m ≤ n → Going o kind w s t₀ k n p₀ m t p i sum) → LaysFields o kind w s t₀ k p₀ m t (Ok sum)
+going_told {o} {kind} {w} {s} {t₀} {k} {p₀} {m} {i} {sum} {p} {t} d g n l =
+    let x = g n l in
+    let e : i ≡ m = omega (arith, x.upto) in
+    let q : p ≡ p₀ + m * w = x.place ∙ ap (λ (y : ℕ). p₀ + y * w) e in
+    (rw (e, q) at x.rest, rw (e, q) at x.counts, omega (arith, x.few, e))
 
 -- ---- a run of fields that show whatever their bits are
 

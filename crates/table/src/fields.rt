@@ -1,10 +1,10 @@
 // Runs of bit fields: verbs, coordinates, interpolations, keyframed Bools, bytes and Points, easing, spatial flags.
-ghost use Rattle.std.specs.Prelude.{true, false, ◌≡◌, ◌+◌, ◌-◌, ◌*◌, ◌/◌, ◌≤◌, ◌<◌, ◌^◌, min, set, get_or, IfOk};
+ghost use Rattle.std.specs.Prelude.{true, false, ◌≡◌, ◌+◌, ◌-◌, ◌*◌, ◌/◌, ◌≤◌, ◌<◌, ◌^◌, min, get_or, length, IfOk};
 ghost use Rattle.format.specs.Formats.{item as one_of, Item as ItemOf, times, the, ◌▹◌};
 ghost use Rattle.format.specs.Tests.{pick};
 ghost use Rattle.format.specs.Items.{run};
 ghost use Rattle.table.specs.Readers.{Reads, Room, Kept, Stops, Passable, Passes};
-ghost use Rattle.table.specs.Fields.{allows, signed, field_of, announced, weights, shows_all};
+ghost use Rattle.table.specs.Fields.{LaysFields, allows, signed, field_of, announced, weights, shows_all};
 ghost use Rattle.bits.specs.Places.{order_of};
 
 use crate::{Reader, put, room_for};
@@ -91,15 +91,33 @@ fn shows_all(kind: Field, width: u64) -> bool
     }
 }
 
-impl Reader<'_> {
-    // Stores a number so far ahead of the next one.
-    fn store(&mut self, ahead: usize, value: u64)
-        requires { self.old.index + ahead < 2 ^ 64 }
-        ensures { Kept self.old self.new × (self.new.table.now ≡ set self.old.table.now (self.old.index + ahead) value) }
-    {
-        put(self.table, self.index + ahead, value);
+// The fields that stand in the body, laid over the table: how many signed fields they announce; or how many stand before the first that is not allowed. What the loop goes by is taken out of the
+// reader before it, since a store into the table would have it loaded again.
+fn lay_fields(
+    kind: Field,
+    width: u64,
+    there: usize,
+    reader: &mut Reader<'_>,
+) -> Result<usize, usize>
+    requires { Room reader.old × (1 ≤ width) × (width ≤ 32) × (there < 2 ^ 32) × (reader.old.place.0 + there * width ≤ 8 * length reader.old.body.now) × (signed kind ≡ false) }
+    ensures { Kept reader.old reader.new × LaysFields (order_of reader.old.order) kind width reader.old.body.now reader.old.table.now reader.old.index reader.old.place.0 there reader.new.table.now result }
+{
+    let weights = weights_of(kind);
+    let (order, body, first, from) = (reader.order, reader.body, reader.place.0, reader.index);
+    let table = &mut *reader.table;
+    let mut sum = 0;
+    for i in 0..there {
+        let value = bits::fields::field(order, body, BitPlace(first + i * width as usize), width);
+        if !allowed(kind, value) {
+            return Err(i);
+        }
+        put(table, from + i, value);
+        sum += weight(&weights, value);
     }
+    Ok(sum)
+}
 
+impl Reader<'_> {
     // After so many fields one is not allowed (16).
     fn stop(&mut self, passed: usize) -> Result<usize, Reason>
         requires { self.old.index + passed < 2 ^ 64 }
@@ -128,21 +146,15 @@ impl Reader<'_> {
         ensures reads { Reads self.old self.new result (times count (field_of kind width)) }
         ensures counts { IfOk result (λ sum. (sum ≡ announced kind (run (order_of self.old.order) self.old.body.now (times count (field_of kind width)) self.old.place.0).shown) × (sum ≤ 6 * count)) }
     {
-        let weights = weights_of(kind);
         let step = width as usize;
         let there = fitting(self.body.len(), self.place, step, count);
-        let mut sum = 0;
-        for i in 0..there {
-            let place = BitPlace(self.place.0 + i * step);
-            let value = bits::fields::field(self.order, self.body, place, width);
-            if !allowed(kind, value) {
-                return self.stop(i);
+        match lay_fields(kind, width, there, self) {
+            Ok(sum) => {
+                self.pass(step, there, count)?;
+                Ok(sum)
             }
-            self.store(i, value);
-            sum += weight(&weights, value);
+            Err(passed) => self.stop(passed),
         }
-        self.pass(step, there, count)?;
-        Ok(sum)
     }
 
     // n fields of w bits that show whatever their bits are: so only those are read that stand in the body and that there is room for. Whether they are signed is asked once.
@@ -154,11 +166,10 @@ impl Reader<'_> {
         let whole = fitting(self.body.len(), self.place, step, count);
         let size = 1u64 << width;
         let negatives = negatives_of(kind, size);
-        let first = self.place.0;
-        let from = self.index;
+        let (order, body, first, from) = (self.order, self.body, self.place.0, self.index);
         let table = &mut *self.table;
         for i in 0..room_for(table.len(), from, whole) {
-            let raw = bits::fields::field(self.order, self.body, BitPlace(first + i * step), width);
+            let raw = bits::fields::field(order, body, BitPlace(first + i * step), width);
             table[from + i] = bits::fields::with_sign(raw, size, negatives);
         }
         self.pass(step, whole, count)

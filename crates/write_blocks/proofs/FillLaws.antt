@@ -1,5 +1,5 @@
 -- A block's contents, an attribute at a time, and the flags that are gathered on the way.
-use Prim.Native.Nat.{ℕ, suc, ◌+◌, ◌-◌, ◌≤◌, ◌<◌}
+use Prim.Native.Nat.{ℕ, suc, ◌+◌, ◌≤◌, ◌<◌}
 use mathlib.Core.List.{List, [], ◌∷◌, append-nil, append_assoc}
 use mathlib.Core.Path.{◌≡◌, refl, sym, ap, ap₂, ◌∙◌, subst}
 use mathlib.Core.Bool.{Bool}
@@ -16,7 +16,6 @@ use Rattle.format.specs.Possible.{Possible, this, cannot}
 use Rattle.format.specs.WritingItems.{dig, before, write_item}
 use Rattle.format.specs.WritingFormats.{unrun}
 use Rattle.format.specs.WritingBodies.{left_of, flags_in}
-use Rattle.attributes.specs.Rows.{rows_from}
 use Rattle.bits.specs.Places.{order_of}
 use Rattle.sink.specs.Laying.{State}
 use Rattle.sink.specs.declared.Impossible.{Impossible}
@@ -31,10 +30,6 @@ use Rattle.write_blocks.specs.Filling.{Both, both, both_of, fills, filled}
 use Rattle.write_blocks.specs.declared.field.Flags.{Flags}
 use Rattle.write_blocks.proofs.FlagLaws.{Adds}
 use Rattle.write_blocks.proofs.PlaceLaws.{left_is}
-
--- no rows are left
-pub none_after : (rows : List ℕ) (count i : ℕ) → count ≤ i → rows_from rows i (count - i) ≡ []
-none_after rows count i h = let n : count - i ≡ 0 = omega arith in rw n
 
 -- ---- bits in front
 before_none : (b : Possible (List Bool)) → before [] b ≡ b
@@ -125,10 +120,6 @@ fill_start a ks f few first none = record {
       (ap (λ (b : Possible (List Bool)). both_of b (ran (order_of a.order) a.values.now (state a) 0 (rows ks (flags_in (order_of a.order) ks a.values.now))))
       (sym (before_none (flag_bits (order_of a.order) ks (flags_in (order_of a.order) ks a.values.now)))));
 }
-
--- from the first row on
-pub from_first : {a : Writer} {ks : List Attribute} {b : Writer} {f : Flags} (rows : List ℕ) (count : ℕ) → Filling a ks b f (rows_from rows 0 count) → Filling a ks b f (rows_from rows 0 (count - 0))
-from_first rows count g = let n : count - 0 ≡ count = omega arith in rw n g
 
 module _ {a : Writer} {ks : List Attribute} {b : Writer} {f : Flags} {now : List Attribute} (g : Filling a ks b f now) where
   abbrev o : Order

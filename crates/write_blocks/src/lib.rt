@@ -8,7 +8,7 @@ ghost use Rattle.format.specs.Bodies.{content as content_of, attributes as attri
 ghost use Rattle.format.specs.WritingBodies.{write_body};
 ghost use Rattle.format.specs.Bodies.{Fixed};
 ghost use Rattle.bits.specs.Places.{InEither, order_of};
-ghost use Rattle.attributes.specs.Rows.{kind_of, attribute_in, rows_from};
+ghost use Rattle.attributes.specs.Rows.{kind_of, attribute_of, attributes_in};
 ghost use Rattle.sink.specs.Lain.{lies, lain_as, longest};
 ghost use Rattle.spelling.specs.Writer.{state, Onward, Writes};
 ghost use Rattle.write_blocks.specs.Flags.{bits_of, noted, Grown, Longer, flag_spelling, flag_bytes, most_bits, HasFlags};
@@ -17,7 +17,7 @@ ghost use Rattle.write_blocks.specs.Filling.{filled, fills, under_flags};
 pub mod field;
 
 use crate::field::Flags;
-use attributes::{Block, Content, Kind};
+use attributes::{Attribute, Content, Kind};
 use bits::{BytePlace, Order};
 use sink::{Impossible, Sink};
 use spelling::writer::Writer;
@@ -106,35 +106,31 @@ impl Flags {
 }
 
 // The content of the attribute in a row, by its flag number.
-fn write_content(row: u8, flag: u64, writer: &mut Writer) -> Result<(), Impossible>
-    ensures { Writes writer.old writer.new result (content_of (attribute_in row) flag) }
+fn write_content(row: Attribute, flag: u64, writer: &mut Writer) -> Result<(), Impossible>
+    ensures { Writes writer.old writer.new result (content_of (attribute_of row) flag) }
 {
-    let kind = attributes::kind_in(row);
+    let kind = row.kind;
+    let what = row.data_type;
     match attributes::content_of(kind, flag) {
         Content::Nothing => Ok(()),
-        Content::One => write_values::write_value(attributes::type_in(row), writer),
-        Content::Frames => {
-            let what = attributes::type_in(row);
-            write_values::keyframes::write_keyframed(kind, what, flag, writer)
-        }
+        Content::One => write_values::write_value(what, writer),
+        Content::Frames => write_values::keyframes::write_keyframed(kind, what, flag, writer),
     }
 }
 
 // The contents of all rows; their flags are gathered on the way.
-fn write_contents(block: Block, writer: &mut Writer) -> Result<Flags, Impossible>
-    requires { (block.count ≤ 12) × HasFlags (rows_from block.rows 0 block.count) × (writer.old.index ≡ 0) }
+fn write_contents(rows: &[Attribute], writer: &mut Writer) -> Result<Flags, Impossible>
+    requires { HasFlags (attributes_in rows.now) × (writer.old.index ≡ 0) }
     ensures onward { Onward writer.old writer.new }
-    ensures fills { filled (order_of writer.old.order) writer.new result ≡ fills (order_of writer.old.order) (rows_from block.rows 0 block.count) writer.old.values.now (state writer.old) }
+    ensures fills { filled (order_of writer.old.order) writer.new result ≡ fills (order_of writer.old.order) (attributes_in rows.now) writer.old.values.now (state writer.old) }
     ensures few { IfOk result (λ flags. flags.width ≤ 32) }
 {
-    let rows = block.rows;
     let order = writer.order;
     let mut flags = Flags { bits: 0, width: 0 };
-    for row in 0..block.count {
-        let attribute = rows[row];
+    for row in rows {
         let number = writer.take()?;
-        flags = flags.with_kind(order, attributes::kind_in(attribute), number)?;
-        write_content(attribute, number, writer)?;
+        flags = flags.with_kind(order, row.kind, number)?;
+        write_content(*row, number, writer)?;
     }
     Ok(flags)
 }
@@ -167,13 +163,13 @@ fn put_flags(
 }
 
 // An attribute block, by a writer that stands one byte after its place.
-fn write_at(block: Block, writer: &mut Writer, at: BytePlace) -> Result<BytePlace, Impossible>
-    requires block { (block.count ≤ 12) × HasFlags (rows_from block.rows 0 block.count) }
+fn write_at(rows: &[Attribute], writer: &mut Writer, at: BytePlace) -> Result<BytePlace, Impossible>
+    requires flags { HasFlags (attributes_in rows.now) }
     requires first { (writer.old.index ≡ 0) × (writer.old.sink.place.0 ≡ 8 * (at.0 + 1)) × (writer.old.sink.part ≡ 0) }
     ensures onward { Onward writer.old writer.new }
-    ensures lain { lain_as writer.new.out.now result ≡ lies writer.old.out.now at.0 (write_body (order_of writer.old.order) (attributes_body (rows_from block.rows 0 block.count)) writer.old.values.now) }
+    ensures lain { lain_as writer.new.out.now result ≡ lies writer.old.out.now at.0 (write_body (order_of writer.old.order) (attributes_body (attributes_in rows.now)) writer.old.values.now) }
 {
-    let flags = write_contents(block, writer)?;
+    let flags = write_contents(rows, writer)?;
     let stop = writer.conclude()?;
     put_flags(flags, writer, at, stop)
 }
@@ -181,13 +177,13 @@ fn write_at(block: Block, writer: &mut Writer, at: BytePlace) -> Result<BytePlac
 // An attribute block, from a byte place on; one that has flags. No file is longer than 16,777,216 bytes.
 pub fn write_block(
     order: Order,
-    block: Block,
+    rows: &[Attribute],
     values: &[u64],
     out: &mut [u8],
     at: BytePlace,
 ) -> Result<BytePlace, Impossible>
-    requires { (block.count ≤ 12) × HasFlags (rows_from block.rows 0 block.count) }
-    ensures { lain_as out.new result ≡ lies out.old at.0 (write_body (order_of order) (attributes_body (rows_from block.rows 0 block.count)) values.now) }
+    requires { HasFlags (attributes_in rows.now) }
+    ensures { lain_as out.new result ≡ lies out.old at.0 (write_body (order_of order) (attributes_body (attributes_in rows.now)) values.now) }
 {
     if 16777216 <= at.0 {
         return Err(Impossible);
@@ -200,5 +196,5 @@ pub fn write_block(
         values,
         index: 0,
     };
-    write_at(block, &mut writer, at)
+    write_at(rows, &mut writer, at)
 }

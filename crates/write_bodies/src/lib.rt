@@ -61,8 +61,8 @@ pub fn write_body(
     ensures { lain_as out.new result ≡ lies out.old at.0 (write_body (order_of order) (leaf_body code) values.now) }
 {
     if bodies::is_block(code) {
-        let block = attributes::blocks::block_of(code);
-        return write_blocks::write_block(order, block, values, out, at);
+        let rows = attributes::blocks::block_of(code);
+        return write_blocks::write_block(order, rows, values, out, at);
     }
     write_items(order, code, values, out, at)
 }

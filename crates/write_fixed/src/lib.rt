@@ -1,22 +1,21 @@
 // Bodies that are no attribute blocks, written: the constant rows of their items, walked by one writer; and font tables.
 #![tactic(auto)]
 
-ghost use Rattle.std.specs.Prelude.{◌≤◌};
 ghost use Rattle.format.specs.Bodies.{font_tables};
-ghost use Rattle.fixed.specs.Fixed.{in_order, items_from, fixed_of};
+ghost use Rattle.fixed.specs.Fixed.{in_order, fixed_of};
 ghost use Rattle.spelling.specs.Writer.{Writes};
 
+use items::Item;
 use sink::Impossible;
 use spelling::in_turn::{Text, write_all};
 use spelling::writer::Writer;
 
-// The items from row start on, up to row end.
-fn write_items(start: usize, end: usize, writer: &mut Writer) -> Result<(), Impossible>
-    requires { (start ≤ end) × (end ≤ 18) }
-    ensures { Writes writer.old writer.new result (in_order (items_from start end)) }
+// The items of these rows, in order.
+fn write_items(rows: &[Item], writer: &mut Writer) -> Result<(), Impossible>
+    ensures { Writes writer.old writer.new result (in_order rows.now) }
 {
-    for row in start..end {
-        writer.one(fixed::item_at(row))?;
+    for kind in rows {
+        writer.one(*kind)?;
     }
     Ok(())
 }
@@ -36,6 +35,5 @@ pub fn write_fixed(code: u32, writer: &mut Writer) -> Result<(), Impossible>
     if code == 1 {
         return write_fonts(writer);
     }
-    let rows = fixed::rows_of(code);
-    write_items(rows.start, rows.end, writer)
+    write_items(fixed::rows_of(code), writer)
 }

@@ -19,7 +19,7 @@ use sink::Impossible;
 use spelling::in_turn::{Part, write_all};
 use spelling::writer::Writer;
 use table::fields::Field;
-use values::{Single, single_of};
+use values::single_of;
 
 // Two items: a Ratio is an I32 and a U32, a Point two Floats.
 fn write_pair(first: Item, second: Item, writer: &mut Writer) -> Result<(), Impossible>
@@ -146,8 +146,8 @@ pub fn write_value(what: DataType, writer: &mut Writer) -> Result<(), Impossible
     ensures { Writes writer.old writer.new result (value_of (type_of what)) }
 {
     match single_of(what) {
-        Single::Is(kind) => writer.one(kind),
-        Single::No => Compound { what }.write(writer),
+        Some(kind) => writer.one(kind),
+        None => Compound { what }.write(writer),
     }
 }
 
@@ -156,8 +156,8 @@ fn write_each(what: DataType, count: usize, writer: &mut Writer) -> Result<(), I
     ensures { Writes writer.old writer.new result (times count (value_of (type_of what))) }
 {
     match single_of(what) {
-        Single::Is(kind) => writer.items(kind, count),
-        Single::No => write_all(&Compound { what }, count, writer),
+        Some(kind) => writer.items(kind, count),
+        None => write_all(&Compound { what }, count, writer),
     }
 }
 

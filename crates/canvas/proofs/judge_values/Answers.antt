@@ -1,5 +1,4 @@
 -- `canvas::judge_values` meets its contract, by the class that the `match` tells.
-use mathlib.Core.Bool.{true, false}
 use Rattle.std.proofs.Common.{rules}
 use Rattle.bits.specs.Places.{order_of}
 use Rattle.reasons.proofs.NumberLaws.{passed_on}
