@@ -13,10 +13,11 @@ use Rattle.format.specs.Bodies.{Body, composition_attributes, fixed, read_body}
 use Rattle.format.specs.FileAndTags as paper
 use Rattle.format.specs.FileAndTags.{class_of, Walk, broken, file, walk_list}
 use Rattle.format.specs.Reasons.{start_fault, walk_file}
+use Rattle.format.proofs.Absurd.{clash}
 use Rattle.format.proofs.StartLaws.{good_start}
 use Rattle.reasons.specs.declared.Reason.{Reason}
 use Rattle.reasons.specs.Numbers.{number_of}
-use Rattle.reasons.proofs.NumberLaws.{positive}
+use Rattle.reasons.proofs.NumberLaws.{number_one, positive}
 use Rattle.table.specs.State.{State, shown_over}
 use Rattle.table.specs.declared.reader.Reader.{Reader}
 use Rattle.bodies.specs.Leaf.{leaf_body}
@@ -28,8 +29,9 @@ use Rattle.tags.specs.Lent.{classes_in}
 use Rattle.tags.proofs.LentLaws.{class_level}
 use Rattle.lists.specs.declared.Fault.{Fault as Refused}
 use Rattle.lists.proofs.ListLaws.{piece, piece_rest}
-use Rattle.canvas.specs.Canvas.{Seen, found, canvas, canvas_in, canvas_of, canvas_file}
-use Rattle.canvas.specs.Looking.{refusal, body_at, Sees, Looks, zeros, Answers}
+use Rattle.canvas.specs.Canvas.{Seen, found, Canvas, canvas, canvas_in, canvas_of, canvas_file}
+use Rattle.canvas.specs.Looking.{refusal, body_at, Sees, Looks, zeros, seen_of, answered, Answers}
+use Rattle.canvas.specs.declared.CanvasSize.{CanvasSize}
 use Rattle.canvas.specs.declared.Refusal.{Refusal}
 use Rattle.canvas.specs.declared.Span.{Span}
 use Rattle.canvas.proofs.LookLaws.{leaf_is}
@@ -112,3 +114,21 @@ module _ (order level : ℕ) (f : List ℕ) where
 -- the list at depth 0 ends inside the longest file
 pub call_inside : (f : List ℕ) → 9 ≤ length f → length f ≤ 16777216 → 9 + length (piece 9 (length f) f) ≤ 16777216
 call_inside f h l = omega (arith, ap length (piece_rest 9 f), length-drop 9 f)
+
+-- ---- no second answer fits the call's promise
+seen_one : (a b : Result (Option (List ℕ)) Refusal) → seen_of a ≡ seen_of b → a ≡ b
+seen_one (Ok (Some vs)) (Ok (Some ws)) e = let q : vs ≡ ws = cc in ap (λ (vs : List ℕ). Ok (Some vs)) q
+seen_one (Ok (Some vs)) (Ok None) e = clash cc
+seen_one (Ok (Some vs)) (Err y) e = clash cc
+seen_one (Ok None) (Ok (Some ws)) e = clash cc
+seen_one (Ok None) (Ok None) e = λ i. Ok None
+seen_one (Ok None) (Err y) e = clash cc
+seen_one (Err x) (Ok (Some ws)) e = clash cc
+seen_one (Err x) (Ok None) e = clash cc
+seen_one (Err x) (Err y) e =
+    let r : number_of x.reason ≡ number_of y.reason = cc in
+    let n : x.number ≡ y.number = cc in
+    ap₂ (λ (r : Reason) (n : ℕ). Err (refusal r n)) (number_one x.reason y.reason r) n
+
+pub answered_one : (a b : CanvasSize) → answered a ≡ answered b → a ≡ b
+answered_one a b e = ap₂ (λ (s : Result (Option (List ℕ)) Refusal) (n : ℕ). record { size = s; headers = n }) (seen_one a.size b.size (ap (λ (c : Canvas). c.seen) e)) (ap (λ (c : Canvas). c.headers) e)

@@ -79,6 +79,7 @@ fn is_looked(class: Class, code: u32) -> bool
 }
 
 // A tag whose body is good, by its class, and by where its list starts in its body, if it has one.
+// Stays: beside `lists::next_step` it knows the tag that is looked for; a type around the steps of lists would be no plainer.
 fn by_class(class: Class, code: u32, body: Span, list: Option<BytePlace>) -> Judged
     requires { IfSome list (λ place. body.start.0 + place.0 < 2 ^ 60) }
     ensures { result ≡ judged_by class code body list }
@@ -97,6 +98,7 @@ fn by_class(class: Class, code: u32, body: Span, list: Option<BytePlace>) -> Jud
 }
 
 // The values of a tag are judged, by its class, and nothing is stored: where its list starts in its body, if it has one; or a reason.
+// Stays: beside `tags::read_tag_values`, which packs opaque bodies; a second caller takes what is in line in the reader's loop out of it (docs/SPEED.md).
 fn judge_values(
     order: Order,
     class: Class,
@@ -224,6 +226,7 @@ fn values_in(order: Order, body: &[u8]) -> [u64; 7]
         table: &mut values,
         index: 0,
     };
+    // It was judged, so nothing is refused now.
     let _ = bodies::read_body(&mut reader, 3);
     values
 }

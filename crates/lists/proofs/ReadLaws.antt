@@ -1,9 +1,9 @@
 -- A list, read tag by tag, in the words of the code: what it lends, and what its steps left.
-use Prim.Native.Nat.{ℕ, ◌+◌, ◌-◌, ◌*◌, ◌^◌, ◌≤◌, ◌<◌}
-use mathlib.Core.Path.{◌≡◌, refl, ap, sym, subst, ◌∙◌}
+use Prim.Native.Nat.{ℕ, ◌+◌, ◌-◌, ◌^◌, ◌≤◌, ◌<◌}
+use mathlib.Core.Path.{◌≡◌, refl, ap, sym, ◌∙◌}
 use native.Mathlib.Omega.{arith}
 use lib.ListN.{length}
-use Rattle.std.proofs.Common.{Result, Ok, Err, Option, Some}
+use Rattle.std.proofs.Common.{Result, Ok, Err}
 use Rattle.format.specs.Bits.{Order}
 use Rattle.format.specs.FileAndTags as paper
 use Rattle.format.specs.FileAndTags.{blame, walk_list}
@@ -13,7 +13,6 @@ use Rattle.bits.specs.Places.{order_of}
 use Rattle.bits.specs.declared.BytePlace.{BytePlace}
 use Rattle.tags.specs.Lent.{classes_in, Tabled}
 use Rattle.lists.specs.Lists.{owner_of, step_as, tag_in, last_of, ended_by, Listed, listed, walked_of, walk_over, SameTables, Steps, Walks, Bounds}
-use Rattle.lists.specs.Steps.{Step}
 use Rattle.lists.specs.Walks as walked
 use Rattle.lists.specs.declared.Fault.{Fault}
 use Rattle.lists.specs.declared.Lent.{Lent}

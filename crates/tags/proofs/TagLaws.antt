@@ -4,13 +4,13 @@ use mathlib.Core.List.{List, [], ◌∷◌, ◌++◌, append_assoc}
 use mathlib.Core.Path.{◌≡◌, refl, ap, sym, subst, ◌∙◌}
 use mathlib.Core.Bool.{Bool, true, false}
 use native.Mathlib.Omega.{arith}
-use lib.ListN.{length, take, drop, set, length-set, length-drop}
+use lib.ListN.{length, take, drop, set, length-drop}
 use lib.Seq.{sets, length-sets, take_all, set_out, drop-drop, length-take-le}
 use native.Mathlib.Nat.{add-zero, add-suc, suc-add}
 use lib.Dec.{eqb}
 use borrow.Author.Tests.{eqb-true, eqb-false}
 use borrow.Rule.Slice.PartMut.{put_mid}
-use Rattle.std.proofs.Common.{Result, Ok, Err, Option, Some, None, ◌==◌}
+use Rattle.std.proofs.Common.{Result, Ok, Err, Option, None, ◌==◌}
 use Rattle.std.proofs.lemmas.List.{take-append-drop, set_comm}
 use Rattle.std.proofs.lemmas.List.Edits.{sets-eq}
 use Rattle.format.specs.Bits.{Order}
@@ -28,7 +28,6 @@ use Rattle.bodies.specs.Leaf.{container_body, has_list_in}
 use Rattle.bits.specs.Places.{order_of}
 use Rattle.bits.specs.declared.BitPlace.{BitPlace}
 use Rattle.bits.specs.declared.BytePlace.{BytePlace}
-use Rattle.bits.proofs.StoreLaws.{sets_out}
 use Rattle.table.specs.State.{State, shown_over}
 use Rattle.table.specs.Readers.{Same, state_of, ending_of}
 use Rattle.table.specs.declared.reader.Reader.{Reader}

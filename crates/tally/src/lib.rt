@@ -14,6 +14,11 @@ use headers::Header;
 use reasons::Reason;
 use table::Reader;
 
+// A tally whose header count has come to this, or with a count above that, takes no file.
+const HEADERS_LIMIT: u64 = 9000000;
+
+const COUNT_LIMIT: u64 = 16777216000000;
+
 // A count for each of the 1,024 codes, and one for file headers, in bytes.
 #[derive(Clone, Copy, Debug, PartialEq, Eq)]
 pub struct Tally {
@@ -22,6 +27,7 @@ pub struct Tally {
 }
 
 // The tally afterwards, and the answer: accepted with the file's length, or refused with reason and number.
+// Stays: document 01 hands a tally on by value.
 #[derive(Clone, Copy, Debug, PartialEq, Eq)]
 pub struct Added {
     pub tally: Tally,
@@ -44,7 +50,7 @@ impl Tally {
 fn is_full(tally: Tally) -> bool
     ensures { result ≡ is_full tally }
 {
-    9000000 <= tally.headers || tally.counts.iter().any(|&count| 16777216000000 < count)
+    HEADERS_LIMIT <= tally.headers || tally.counts.iter().any(|&count| COUNT_LIMIT < count)
 }
 
 // Where a container's list starts in its body: behind its own part; where the body ends, if it has none.

@@ -1,4 +1,5 @@
 -- `fixed::rows_of` meets its contract: the rows of each code, by the arm that tells it.
+use Rattle.std.proofs.Common.{rules}
 use Rattle.fixed.specs.Fixed.{fixed_of}
 use Rattle.fixed.proofs.FixedLaws.{items_2, items_3, items_5, items_7, items_11, items_12, rows_are, rows_none}
 use Rattle.fixed.proofs.rows_of.Goals as goal
@@ -28,4 +29,4 @@ unfolding fixed_of
 returns-in-12 c = rows_are 12 c.in-12.is items_12
 
 pub returns-in_default : goal.returns-in_default
-returns-in_default c = rows_none c.requires c.in_default.in_default-own.rest.0.0.0.0.0.1 c.in_default.in_default-own.rest.0.0.0.0.1 c.in_default.in_default-own.rest.0.0.0.1 c.in_default.in_default-own.rest.0.0.1 c.in_default.in_default-own.rest.0.1 c.in_default.in_default-own.rest.1
+returns-in_default c = search (rules, rows_none)

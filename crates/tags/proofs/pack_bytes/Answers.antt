@@ -1,8 +1,8 @@
 -- `tags::pack_bytes` meets its contract: what is not stored yet is what there is still room for.
-use Prim.Native.Nat.{◌+◌, ◌-◌, ◌*◌, ◌/◌}
+use Prim.Native.Nat.{◌+◌, ◌/◌}
 use mathlib.Core.Path.{◌≡◌, refl}
 use native.Mathlib.Omega.{arith}
-use lib.ListN.{length, drop, length-take}
+use lib.ListN.{length}
 use Rattle.tags.proofs.TagLaws.{packed_done, packed_next, packed_last, some_rest, no_rest}
 use Rattle.tags.proofs.pack_bytes.Goals as goal
 use Rattle.tags.proofs.pack_bytes.Goals.{else-not-is_empty-via-then-not-is_empty+else-last-table, else-not-is_empty-via-else-not-is_empty}

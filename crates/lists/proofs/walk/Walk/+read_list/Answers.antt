@@ -1,5 +1,5 @@
 -- `Walk::read_list` meets its contract: tag by tag, and for the list of a container by itself.
-use mathlib.Core.Path.{refl, ap, ◌∙◌}
+use mathlib.Core.Path.{ap, ◌∙◌}
 use native.Mathlib.Omega.{arith}
 use Rattle.std.proofs.Common.{Ok}
 use Rattle.reasons.proofs.NumberLaws.{passed_on}
@@ -50,9 +50,10 @@ pub invariant_of-inner : goal.invariant_of-inner
 invariant_of-inner t c = let a = c.args in let u = inner_bounds a.self.now a.list.now a.lent.now c.loop-place.invariant c.loop-place-test.true c.read_tag.ensures (c.in-Ok.is ∙ ap Ok c.in-Open.is) c.requires.tabled c.requires.bounds in record { deep = u.depth; inside = u.place }
 
 pub read_list-requires : goal.read_list-requires
-read_list-requires t c = let a = c.args in let e = c.in-Ok.is ∙ ap Ok c.in-Open.is in
-    (omega (arith, c.decreases, (open_is a.self.now a.list.now a.lent.now c.loop-place.invariant c.loop-place-test.true c.read_tag.ensures e).deep),
-    (c.requires.tabled, inner_bounds a.self.now a.list.now a.lent.now c.loop-place.invariant c.loop-place-test.true c.read_tag.ensures e c.requires.tabled c.requires.bounds))
+read_list-requires t c = let a = c.args in let e = c.in-Ok.is ∙ ap Ok c.in-Open.is in (
+  omega (arith, c.decreases, (open_is a.self.now a.list.now a.lent.now c.loop-place.invariant c.loop-place-test.true c.read_tag.ensures e).deep),
+  (c.requires.tabled, inner_bounds a.self.now a.list.now a.lent.now c.loop-place.invariant c.loop-place-test.true c.read_tag.ensures e c.requires.tabled c.requires.bounds),
+)
 
 pub returns-in_err-read_list-in-Open : goal.returns-in_err-read_list-in-Open
 returns-in_err-read_list-in-Open t c = let a = c.args in inner_err a.self.now a.list.now a.lent.now c.loop-place.invariant c.loop-place-test.true c.read_tag.ensures (c.in-Ok.is ∙ ap Ok c.in-Open.is) c.read_list.ensures c.in_err-read_list-in-Open.was (passed_on c.from_residual.result c.from_residual.ensures.1)

@@ -1,5 +1,5 @@
 -- `Walk::read_tag` meets its contract: the header as it stands, the class of its code, and whether it passes.
-use mathlib.Core.Path.{refl, sym, ap, ◌∙◌}
+use mathlib.Core.Path.{refl, sym, ap}
 use Rattle.bits.specs.Places.{order_of}
 use Rattle.reasons.proofs.NumberLaws.{passed_on}
 use Rattle.headers.proofs.HeadLaws.{stands_at_lem, head_passes, head_fails}
