@@ -66,6 +66,7 @@ fn spell_items(
 }
 
 // n times. Each number has a spelling, so that of each only the place behind it is judged: no file is longer.
+// Stays: one loop with `spell_items` is no plainer, since their step would have to be handed in; apart, no number is asked for its kind and range.
 fn spell_times(
     count: usize,
     out: &mut [u8],
