@@ -55,7 +55,7 @@ impl TagList<'_> {
     }
 
     // After End the room is used up, else 11.
-    fn ends_at(&self, stop: BytePlace) -> Result<(), Fault>
+    pub fn ends_at(&self, stop: BytePlace) -> Result<(), Fault>
         requires { stop.0 ≤ length self.now.room.now }
         ensures { ended_by result ≡ last_of self.now.owner self.now.at.0 stop.0 (length self.now.room.now) }
     {
