@@ -30,6 +30,7 @@ use Rattle.classes.specs.declared.Class.TheVariants.{Opaque}
 use Rattle.classes.specs.Classes.{named_by}
 use Rattle.classes.specs.Tables.{tab}
 use Rattle.classes.proofs.FillLaws.{classed}
+use Rattle.classes.specs.declared.Scope.{Scope}
 use Rattle.classes.specs.declared.Scope.TheVariants.{All}
 use Rattle.tags.specs.Lent.{classes_in, Tabled}
 use Rattle.tags.proofs.LentLaws.{class_level}
@@ -46,13 +47,14 @@ use Rattle.writer.specs.Files.{start}
 abbrev pub tags : Order → ℕ → List ℕ → Possible Made
 tags o level t = unwalk_list o (class_of level) 8 (drop 1 t)
 
--- the classes are lent, those of the level
-module _ (level : ℕ) {cs : List own.Class} (filled : cs ≡ sets (replicate 1024 Opaque) 0 (tab (named_by All level) 0 32)) where
-  pub tabled : Tabled cs
-  tabled = record { scope = All; level = level; classed = classed All level filled }
+-- the classes are lent, those of a level
+pub tabled : (scope : Scope) (level : ℕ) {cs : List own.Class} → cs ≡ sets (replicate 1024 Opaque) 0 (tab (named_by scope level) 0 32) → Tabled cs
+tabled scope level filled = record { scope = scope; level = level; classed = classed scope level filled }
 
-  pub lent : (o : Order) (t u : List ℕ) {x : Possible Stood} → x ≡ over u 9 1 (unwalk_list o (classes_in cs) 8 (drop 1 t)) → x ≡ over u 9 1 (tags o level t)
-  lent o t u e = e ∙ ap (λ (class : ℕ → Class). over u 9 1 (unwalk_list o class 8 (drop 1 t))) (λ i. λ code. class_level cs All level (classed All level filled) code i)
+-- and of this level
+pub lent : (level : ℕ) {cs : List own.Class} → cs ≡ sets (replicate 1024 Opaque) 0 (tab (named_by All level) 0 32) → (o : Order) (t u : List ℕ) {x : Possible Stood}
+    → x ≡ over u 9 1 (unwalk_list o (classes_in cs) 8 (drop 1 t)) → x ≡ over u 9 1 (tags o level t)
+lent level {cs} filled o t u e = e ∙ ap (λ (class : ℕ → Class). over u 9 1 (unwalk_list o class 8 (drop 1 t))) (λ i. λ code. class_level cs All level (classed All level filled) code i)
 
 module _ (order level : ℕ) (t : List ℕ) where
   -- ---- what the definition's two answers promise
