@@ -20,6 +20,7 @@ pub struct Sink {
 pub struct Impossible;
 
 // Stores a byte where there is room for it.
+// Stays: `table::put` for bytes, but this crate stands below the table, and a writer needs none.
 pub fn put_byte(out: &mut [u8], i: usize, value: u64)
     requires { value < 256 }
     ensures { out.new ≡ set out.old i value }
