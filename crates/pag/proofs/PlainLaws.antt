@@ -8,9 +8,7 @@ use Rattle.format.specs.Reasons.{Writes, read_file, read_tags, into}
 use Rattle.format.proofs.Promises.{writes_one}
 use Rattle.format.proofs.ReasonLaws.{read_reason, tags_reason, answer_reason, reason_pos}
 use Rattle.format.proofs.Absurd.{clash}
-use Rattle.answers.specs.Answers.{answer_of, leaves}
 use Rattle.answers.specs.declared.Answer.{Answer}
-use Rattle.answers.specs.declared.Answer.TheVariants.{Accepted, Refused}
 use Rattle.pag.specs.declared.PagAnswer.{PagAnswer}
 use Rattle.pag.specs.Plain.{plain, plain_of, leaves_plain, WritesPlain}
 

@@ -1,13 +1,11 @@
 -- The tally's answer as a plain struct: nothing is lost.
 use Prim.Native.Nat.{ℕ}
 use mathlib.Core.List.{List}
-use mathlib.Core.Path.{◌≡◌, ap, sym, ◌∙◌}
-use Rattle.tally.specs.Adding.{Left, leaves}
-use Rattle.tally.specs.declared.Added.{Added}
+use mathlib.Core.Path.{◌≡◌, sym, ◌∙◌}
+use Rattle.tally.specs.Adding.{Left}
 use Rattle.pag.specs.declared.PagAnswer.{PagAnswer}
-use Rattle.pag.specs.Plain.{plain, plain_of}
+use Rattle.pag.specs.Plain.{plain}
 use Rattle.pag.specs.PlainTally.{leaves_tally}
-use Rattle.pag.proofs.PlainLaws.{plain_is}
 
 -- no second answer, and no second tally, fits
 pub tally_one : (x : Left) (counts counts' : List ℕ) (headers headers' : ℕ) (r r' : PagAnswer) → leaves_tally counts headers r x → leaves_tally counts' headers' r' x

@@ -3,7 +3,7 @@ use Prim.Native.Nat.{ℕ, zero, suc, ◌+◌, ◌-◌, ◌*◌, ◌/◌, ◌^◌
 use mathlib.Core.List.{List, [], ◌∷◌}
 use mathlib.Core.Path.{◌≡◌, refl, ap, ap₂, sym, subst, ◌∙◌}
 use mathlib.Core.Bool.{Bool, true, false}
-use lib.ListN.{length, length-set, set, get_or}
+use lib.ListN.{length, set, get_or}
 use lib.Seq.{sets}
 use native.Mathlib.Nat.{add-zero, zero-add, suc-add, add-mul, one-mul, suc-mul, mul-le-mul, mul-le-mul_right, le-div_iff_mul-le, div-lt_iff_lt-mul}
 use lib.Dec.{eqb, ltb}
@@ -21,15 +21,13 @@ use Rattle.format.proofs.BitLaws.{ub_lt}
 use Rattle.format.proofs.SizeLaws.{Fair, fair_item, fair_only}
 use Rattle.bits.proofs.FieldLaws.{IsField, map_got, ub_in, ub_past, extended, unsigned}
 use Rattle.bits.specs.Places.{with_sign}
-use Rattle.bits.specs.declared.Number.{Number}
 use Rattle.reasons.specs.declared.Reason.{Reason}
 use Rattle.reasons.specs.declared.Reason.TheVariants.{ItemPastTheBody}
-use Rattle.reasons.specs.Numbers.{number_of}
 use Rattle.std.specs.Prelude.{Result, Ok, Err, IfOk}
 use Rattle.table.specs.State.{shown_over}
 use Rattle.table.specs.Readers.{state_of, Room}
 use Rattle.table.specs.declared.reader.Reader.{Reader}
-use Rattle.table.specs.Fields.{Fits, allows, judge_num, field_of, signed, shows_all, announces, announced, weights, LaysFields}
+use Rattle.table.specs.Fields.{allows, judge_num, field_of, signed, shows_all, announces, announced, weights, LaysFields}
 use Rattle.table.specs.declared.fields.Field.{Field}
 use Rattle.table.specs.declared.fields.Field.TheVariants.{Verb, Interpolation, SpatialFlag, Plain, ByteValue, Coordinate}
 use Rattle.table.proofs.StoringLaws.{Storing, storing_start, storing_next, storing_done}

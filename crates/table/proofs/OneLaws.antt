@@ -1,7 +1,6 @@
 -- No second answer fits a promise that says what a call on a reader reads: it tells the lent table, the index, the answer, and the place where there is one.
-use Rattle.std.proofs.Common.{◌≡◌, ℕ, refl, sym, ap, ◌∙◌, Result, Ok, Err}
+use Rattle.std.proofs.Common.{◌≡◌, refl, sym, ap, ◌∙◌, Result, Ok, Err}
 use Rattle.std.specs.Prelude.{IfOk}
-use Rattle.format.specs.Reading.{Ending, At, Fault}
 use Rattle.format.specs.Formats.{Format}
 use Rattle.format.proofs.Absurd.{clash}
 use Rattle.reasons.specs.declared.Reason.{Reason}

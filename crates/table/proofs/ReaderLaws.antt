@@ -1,9 +1,9 @@
 -- What a call on a reader did: in a sequence, in a loop, and from what the code has of one item.
-use Rattle.std.proofs.Common.{◌≡◌, ℕ, zero, suc, ◌+◌, ◌-◌, ◌*◌, ◌^◌, ◌<◌, ◌≤◌, List, [], ◌∷◌, length, set, refl, sym, ap, ap₂, ◌∙◌, subst, arith, Result, Ok, Err}
+use Rattle.std.proofs.Common.{◌≡◌, ℕ, zero, suc, ◌+◌, ◌-◌, ◌*◌, ◌^◌, ◌<◌, ◌≤◌, List, [], ◌∷◌, length, refl, sym, ap, ap₂, ◌∙◌, subst, arith, Result, Ok, Err}
 use Rattle.std.specs.Prelude.{IfOk}
 use Rattle.bits.specs.declared.BitPlace.{BitPlace}
 use Rattle.format.specs.Bits.{Order, ub}
-use Rattle.format.specs.Reading.{Ending, At, Fault, Reading, shows, stop}
+use Rattle.format.specs.Reading.{At, Reading, shows, stop}
 use Rattle.format.specs.Formats.{Item, Format, nothing, item, ◌▹◌, ◌▸◌, times}
 use Rattle.format.specs.Items.{run, read_item, read_align, read_text, show_text, string, u32, byte}
 use Rattle.format.proofs.SizeLaws.{Fair, fair_byte, fair_only}
@@ -16,7 +16,7 @@ use Rattle.items.specs.Kinds.{format_of}
 use Rattle.items.proofs.ItemLaws.{item_aligned, item_unclean}
 use Rattle.items.specs.declared.Item.{Item as Kind}
 use Rattle.items.specs.declared.Item.TheVariants.{U32, I32, Time, Float, Uint16, Byte, Enum, BlendMode, Count}
-use Rattle.table.specs.State.{State, shown_over}
+use Rattle.table.specs.State.{shown_over}
 use Rattle.table.specs.Fields.{Fits}
 use Rattle.table.specs.Readers.{state_of, Same, Room, Reads, Kept, Shown}
 use Rattle.table.specs.declared.reader.Reader.{Reader}

@@ -8,8 +8,8 @@ use crate::{Part, Reader, put, room_for};
 use bits::{BitPlace, Whole};
 use reasons::Reason;
 
-// The bytes from a whole byte on up to a zero byte, each read once: they are stored behind their count, which is known last. How many they are, if a zero byte ends them. Whole bytes are the same
-// in either order.
+// The bytes from a whole byte on up to a zero byte, each read once: those that there is room for are stored, the others looked through, and their count, which is known last, is stored before them. How
+// many they are, if a zero byte ends them. Whole bytes are the same in either order.
 fn lay_text(body: &[u8], at: Whole, table: &mut [u64], from: usize) -> Option<usize>
     requires { PlaceIn body.now at.bit.0 × (from < 13 * 2 ^ 60) }
     ensures laid { LaysText body.now at table.old from table.new result }
@@ -18,17 +18,24 @@ fn lay_text(body: &[u8], at: Whole, table: &mut [u64], from: usize) -> Option<us
     let rest = &body[at.byte.0..];
     let first = from + 1;
     let room = room_for(table.len(), first, rest.len());
-    for (count, &byte) in rest.iter().enumerate() {
+    for count in 0..room {
+        let byte = rest[count];
         if byte == 0 {
             put(table, from, count as u64);
             return Some(count);
         }
-        if count < room {
-            table[first + count] = u64::from(byte);
+        table[first + count] = u64::from(byte);
+    }
+    match rest[room..].iter().position(|&byte| byte == 0) {
+        Some(more) => {
+            put(table, from, (room + more) as u64);
+            Some(room + more)
+        }
+        None => {
+            put(table, from, rest.len() as u64);
+            None
         }
     }
-    put(table, from, rest.len() as u64);
-    None
 }
 
 impl Reader<'_> {

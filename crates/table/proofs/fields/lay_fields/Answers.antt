@@ -1,5 +1,5 @@
 -- `table::fields::lay_fields` meets its contract: what is left to read is what is left of the whole, of whatever number of fields.
-use Rattle.std.proofs.Common.{◌≡◌, ℕ, ◌+◌, ◌*◌, refl, sym, ◌∙◌, arith}
+use Rattle.std.proofs.Common.{◌≡◌, ◌+◌, ◌*◌, refl, sym, ◌∙◌, arith}
 use Rattle.bits.specs.Places.{order_of}
 use Rattle.table.proofs.FieldLaws.{Inside, field_in, field_out, unsigned_shown, weight_is, step_more, fields_in, fields_next, fields_stop, going_told}
 use Rattle.table.proofs.fields.lay_fields.Goals as goal

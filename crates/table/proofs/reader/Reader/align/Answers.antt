@@ -3,7 +3,7 @@ use Rattle.std.proofs.Common.{refl, sym, ◌∙◌, Ok}
 use Rattle.bits.proofs.FieldLaws.{align_told}
 use Rattle.bits.specs.Places.{order_of}
 use Rattle.reasons.proofs.NumberLaws.{passed_on}
-use Rattle.table.proofs.ReaderLaws.{reads_none, reads_never, same_refl, align_is}
+use Rattle.table.proofs.ReaderLaws.{reads_none, reads_never, align_is}
 use Rattle.table.proofs.reader.Reader.align.Goals as goal
 
 pub returns-in_err-start : goal.returns-in_err-start

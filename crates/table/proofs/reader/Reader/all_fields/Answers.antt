@@ -1,6 +1,5 @@
 -- `table::Reader::all_fields` meets its contract: what is not stored yet is what there is still room for.
-use Rattle.std.proofs.Common.{◌∙◌, arith}
-use Rattle.bits.specs.Places.{order_of}
+use Rattle.std.proofs.Common.{arith}
 use Rattle.bits.proofs.FieldLaws.{one_shl}
 use Rattle.table.proofs.FieldLaws.{shown_by_lem, stand, told_room, laying_next, laying_end}
 use Rattle.table.proofs.reader.Reader.all_fields.Goals as goal

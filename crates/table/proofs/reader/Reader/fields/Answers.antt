@@ -1,5 +1,5 @@
 -- `table::Reader::fields` meets its contract: the fields that stand in the body, and what is left of the whole.
-use Rattle.std.proofs.Common.{◌≡◌, ℕ, ◌+◌, ◌*◌, List, refl, sym, ap, ap₂, ◌∙◌, arith}
+use Rattle.std.proofs.Common.{ℕ, ◌+◌, ◌*◌, List, sym, ap, ap₂, ◌∙◌, arith}
 use Rattle.format.specs.Reading.{Fault}
 use Rattle.reasons.proofs.NumberLaws.{passed_on}
 use Rattle.table.specs.Readers.{state_of}

@@ -1,6 +1,6 @@
 -- `table::Reader::scaled` meets its contract: a width, and the run that it tells.
-use Rattle.std.proofs.Common.{List, ℕ, sym, ◌∙◌}
-use Rattle.format.specs.Formats.{Format, Item, item, times, the}
+use Rattle.std.proofs.Common.{sym, ◌∙◌}
+use Rattle.format.specs.Formats.{times, the}
 use Rattle.bits.specs.Places.{order_of}
 use Rattle.reasons.proofs.NumberLaws.{passed_on}
 use Rattle.table.specs.Fields.{field_of}
