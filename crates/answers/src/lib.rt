@@ -15,5 +15,4 @@ pub enum Answer {
 // Every slice of bytes is a file: what the theorems of `write` after `read` suppose of the list of a `&[u8]`.
 pub fn is_file(bytes: &[u8])
     ensures { IsFile bytes.now }
-{
-}
+{}
