@@ -29,10 +29,17 @@ struct Call {
     order: u32,
 }
 
+// What a record holds.
+#[derive(Clone, Copy)]
+enum Kind {
+    File,
+    Table,
+}
+
 // A record's kind, its level and bit order, and the count of the bytes that follow.
 #[derive(Clone, Copy)]
 struct Head {
-    kind: u8,
+    kind: Kind,
     call: Call,
     count: usize,
 }
@@ -187,11 +194,13 @@ fn try_table(rt: &impl Print, call: Call, table: &[u64], out: &mut [u8]) {
 fn read_head(source: &mut impl Read) -> Option<Head> {
     let mut bytes = [0u8; 8];
     source.read_exact(&mut bytes).ok()?;
-    if bytes[0] == END {
-        return None;
-    }
+    let kind = match bytes[0] {
+        END => return None,
+        FILE => Kind::File,
+        _ => Kind::Table,
+    };
     Some(Head {
-        kind: bytes[0],
+        kind,
         call: Call {
             order: u32::from(bytes[1]),
             level: u32::from(u16::from_le_bytes([bytes[2], bytes[3]])),
@@ -208,11 +217,12 @@ fn try_next(rt: &impl Print, source: &mut impl Read) -> Option<()> {
     let Head { kind, call, count } = read_head(source)?;
     let body = &mut room[..ROOM.min(count)];
     source.read_exact(body).ok()?;
-    if kind == FILE {
-        try_file(rt, call, body, &mut table, &mut out);
-    } else {
-        let count = load(body, &mut table);
-        try_table(rt, call, &table[..count], &mut out);
+    match kind {
+        Kind::File => try_file(rt, call, body, &mut table, &mut out),
+        Kind::Table => {
+            let count = load(body, &mut table);
+            try_table(rt, call, &table[..count], &mut out);
+        }
     }
     say(rt, "\n");
     Some(())
