@@ -3,18 +3,16 @@
 
 ghost use Rattle.format.specs.Reasons.{IsFile};
 
-#[derive(Clone, Copy)]
+use reasons::Reason;
+
+// Stays: document 01 gives each public call this answer, two cases by name.
+#[derive(Clone, Copy, Debug, PartialEq, Eq)]
 pub enum Answer {
     Accepted(u64),
-    Refused(u32, u64),
+    Refused(Reason, u64),
 }
 
-// Every slice of bytes is a file: what the theorems of `write` after `read` suppose of the list of a `&[u8]`. That its numbers are below 256 is
-// known where code looks at one of them, so this looks at the first.
+// Every slice of bytes is a file: what the theorems of `write` after `read` suppose of the list of a `&[u8]`.
 pub fn is_file(bytes: &[u8])
     ensures { IsFile bytes.now }
-{
-    if 0 < bytes.len() {
-        let first = bytes[0];
-    }
-}
+{}

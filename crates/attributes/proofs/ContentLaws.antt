@@ -3,35 +3,14 @@ use Prim.Native.Nat.{ℕ}
 use mathlib.Core.Bool.{Bool, true, false}
 use mathlib.Core.Path.{◌≡◌, refl, sym, ap, ◌∙◌}
 use lib.Dec.{eqb}
-use borrow.Author.Tests.{eq-eqb, ne_eqb}
 use Rattle.format.specs.Tests.{pick}
 use Rattle.format.specs.Formats.{nothing, times}
 use Rattle.format.specs.Bodies as bodies
 use Rattle.format.specs.Bodies.{DataType, U32s, Times, Floats, Ratios, Bools, Bytes, BlendModes, Paths, Points, Colors, GradientColors, Enums, Dashes, TagBlocks, value, values, interpolation, interpolations, keyframed, content_of}
-use Rattle.attributes.specs.Contents.{animatable_by, content_by, format_by, interpolated, points_by, layout_by, values_by}
-use Rattle.attributes.specs.Rows.{kind_of}
+use Rattle.attributes.specs.Contents.{content_by, format_by, interpolated, points_by, layout_by, values_by}
 use Rattle.attributes.specs.declared.Content.{Content}
 use Rattle.attributes.specs.declared.Content.TheVariants.{Nothing, One, Frames}
-use Rattle.attributes.specs.declared.Kind.{Kind}
 use Rattle.attributes.specs.declared.Layout.{Layout}
-
--- ---- as the code asks
-pub animatable_none : (φ : ℕ) → φ ≡ 0 → Nothing ≡ animatable_by φ
-animatable_none φ e = rw (eq-eqb φ 0 e)
-
-pub animatable_one : (φ : ℕ) → (φ ≡ 0 → ⊥) → φ ≡ 1 → One ≡ animatable_by φ
-animatable_one φ n e = rw (ne_eqb φ 0 n, eq-eqb φ 1 e)
-
-pub animatable_frames : (φ : ℕ) → (φ ≡ 0 → ⊥) → (φ ≡ 1 → ⊥) → Frames ≡ animatable_by φ
-animatable_frames φ n m = rw (ne_eqb φ 0 n, ne_eqb φ 1 m)
-
--- (of a Custom one, too)
-pub value_one : (φ : ℕ) → (φ ≡ 0 → ⊥) → One ≡ content_by bodies.Value φ
-value_one φ n = rw (ne_eqb φ 0 n)
-
--- the kind that a `match` tells
-pub kind_told : (φ : ℕ) {kind : Kind} {x : Content} (told : Kind) → kind ≡ told → x ≡ content_by (kind_of told) φ → x ≡ content_by (kind_of kind) φ
-kind_told φ told e h = h ∙ ap (λ (z : Kind). content_by (kind_of z) φ) (sym e)
 
 -- ---- its format is the definitions'
 pub content_format : (k : bodies.Kind) (d : DataType) (φ : ℕ) {c : Content} → c ≡ content_by k φ → content_of k d φ ≡ format_by k d φ c

@@ -1,53 +1,51 @@
 -- The rows of a block, one by one; flag bits; and the flags of all rows, step by step. Assumes nothing.
 use Prim.Native.Nat.{ℕ, zero, suc, ◌+◌, ◌-◌, ◌*◌, ◌/◌, ◌%◌, ◌^◌, ◌≤◌, ◌<◌}
-use mathlib.Core.List.{List, [], ◌∷◌}
+use mathlib.Core.List.{List, [], ◌∷◌, ◌++◌, append-nil, append_assoc}
 use mathlib.Core.Path.{◌≡◌, refl, ap, sym, ◌∙◌}
 use mathlib.Core.Bool as truth
 use mathlib.Core.Bool.{true, false}
 use native.Mathlib.Numerals.{add-one}
 use native.Mathlib.Omega.{arith}
-use native.Mathlib.Nat.{pow-suc, mul-le-mul_right, div-div-eq-div-mul}
+use native.Mathlib.Nat.{pow-suc, mul-le-mul_right, pow-le-pow_right, div-div-eq-div-mul}
 use lib.Pow.{pow_pos, pow_mono}
-use lib.ListN.{length, get_or, set, take, drop, length-set}
-use lib.Seq.{sets-eq, take_at, drop-cons}
-use lib.Dec.{leb, eqb}
+use lib.ListN.{length, get_or, take, drop, drop_of_length-le}
+use lib.Seq.{drop-cons}
+use lib.Dec.{leb}
 use borrow.Author.Tests.{le-leb, lt-leb, ne_eqb}
+use Rattle.std.proofs.Common.{Result, Ok, Err}
+use Rattle.std.proofs.lemmas.List.{length-map}
 use Rattle.format.specs.Tests.{pick}
 use Rattle.format.specs.Bits.{Order, ub}
-use Rattle.format.specs.Reading.{Ending, Reading, At, Fault, shows}
+use Rattle.format.specs.Reading.{Ending, Reading, At, Fault, shows, follow}
 use Rattle.format.specs.Formats.{Item, item, ◌▸◌, the}
-use Rattle.format.specs.Items.{Num, num, bad, room, exist, read_ub, read_flag, read_item, show_num, run}
-use Rattle.format.specs.Bodies as bodies
+use Rattle.format.specs.Items.{Num, num, bad, exist, read_flag, read_item, show_num, run}
 use Rattle.format.specs.Bodies.{flags_of, all_flags}
 use Rattle.format.proofs.Absurd.{clash}
-use Rattle.format.proofs.BitLaws.{ub_lt}
-use Rattle.format.proofs.BlockLaws.{as_many}
+use Rattle.reasons.specs.Numbers.{number_of}
+use Rattle.reasons.specs.declared.Reason.{Reason}
+use Rattle.reasons.proofs.NumberLaws.{number_one}
 use Rattle.bits.specs.Places.{bit_of}
-use Rattle.bits.specs.declared.Got.{Got}
-use Rattle.bits.specs.declared.Got.TheVariants.{Value, Fault as GotFault}
+use Rattle.bits.specs.declared.Number.{Number}
 use Rattle.bits.proofs.FieldLaws.{bit_in, set_inside}
-use Rattle.table.specs.State.{State, shown_over}
-use Rattle.table.proofs.EngineLaws.{state, after_none, then_one, then_never}
 use Rattle.attributes.specs.Flags.{num_in, FlagRead, digits, flags_as, FlagsRead}
-use Rattle.attributes.specs.Rows.{kind_of, kind_in, attribute_in, rows_from}
-use Rattle.attributes.specs.declared.Kind.{Kind}
+use Rattle.attributes.specs.Rows.{kind_of, attribute_of, attributes_in}
+use Rattle.attributes.specs.declared.Attribute.{Attribute}
+use Rattle.attributes.specs.declared.DataType.TheVariants.{U32}
+use Rattle.attributes.specs.declared.Kind.TheVariants.{Value}
 
 -- ---- the rows of a block
-abbrev pub row_at : List ℕ → ℕ → ℕ
-row_at rows i = get_or rows i 0
+abbrev pub row_at : List Attribute → ℕ → Attribute
+row_at rows i = get_or rows i (record { kind = Value; data_type = U32 })
 
 -- the rows from here on are the row here and the rows after it
-pub rows_next : {i count : ℕ} (rows : List ℕ) → i < count → rows_from rows i (count - i) ≡ attribute_in (row_at rows i) ∷ rows_from rows (i + 1) (count - (i + 1))
-rows_next {i} {count} rows h =
-    let n : count - i ≡ suc (count - suc i) = omega arith in
-    rw (add-one i, n)
+pub rows_next : {i : ℕ} (rows : List Attribute) → i < length rows → attributes_in (drop i rows) ≡ attribute_of (row_at rows i) ∷ attributes_in (drop (i + 1) rows)
+rows_next {i} rows h = rw (add-one i) (ap attributes_in (drop-cons rows i (record { kind = Value; data_type = U32 }) h))
 
-pub rows_none : (rows : List ℕ) (count : ℕ) → rows_from rows count (count - count) ≡ []
-rows_none rows count = let n : count - count ≡ 0 = omega arith in rw n
+pub rows_none : (rows : List Attribute) (i : ℕ) → length rows ≤ i → attributes_in (drop i rows) ≡ []
+rows_none rows i h = ap attributes_in (drop_of_length-le rows h)
 
-pub rows_many : (rows : List ℕ) (i n : ℕ) → length (rows_from rows i n) ≡ n
-rows_many rows i zero = refl
-rows_many rows i (suc n) = ap suc (rows_many rows (suc i) n)
+pub rows_many : (rows : List Attribute) → length (attributes_in rows) ≡ length rows
+rows_many rows = length-map rows attribute_of
 
 -- ---- the digits of a number
 abbrev head_or : ℕ → List ℕ → ℕ
@@ -64,21 +62,18 @@ digits_many x zero = refl
 digits_many x (suc n) = ap suc (digits_many (x / 8) n)
 
 -- a digit behind all others
-digits_set : (x v i n : ℕ) → x < 8 ^ i → v < 8 → i < n → set (digits x n) i v ≡ digits (x + v * 8 ^ i) n
+digits_more : (x v i : ℕ) → x < 8 ^ i → v < 8 → digits (x + v * 8 ^ i) (suc i) ≡ digits x i ++ (v ∷ [])
 unfolding digits
-digits_set x v zero (suc n) h d l =
-    let z : x ≡ 0 = omega (arith, h) in
-    let a : (x + v * 1) % 8 ≡ v = omega arith in
-    let b : (x + v * 1) / 8 ≡ 0 / 8 = omega arith in
-    rw (a, b, z)
-digits_set x v (suc i) (suc n) h d l =
+digits_more x v zero h d =
+    let a : (x + v * 1) % 8 ≡ v = omega (arith, h) in
+    rw a
+digits_more x v (suc i) h d =
     let w : ℕ = v * 8 ^ i in
     let e : v * 8 ^ suc i ≡ 8 * w = ap (λ (y : ℕ). v * y) (pow-suc 8 i) ∙ omega arith in
     let a : (x + v * 8 ^ suc i) % 8 ≡ x % 8 = omega (arith, e) in
     let b : (x + v * 8 ^ suc i) / 8 ≡ x / 8 + w = omega (arith, e) in
     let f : x / 8 < 8 ^ i = omega (arith, h, pow-suc 8 i) in
-    rw (a, b) (ap (λ (l : List ℕ). x % 8 ∷ l) (digits_set (x / 8) v i n f d (omega arith)))
-digits_set x v i zero h d l = absurd (omega arith)
+    rw (a, b) (ap (λ (l : List ℕ). x % 8 ∷ l) (digits_more (x / 8) v i f d))
 
 -- one of them alone
 pub digit_at : (x i n : ℕ) → i < n → get_or (digits x n) i 0 ≡ x / 8 ^ i % 8
@@ -105,31 +100,6 @@ module _ (x y i : ℕ) (some : i < 12) (left : drop i (flags_as x) ≡ digits y 
   digits_after = ap tail_of digits_left
 
 -- ---- flag bits
-
--- the first bit, and at most n after it
-abbrev onward : Order → List ℕ → ℕ → Num → Num
-onward o b n (num v q) = pick (eqb v 0) (num 0 q) (exist (read_flag o b q n))
-onward o b n (bad e) = bad e
-
-flag_bit : (o : Order) (b : List ℕ) (p n : ℕ) → read_flag o b p (suc n) ≡ onward o b n (read_ub o b p 1)
-unfolding read_flag
-flag_bit o b p n = go (room b p 1)
-  where
-    go : (t : truth.Bool) → pick t (pick (eqb (ub o b p 1) 0) (num 0 (p + 1)) (exist (read_flag o b (p + 1) n))) (bad 13)
-        ≡ onward o b n (pick t (num (ub o b p 1) (p + 1)) (bad 13))
-    go true = refl
-    go false = refl
-
--- one bit is a field of one bit
-flag_one : (o : Order) (b : List ℕ) (p : ℕ) → read_flag o b p 1 ≡ read_ub o b p 1
-unfolding read_flag
-flag_one o b p = flag_bit o b p 0 ∙ go (room b p 1) (ub o b p 1) (ub_lt o b p 1)
-  where
-    go : (t : truth.Bool) (v : ℕ) → v < 2 → onward o b 0 (pick t (num v (p + 1)) (bad 13)) ≡ pick t (num v (p + 1)) (bad 13)
-    go true zero h = refl
-    go true (suc zero) h = refl
-    go true (suc (suc v)) h = absurd (omega arith)
-    go false v h = refl
 
 -- the number that a reading shows
 abbrev num_from : Ending → ℕ → Num
@@ -167,13 +137,6 @@ module _ (o : Order) (x p : ℕ) {v : ℕ} (few : p < 40) (first : (v ≡ bit_of
   first_is : (b : List ℕ) → x ≡ ub o b 0 40 → v ≡ ub o b p 1
   first_is b e = first.0 ∙ bit_in o b p e few
 
-  -- it is the only one
-  means_only : {q : ℕ} → p + 1 ≡ q → Means o x 1 p v q
-  means_only s b e l = rw (← s) (sym (flag_one o b p ∙ rw (← first_is b e)))
-
-  pub flag_only : {q : ℕ} → p + 1 ≡ q → FlagRead o x (Item.flag 1) p 1 v q
-  flag_only {q} s = record { means = means_shown o x 1 p v q (means_only s); small = first.1; near = omega arith }
-
   -- it is 0
   means_none : (n : ℕ) {q : ℕ} → v ≡ 0 → p + 1 ≡ q → Means o x (suc n) p 0 q
   unfolding read_flag
@@ -195,114 +158,93 @@ module _ (o : Order) (x p : ℕ) {v : ℕ} (few : p < 40) (first : (v ≡ bit_of
     pub flag_more : FlagRead o x (Item.flag (suc n)) p (suc n) y q
     flag_more = record { means = means_shown o x (suc n) p y q means_more; small = omega (arith, rest.small, pow-suc 2 n); near = omega (arith, rest.near) }
 
--- no bit, and the number 1
-pub flag_fixed : (o : Order) (x p : ℕ) {v q : ℕ} → v ≡ 1 → q ≡ p → FlagRead o x (Item.echo 1) p 1 v q
-unfolding run read_item
-flag_fixed o x p one s = record { means = λ b e l. rw (one, s, le-leb p (8 * length b) l); small = omega arith; near = omega arith }
+-- no bit
+flag_end : (o : Order) (x p : ℕ) → FlagRead o x (Item.flag 0) p 0 0 p
+unfolding run read_item read_flag
+flag_end o x p = record { means = λ b e l. rw (le-leb p (8 * length b) l); small = omega arith; near = omega arith }
 
--- the kind that a `match` tells
-pub flag_of : (o : Order) (x p m : ℕ) {kind : Kind} {v q : ℕ} (told : Kind) → kind ≡ told → m ≤ 3 → FlagRead o x (flags_of (kind_of told)) p m v q → FlagRead o x (flags_of (kind_of kind)) p 3 v q
-flag_of o x p m told e l f = rw e (record { means = f.means; small = omega (arith, f.small, pow_mono l); near = omega (arith, f.near) })
+-- the first k of up to n bits are set, and count for v: whatever those after them give counts 2 ^ k times
+pub record Flagging (o : Order) (x p n v k : ℕ) : Type 0 where
+  pub rest : (w q : ℕ) → FlagRead o x (Item.flag (n - k)) (p + k) (n - k) w q → FlagRead o x (Item.flag n) p n (v + 2 ^ k * w) q
+  pub set : v + 1 ≡ 2 ^ k
 
--- ---- the flags of all rows, one after the other
-module _ (o : Order) (s t₀ : List ℕ) (rows : List ℕ) (count : ℕ) where
-  abbrev flags_from : ℕ → ℕ → Reading
-  flags_from i p = run o s (all_flags (rows_from rows i (count - i))) p
+module _ (o : Order) (x p n : ℕ) where
+  pub flagging_start : Flagging o x p n 0 0
+  flagging_start = record {
+    rest = λ w q f. let a : n - 0 ≡ n = omega arith in let b : p + 0 ≡ p = omega arith in let c : 0 + 1 * w ≡ w = omega arith in rw c (rw (a, b) at f);
+    set = refl;
+  }
 
-  abbrev whole : State
-  whole = shown_over t₀ 0 (run o s (all_flags (rows_from rows 0 count)) 0)
+  module _ {v k b : ℕ} (some : k < n) (few : p + k < 40) (g : Flagging o x p n v k) (bit : (b ≡ bit_of o x (p + k)) × (b < 2)) where
+    one_more : n - k ≡ suc (n - (k + 1))
+    one_more = omega arith
 
-  -- the whole from the start is what is left from here
-  pub record Going (t : List ℕ) (p i : ℕ) : Type 0 where
-    pub size : length t ≡ length t₀
-    pub rest : whole ≡ shown_over t i (flags_from i p)
-    pub place : p ≤ 8 * length s
-    pub near : p ≤ 3 * i
-    pub below : i ≤ count
-
-  pub flags_start : Going t₀ 0 0
-  flags_start = let n : count - 0 ≡ count = omega arith in record { size = refl; rest = rw n; place = omega arith; near = omega arith; below = omega arith }
-
-  -- the kind of the row here tells its flag, which was read out of the first 40 bits x
-  module _ {t : List ℕ} {x p i v q : ℕ} (some : i < count) (g : Going t p i) (first : x ≡ ub o s 0 40) (f : FlagRead o x (flags_of (kind_of (kind_in (row_at rows i)))) p 3 v q) where
-    abbrev flag_here : Item
-    flag_here = flags_of (kind_of (kind_in (row_at rows i)))
-
-    abbrev rest_here : List bodies.Attribute
-    rest_here = rows_from rows (i + 1) (count - (i + 1))
-
-    flags_here_lem : flags_from i p ≡ run o s (item flag_here ▸ all_flags rest_here) p
-    unfolding all_flags
-    flags_here_lem = ap (λ (l : List bodies.Attribute). run o s (all_flags l) p) (rows_next rows some)
-
-    -- its bits are in the body
-    pub flags_next : {u : List ℕ} → q ≤ 8 * length s → u ≡ set t i v → Going u q (i + 1)
-    flags_next {u} l d =
-        let e : show_num (num v q) ≡ run o s (item flag_here) p = rw (le-leb q (8 * length s) l) at (f.means s first g.place) in
+    pub flagging_next : (b ≡ 0 → ⊥) → Flagging o x p n (2 * v + 1) (k + 1)
+    flagging_next one =
+        let e : k + 1 ≡ suc k = omega arith in
+        let z : 2 ^ (k + 1) ≡ 2 ^ k * 2 = rw e (pow-suc 2 k) in
         record {
-          size = ap length d ∙ length-set t i v ∙ g.size;
-          rest = g.rest ∙ ap (shown_over t i) flags_here_lem ∙ sym (then_one o s t i (item flag_here) (λ xs. all_flags rest_here) p (sym e) d refl);
-          place = l;
-          near = omega (arith, f.near, g.near);
-          below = omega arith;
+          rest = λ w q f.
+              let t : v + 2 ^ k * (1 + 2 * w) ≡ 2 * v + 1 + 2 ^ (k + 1) * w = omega (arith, ap (λ (y : ℕ). y * w) z, g.set) in
+              let m : FlagRead o x (Item.flag (suc (n - (k + 1)))) (p + k) (suc (n - (k + 1))) (1 + 2 * w) q = flag_more o x (p + k) few bit (n - (k + 1)) one f (omega arith) refl in
+              rw t at (g.rest (1 + 2 * w) q (rw one_more m));
+          set = omega (arith, z, g.set);
         }
 
-    -- or one of them is past it
-    pub flags_stop : 8 * length s < q → state t i (Fault 13) ≡ whole
-    flags_stop l =
-        let e : show_num (bad 13) ≡ run o s (item flag_here) p = rw (lt-leb q (8 * length s) l) at (f.means s first g.place) in
-        then_never o s t i (item flag_here) (λ xs. all_flags rest_here) p (sym e) ∙ sym (g.rest ∙ ap (shown_over t i) flags_here_lem)
+    pub flagging_stop : b ≡ 0 → FlagRead o x (Item.flag n) p n v (p + k + 1)
+    flagging_stop none =
+        let t : v + 2 ^ k * 0 ≡ v = omega arith in
+        rw t at (g.rest 0 (p + k + 1) (rw one_more (flag_none o x (p + k) few bit (n - (k + 1)) none refl)))
 
-  pub flags_done : {t : List ℕ} {p i : ℕ} → count ≤ i → Going t p i → state t i (At p) ≡ whole
-  unfolding run all_flags
-  flags_done {t} {p} {i} h g =
-      let z : i ≡ count = omega (arith, g.below) in
-      let n : rows_from rows i (count - i) ≡ [] = rw z (rows_none rows count) in
-      sym (g.rest ∙ rw n (after_none t i p))
+  pub flagging_done : {v k : ℕ} → n ≤ k → k ≤ n → Flagging o x p n v k → FlagRead o x (Item.flag n) p n v (p + n)
+  flagging_done {v} {k} h l g =
+      let t : v + 2 ^ k * 0 ≡ v = omega arith in
+      let z : n - k ≡ 0 = omega arith in
+      let e : k ≡ n = omega arith in
+      rw t at (g.rest 0 (p + n) (rw (z, e) (flag_end o x (p + n))))
 
--- ---- for callers
+-- at most three are set
+pub few_bits : {o : Order} {x p n v k : ℕ} → Flagging o x p n v k → k < 3 → v ≤ 3
+few_bits {k = k} g h = let h' : k ≤ 2 = omega arith in omega (arith, g.set, pow_mono {j = 2} h')
 
--- how the reading ended, from what a run left
-pub ended_is : (t : List ℕ) (k : ℕ) (r : Reading) {u : List ℕ} {j : ℕ} {z : Ending} → state u j z ≡ shown_over t k r → r.ended ≡ z
-unfolding shown_over
-ended_is t k r e = ap (λ (s : State). s.ended) (sym e)
+-- no bit, and the number 1
+pub flag_fixed : (o : Order) (x p : ℕ) → FlagRead o x (Item.echo 1) p 3 1 p
+unfolding run read_item
+flag_fixed o x p = record { means = λ b e l. rw (le-leb p (8 * length b) l); small = omega arith; near = omega arith }
 
--- room for the flags of a block holds, from index 0 on, the flags that were shown
-module _ (o : Order) (rows : List ℕ) (count : ℕ) (b f : List ℕ) (p : ℕ) {u : List ℕ} {j q : ℕ} (lent : count ≤ length f)
-    (e : state u j (At q) ≡ shown_over f 0 (run o b (all_flags (rows_from rows 0 count)) p)) where
-  pub flags_in_lem : take count u ≡ (run o b (all_flags (rows_from rows 0 count)) p).shown
-  unfolding shown_over
-  flags_in_lem =
-      let φs : List ℕ = (run o b (all_flags (rows_from rows 0 count)) p).shown in
-      let n : length φs ≡ count = as_many o (rows_from rows 0 count) b p q (ended_is f 0 (run o b (all_flags (rows_from rows 0 count)) p) e) ∙ rows_many rows 0 count in
-      let m : 0 + length φs ≤ length f = omega (arith, n) in
-      ap (λ (s : State). take count s.table) e ∙ rw (sets-eq φs f 0 m) (take_at φs _ count n)
-
-  pub flags_read : run o b (all_flags (rows_from rows 0 count)) p ≡ shows (take count u) q
-  flags_read = λ i. record { shown = sym flags_in_lem i; ended = ended_is f 0 (run o b (all_flags (rows_from rows 0 count)) p) e i }
-
--- ---- the flag numbers as the digits of one number: a table of twelve numbers that nobody lends
-eight_up : (i m : ℕ) → 8 ^ i ≤ 8 ^ (i + m)
-eight_up i zero = let e : i + 0 ≡ i = omega arith in rw e (omega arith)
-eight_up i (suc m) = let e : i + suc m ≡ suc (i + m) = omega arith in rw e (omega (arith, pow-suc 8 (i + m), eight_up i m))
-
+-- ---- the flags of all rows, one after the other, as the digits of one number
 pub eight_few : (i : ℕ) → i < 12 → 8 ^ i ≤ 8589934592
-eight_few i h = let e : i + (11 - i) ≡ 11 = omega arith in rw e at (eight_up i (11 - i))
+eight_few i h = let l : i ≤ 11 = omega arith in let z : 0 < 8 = omega arith in pow-le-pow_right {n = 8} z {i = i} {j = 11} l
 
-module _ (o : Order) (s rows : List ℕ) (count : ℕ) where
-  abbrev flags_here : Reading
-  flags_here = run o s (all_flags (rows_from rows 0 count)) 0
+digits_taken : (x m n : ℕ) → m ≤ n → take m (digits x n) ≡ digits x m
+unfolding digits
+digits_taken x zero n h = refl
+digits_taken x (suc m) (suc n) h = ap (λ (l : List ℕ). x % 8 ∷ l) (digits_taken (x / 8) m n (omega arith))
+digits_taken x (suc m) zero h = absurd (omega arith)
 
-  -- the digits of x are those of the rows before row i, and a digit more counts for u
+module _ (o : Order) (s : List ℕ) (rows : List Attribute) where
+  -- the flags of the rows from row i on
+  abbrev flags_from : ℕ → ℕ → Reading
+  flags_from i p = run o s (all_flags (attributes_in (drop i rows))) p
+
+  abbrev whole : Reading
+  whole = run o s (all_flags (attributes_in rows)) 0
+
+  -- the whole is the digits of x for the rows before row i, and what is left from there; a digit more counts for u
   pub record Gathering (x u p i : ℕ) : Type 0 where
-    pub going : Going o s (flags_as 0) rows count (flags_as x) p i
+    pub rest : whole ≡ follow (digits x i) (At p) (λ xs q. flags_from i q)
+    pub place : p ≤ 8 * length s
+    pub near : p ≤ 3 * i
     pub less : x < 8 ^ i
     pub unit : u ≡ 8 ^ i
+    pub below : i ≤ length rows
 
   pub gathering_start : Gathering 0 1 0 0
-  gathering_start = record { going = flags_start o s (flags_as 0) rows count; less = omega arith; unit = refl }
+  unfolding digits
+  gathering_start = record { rest = refl; place = omega arith; near = omega arith; less = omega arith; unit = refl; below = omega arith }
 
-  module _ {x u p i y v q : ℕ} (few : count ≤ 12) (some : i < count) (g : Gathering x u p i) (first : y ≡ ub o s 0 40) (f : FlagRead o y (flags_of (kind_of (kind_in (row_at rows i)))) p 3 v q) where
+  -- the kind of the row here tells its flag, which was read out of the first 40 bits
+  module _ {x u p i y v q : ℕ} (few : length rows ≤ 12) (some : i < length rows) (g : Gathering x u p i) (first : y ≡ ub o s 0 40) (f : FlagRead o y (flags_of (kind_of (row_at rows i).kind)) p 3 v q) where
     product_le : v * u ≤ 7 * 8 ^ i
     product_le = let h : v ≤ 7 = omega (arith, f.small) in rw g.unit (mul-le-mul_right (8 ^ i) h)
 
@@ -310,31 +252,43 @@ module _ (o : Order) (s rows : List ℕ) (count : ℕ) where
     pub product_few : v * u ≤ 60129542144
     product_few = omega (arith, product_le, eight_few i (omega arith))
 
-    pub gathering_next : {w : ℕ} → q ≤ 8 * length s → w ≡ u * 8 → Gathering (x + v * u) w q (i + 1)
-    gathering_next {w} l e =
+    flags_here : flags_from i p ≡ run o s (item (flags_of (kind_of (row_at rows i).kind)) ▸ all_flags (attributes_in (drop (i + 1) rows))) p
+    unfolding all_flags
+    flags_here = rw (rows_next rows some)
+
+    -- its bits are in the body
+    pub gathering_next : q ≤ 8 * length s → Gathering (x + v * u) (u * 8) q (i + 1)
+    unfolding run
+    gathering_next l =
         let n : i + 1 ≡ suc i = omega arith in
-        let d : flags_as (x + v * u) ≡ set (flags_as x) i v = rw g.unit (sym (digits_set x v i 12 g.less f.small (omega arith))) in
+        let r : show_num (num v q) ≡ run o s (item (flags_of (kind_of (row_at rows i).kind))) p = rw (le-leb q (8 * length s) l) at (f.means s first g.place) in
+        let w : flags_from i p ≡ follow (v ∷ []) (At q) (λ xs q'. flags_from (i + 1) q') = flags_here ∙ rw (← r) in
+        let d : digits (x + v * u) (i + 1) ≡ digits x i ++ (v ∷ []) = rw (n, g.unit) (digits_more x v i g.less (omega (arith, f.small))) in
         record {
-          going = flags_next o s (flags_as 0) rows count some g.going first f l d;
+          rest = g.rest ∙ ap (λ (r : Reading). follow (digits x i) (At p) (λ xs q'. r)) w ∙ rw (d, append_assoc);
+          place = l;
+          near = omega (arith, f.near, g.near);
           less = rw n (omega (arith, g.less, product_le, pow-suc 8 i));
-          unit = e ∙ rw (n, g.unit) (sym (pow-suc 8 i));
+          unit = rw (n, g.unit) (sym (pow-suc 8 i));
+          below = omega arith;
         }
 
-    pub gathering_stop : 8 * length s < q → flags_here.ended ≡ Fault 13
-    gathering_stop l = ended_is (flags_as 0) 0 flags_here (flags_stop o s (flags_as 0) rows count some g.going first f l)
+    -- or one of them is past it
+    pub gathering_stop : 8 * length s < q → whole.ended ≡ Fault 13
+    unfolding run
+    gathering_stop l =
+        let r : show_num (bad 13) ≡ run o s (item (flags_of (kind_of (row_at rows i).kind))) p = rw (lt-leb q (8 * length s) l) at (f.means s first g.place) in
+        let w : flags_from i p ≡ follow [] (Fault 13) (λ xs q'. flags_from (i + 1) q') = flags_here ∙ rw (← r) in
+        ap (λ (r : Reading). r.ended) g.rest ∙ ap (λ (r : Reading). r.ended) w
 
-  pub gathering_done : {x u p i : ℕ} → count ≤ 12 → count ≤ i → Gathering x u p i → (flags_here ≡ shows (take count (flags_as x)) p) × (x < 8 ^ count)
+  pub gathering_done : {x u p i : ℕ} → length rows ≤ 12 → length rows ≤ i → Gathering x u p i → (whole ≡ shows (take (length rows) (flags_as x)) p) × (x < 8 ^ length rows)
+  unfolding run all_flags
   gathering_done {x} {u} {p} {i} few h g =
-      let z : i ≡ count = omega (arith, g.going.below) in
-      (flags_read o rows count s (flags_as 0) 0 (omega (arith, few, digits_many 0 12)) (flags_done o s (flags_as 0) rows count h g.going), rw z at g.less)
+      let z : i ≡ length rows = omega (arith, g.below) in
+      let n : flags_from i p ≡ shows [] p = rw (rows_none rows i h) in
+      (g.rest ∙ ap (λ (r : Reading). follow (digits x i) (At p) (λ xs q'. r)) n ∙ rw (append-nil, z, digits_taken x (length rows) 12 few), rw z at g.less)
 
 -- ---- no second answer fits the promise of `read_flags`
-digits_taken : (x m n : ℕ) → m ≤ n → take m (digits x n) ≡ digits x m
-unfolding digits
-digits_taken x zero n h = refl
-digits_taken x (suc m) (suc n) h = ap (λ (l : List ℕ). x % 8 ∷ l) (digits_taken (x / 8) m n (omega arith))
-digits_taken x (suc m) zero h = absurd (omega arith)
-
 digits_one : (x y n : ℕ) → x < 8 ^ n → y < 8 ^ n → digits x n ≡ digits y n → x ≡ y
 unfolding digits
 digits_one x y zero h k e = omega (arith, h, k)
@@ -347,13 +301,13 @@ abbrev place_of : Ending → ℕ
 place_of (At p) = p
 place_of (Fault e) = e
 
-pub flags_one : (count : ℕ) (R : Reading) (a b : Got) → count ≤ 12 → FlagsRead count R a → FlagsRead count R b → a ≡ b
-flags_one count R (Value x p) (Value y q) h f g =
-    let e : shows (take count (flags_as x)) p.0 ≡ shows (take count (flags_as y)) q.0 = sym f.0 ∙ g.0 in
-    let d : digits x count ≡ digits y count = sym (digits_taken x count 12 h) ∙ ap (λ (r : Reading). r.shown) e ∙ digits_taken y count 12 h in
-    let v : x ≡ y = digits_one x y count f.1 g.1 d in
-    let s : p.0 ≡ q.0 = ap (λ (r : Reading). place_of r.ended) e in
-    λ i. Value (v i) (record { 0 = s i })
-flags_one count R (Value x p) (GotFault e) h f g = let z : At p.0 ≡ Fault e = sym (ap (λ (r : Reading). r.ended) f.0) ∙ g in clash cc
-flags_one count R (GotFault e) (Value y q) h f g = let z : At q.0 ≡ Fault e = sym (ap (λ (r : Reading). r.ended) g.0) ∙ f in clash cc
-flags_one count R (GotFault e) (GotFault x) h f g = let s : e ≡ x = ap place_of (sym f ∙ g) in λ i. GotFault (s i)
+pub flags_one : (count : ℕ) (R : Reading) (a b : Result Number Reason) → count ≤ 12 → FlagsRead count R a → FlagsRead count R b → a ≡ b
+flags_one count R (Ok n) (Ok m) h f g =
+    let e : shows (take count (flags_as n.value)) n.next.0 ≡ shows (take count (flags_as m.value)) m.next.0 = sym f.0 ∙ g.0 in
+    let d : digits n.value count ≡ digits m.value count = sym (digits_taken n.value count 12 h) ∙ ap (λ (r : Reading). r.shown) e ∙ digits_taken m.value count 12 h in
+    let v : n.value ≡ m.value = digits_one n.value m.value count f.1 g.1 d in
+    let s : n.next.0 ≡ m.next.0 = ap (λ (r : Reading). place_of r.ended) e in
+    λ i. Ok (record { value = v i; next = record { 0 = s i } })
+flags_one count R (Ok n) (Err x) h f g = let z : At n.next.0 ≡ Fault (number_of x) = sym (ap (λ (r : Reading). r.ended) f.0) ∙ g in clash cc
+flags_one count R (Err x) (Ok n) h f g = let z : At n.next.0 ≡ Fault (number_of x) = sym (ap (λ (r : Reading). r.ended) g.0) ∙ f in clash cc
+flags_one count R (Err x) (Err y) h f g = ap Err (number_one x y (ap place_of (sym f ∙ g)))

@@ -1,13 +1,14 @@
 -- What flags that are read out of the first 40 bits of a body are, in the words of the definitions.
-use Rattle.std.specs.Prelude.{ℕ, zero, suc, ◌+◌, ◌*◌, ◌/◌, ◌%◌, ◌^◌, ◌≤◌, ◌<◌, List, [], ◌∷◌, ◌≡◌, leb, length, take}
+use Rattle.std.specs.Prelude.{ℕ, zero, suc, ◌+◌, ◌*◌, ◌/◌, ◌%◌, ◌^◌, ◌≤◌, ◌<◌, List, [], ◌∷◌, ◌≡◌, leb, length, take, Result, Ok, Err}
 use Rattle.format.specs.Tests.{pick}
 use Rattle.format.specs.Bits.{Order, ub}
 use Rattle.format.specs.Reading.{Reading, shows}
 use Rattle.format.specs.Reading as reading
 use Rattle.format.specs.Formats.{Item, item}
 use Rattle.format.specs.Items.{Num, num, bad, show_num, run}
-use Rattle.bits.specs.declared.Got.{Got}
-use Rattle.bits.specs.declared.Got.TheVariants.{Value, Fault}
+use Rattle.bits.specs.declared.Number.{Number}
+use Rattle.reasons.specs.Numbers.{number_of}
+use Rattle.reasons.specs.declared.Reason.{Reason}
 
 -- the number v and the place q behind it, if the bytes b go so far; else 13
 abbrev pub num_in : List ℕ → ℕ → ℕ → Num
@@ -32,6 +33,6 @@ abbrev pub flags_as : ℕ → List ℕ
 flags_as x = digits x 12
 
 -- so many flag numbers, read as one number, and the place behind them; or a reason
-abbrev pub FlagsRead : ℕ → Reading → Got → Type 0
-FlagsRead count r (Value x p) = (r ≡ shows (take count (flags_as x)) p.0) × (x < 8 ^ count)
-FlagsRead count r (Fault e) = r.ended ≡ reading.Fault e
+abbrev pub FlagsRead : ℕ → Reading → Result Number Reason → Type 0
+FlagsRead count r (Ok n) = (r ≡ shows (take count (flags_as n.value)) n.next.0) × (n.value < 8 ^ count)
+FlagsRead count r (Err e) = r.ended ≡ reading.Fault (number_of e)

@@ -1,8 +1,9 @@
 -- The constant rows of attributes, in the words of the definitions.
-use Rattle.std.specs.Prelude.{ℕ, zero, suc, ◌/◌, ◌%◌, ◌≤◌, List, [], ◌∷◌, ◌≡◌, length, get_or, eqb}
+use Rattle.std.specs.Prelude.{ℕ, List, [], map, eqb}
 use Rattle.format.specs.Tests.{pick}
 use Rattle.format.specs.Bodies as bodies
 use Rattle.format.specs.Bodies.{layer_attributes, text_path_option, text_more_option, transform_2d, mask_block, shape_group, rectangle, ellipse, poly_star, shape_path, fill_block, stroke, gradient_fill, gradient_stroke, merge_paths, trim_paths, repeater, round_corners}
+use Rattle.attributes.specs.declared.Attribute.{Attribute}
 use Rattle.attributes.specs.declared.DataType.{DataType}
 use Rattle.attributes.specs.declared.DataType.TheVariants.{U32, Time, Float, Ratio, Bool, Byte, BlendMode, Path, Point, Color, GradientColor, EnumTo1, EnumTo2, EnumTo4, EnumTo6, EnumTo7, Dashes, TagBlock}
 use Rattle.attributes.specs.declared.Kind.{Kind}
@@ -38,20 +39,12 @@ type_of EnumTo7 = bodies.Enums 7
 type_of Dashes = bodies.Dashes
 type_of TagBlock = bodies.TagBlocks
 
--- a row is one number: the kind, and eight times the data type, each by its place in these lists; the last of either stands for all that come after
-abbrev pub kind_in : ℕ → Kind
-kind_in row = get_or (Value ∷ Fixed ∷ BitFlag ∷ Simple ∷ Discrete ∷ MultiDimension ∷ Spatial ∷ []) (row % 8) Custom
+abbrev pub attribute_of : Attribute → bodies.Attribute
+attribute_of row = record { kind = kind_of row.kind; data_type = type_of row.data_type }
 
-abbrev pub type_in : ℕ → DataType
-type_in row = get_or (U32 ∷ Time ∷ Float ∷ Ratio ∷ Bool ∷ Byte ∷ BlendMode ∷ Path ∷ Point ∷ Color ∷ GradientColor ∷ EnumTo1 ∷ EnumTo2 ∷ EnumTo4 ∷ EnumTo6 ∷ EnumTo7 ∷ Dashes ∷ []) (row / 8) TagBlock
-
-abbrev pub attribute_in : ℕ → bodies.Attribute
-attribute_in row = record { kind = kind_of (kind_in row); data_type = type_of (type_in row) }
-
--- the attributes in n rows from row i on
-abbrev pub rows_from : List ℕ → ℕ → ℕ → List bodies.Attribute
-rows_from rows i zero = []
-rows_from rows i (suc n) = attribute_in (get_or rows i 0) ∷ rows_from rows (suc i) n
+-- the attributes in these rows
+abbrev pub attributes_in : List Attribute → List bodies.Attribute
+attributes_in rows = map attribute_of rows
 
 -- the list of a tag that is a block; the others have none
 unfoldable pub attributes_of : ℕ → List bodies.Attribute
@@ -75,9 +68,3 @@ attributes_of code =
     (pick (eqb code 26) repeater
     (pick (eqb code 27) round_corners
     [])))))))))))))))))
-
--- the first rows, count of them and at most twelve, have these attributes
-pub record Attributes (rows : List ℕ) (count : ℕ) (attrs : List bodies.Attribute) : Type 0 where
-  pub few : count ≤ 12
-  pub there : count ≤ length rows
-  pub are : rows_from rows 0 count ≡ attrs

@@ -1,565 +1,334 @@
 // The attribute lists of tags 6, 9, 10 and 13 to 27 as constant rows of kind and data type.
-ghost use Rattle.std.specs.Prelude.{[]};
-ghost use Rattle.format.specs.Bodies as bodies;
-ghost use Rattle.attributes.specs.Rows.{attributes_of, Attributes};
+ghost use Rattle.std.specs.Prelude.{◌≡◌, ◌≤◌, length};
+ghost use Rattle.attributes.specs.Rows.{attributes_in, attributes_of};
 
-use crate::Block;
+use crate::{Attribute, DataType, Kind};
 
-// A row is one number, its kind and its data type together: so a block lends its rows as bytes. `kind_in` and `type_in` tell the two again.
-const VALUE: u8 = 0;
+const BIT: Attribute = Attribute {
+    kind: Kind::BitFlag,
+    data_type: DataType::Bool,
+};
 
-const FIXED: u8 = 1;
+const ID: Attribute = Attribute {
+    kind: Kind::Value,
+    data_type: DataType::U32,
+};
 
-const BIT_FLAG: u8 = 2;
+const RATIO: Attribute = Attribute {
+    kind: Kind::Value,
+    data_type: DataType::Ratio,
+};
 
-const SIMPLE: u8 = 3;
+const TIME: Attribute = Attribute {
+    kind: Kind::Value,
+    data_type: DataType::Time,
+};
 
-const DISCRETE: u8 = 4;
+const POINT: Attribute = Attribute {
+    kind: Kind::Value,
+    data_type: DataType::Point,
+};
 
-const MULTI_DIMENSION: u8 = 5;
+const FLOAT: Attribute = Attribute {
+    kind: Kind::Value,
+    data_type: DataType::Float,
+};
 
-const SPATIAL: u8 = 6;
+const BYTE: Attribute = Attribute {
+    kind: Kind::Value,
+    data_type: DataType::Byte,
+};
 
-const CUSTOM: u8 = 7;
+const BLEND_MODE: Attribute = Attribute {
+    kind: Kind::Value,
+    data_type: DataType::BlendMode,
+};
 
-// Data types count by eights.
-const OF_U32: u8 = 0;
+const TRACK_MATTE_TYPE: Attribute = Attribute {
+    kind: Kind::Value,
+    data_type: DataType::EnumTo4,
+};
 
-const OF_TIME: u8 = 8;
+const MASK_MODE: Attribute = Attribute {
+    kind: Kind::Value,
+    data_type: DataType::EnumTo7,
+};
 
-const OF_FLOAT: u8 = 16;
+const ANCHOR_POINT_GROUPING: Attribute = Attribute {
+    kind: Kind::Value,
+    data_type: DataType::EnumTo6,
+};
 
-const OF_RATIO: u8 = 24;
+const POLY_STAR_TYPE: Attribute = Attribute {
+    kind: Kind::Value,
+    data_type: DataType::EnumTo1,
+};
 
-const OF_BOOL: u8 = 32;
+const COMPOSITE_ORDER: Attribute = Attribute {
+    kind: Kind::Value,
+    data_type: DataType::EnumTo1,
+};
 
-const OF_BYTE: u8 = 40;
+const FILL_RULE: Attribute = Attribute {
+    kind: Kind::Value,
+    data_type: DataType::EnumTo1,
+};
 
-const OF_BLEND_MODE: u8 = 48;
+const LINE_CAP: Attribute = Attribute {
+    kind: Kind::Value,
+    data_type: DataType::EnumTo2,
+};
 
-const OF_PATH: u8 = 56;
+const LINE_JOIN: Attribute = Attribute {
+    kind: Kind::Value,
+    data_type: DataType::EnumTo2,
+};
 
-const OF_POINT: u8 = 64;
+const GRADIENT_FILL_TYPE: Attribute = Attribute {
+    kind: Kind::Value,
+    data_type: DataType::EnumTo1,
+};
 
-const OF_COLOR: u8 = 72;
+const MERGE_PATHS_MODE: Attribute = Attribute {
+    kind: Kind::Value,
+    data_type: DataType::EnumTo4,
+};
 
-const OF_GRADIENT_COLOR: u8 = 80;
+const TRIM_PATHS_TYPE: Attribute = Attribute {
+    kind: Kind::Value,
+    data_type: DataType::EnumTo1,
+};
 
-const OF_ENUM_TO_1: u8 = 88;
+const FIXED_ID: Attribute = Attribute {
+    kind: Kind::Fixed,
+    data_type: DataType::U32,
+};
 
-const OF_ENUM_TO_2: u8 = 96;
+const FIXED_TIME: Attribute = Attribute {
+    kind: Kind::Fixed,
+    data_type: DataType::Time,
+};
 
-const OF_ENUM_TO_4: u8 = 104;
+const DISCRETE_BOOL: Attribute = Attribute {
+    kind: Kind::Discrete,
+    data_type: DataType::Bool,
+};
 
-const OF_ENUM_TO_6: u8 = 112;
+const SIMPLE_FLOAT: Attribute = Attribute {
+    kind: Kind::Simple,
+    data_type: DataType::Float,
+};
 
-const OF_ENUM_TO_7: u8 = 120;
+const SIMPLE_BYTE: Attribute = Attribute {
+    kind: Kind::Simple,
+    data_type: DataType::Byte,
+};
 
-const OF_DASHES: u8 = 128;
+const SIMPLE_PATH: Attribute = Attribute {
+    kind: Kind::Simple,
+    data_type: DataType::Path,
+};
 
-const OF_TAG_BLOCK: u8 = 136;
+const SIMPLE_COLOR: Attribute = Attribute {
+    kind: Kind::Simple,
+    data_type: DataType::Color,
+};
 
-// What fills up the rows of a block: nobody reads it.
-const NONE: u8 = VALUE + OF_U32;
+const SIMPLE_GRADIENT: Attribute = Attribute {
+    kind: Kind::Simple,
+    data_type: DataType::GradientColor,
+};
 
-const BIT: u8 = BIT_FLAG + OF_BOOL;
+const SIZED_POINT: Attribute = Attribute {
+    kind: Kind::MultiDimension,
+    data_type: DataType::Point,
+};
 
-const ID: u8 = VALUE + OF_U32;
+const SPATIAL_POINT: Attribute = Attribute {
+    kind: Kind::Spatial,
+    data_type: DataType::Point,
+};
 
-const RATIO: u8 = VALUE + OF_RATIO;
+const DASHES: Attribute = Attribute {
+    kind: Kind::Custom,
+    data_type: DataType::Dashes,
+};
 
-const TIME: u8 = VALUE + OF_TIME;
-
-const POINT: u8 = VALUE + OF_POINT;
-
-const FLOAT: u8 = VALUE + OF_FLOAT;
-
-const BYTE: u8 = VALUE + OF_BYTE;
-
-const BLEND_MODE: u8 = VALUE + OF_BLEND_MODE;
-
-const TRACK_MATTE_TYPE: u8 = VALUE + OF_ENUM_TO_4;
-
-const MASK_MODE: u8 = VALUE + OF_ENUM_TO_7;
-
-const ANCHOR_POINT_GROUPING: u8 = VALUE + OF_ENUM_TO_6;
-
-const POLY_STAR_TYPE: u8 = VALUE + OF_ENUM_TO_1;
-
-const COMPOSITE_ORDER: u8 = VALUE + OF_ENUM_TO_1;
-
-const FILL_RULE: u8 = VALUE + OF_ENUM_TO_1;
-
-const LINE_CAP: u8 = VALUE + OF_ENUM_TO_2;
-
-const LINE_JOIN: u8 = VALUE + OF_ENUM_TO_2;
-
-const GRADIENT_FILL_TYPE: u8 = VALUE + OF_ENUM_TO_1;
-
-const MERGE_PATHS_MODE: u8 = VALUE + OF_ENUM_TO_4;
-
-const TRIM_PATHS_TYPE: u8 = VALUE + OF_ENUM_TO_1;
-
-const FIXED_ID: u8 = FIXED + OF_U32;
-
-const FIXED_TIME: u8 = FIXED + OF_TIME;
-
-const DISCRETE_BOOL: u8 = DISCRETE + OF_BOOL;
-
-const SIMPLE_FLOAT: u8 = SIMPLE + OF_FLOAT;
-
-const SIMPLE_BYTE: u8 = SIMPLE + OF_BYTE;
-
-const SIMPLE_PATH: u8 = SIMPLE + OF_PATH;
-
-const SIMPLE_COLOR: u8 = SIMPLE + OF_COLOR;
-
-const SIMPLE_GRADIENT: u8 = SIMPLE + OF_GRADIENT_COLOR;
-
-const SIZED_POINT: u8 = MULTI_DIMENSION + OF_POINT;
-
-const SPATIAL_POINT: u8 = SPATIAL + OF_POINT;
-
-const DASHES: u8 = CUSTOM + OF_DASHES;
-
-const TAG_BLOCK: u8 = CUSTOM + OF_TAG_BLOCK;
+const TAG_BLOCK: Attribute = Attribute {
+    kind: Kind::Custom,
+    data_type: DataType::TagBlock,
+};
 
 // 6: isActive, autoOrientation, parent, stretch, startTime, blendMode, trackMatteType, timeRemap, duration
-fn layer_attributes() -> Block
-    ensures { Attributes result.rows result.count bodies.layer_attributes }
-{
-    Block {
-        rows: [
-            BIT,
-            BIT,
-            ID,
-            RATIO,
-            TIME,
-            BLEND_MODE,
-            TRACK_MATTE_TYPE,
-            SIMPLE_FLOAT,
-            FIXED_TIME,
-            NONE,
-            NONE,
-            NONE,
-        ],
-        count: 9,
-    }
-}
+const LAYER_ATTRIBUTES: [Attribute; 9] = [
+    BIT,
+    BIT,
+    ID,
+    RATIO,
+    TIME,
+    BLEND_MODE,
+    TRACK_MATTE_TYPE,
+    SIMPLE_FLOAT,
+    FIXED_TIME,
+];
 
 // 9: path, reversed, perpendicular, forceAlignment, firstMargin, lastMargin
-fn text_path_option() -> Block
-    ensures { Attributes result.rows result.count bodies.text_path_option }
-{
-    Block {
-        rows: [
-            ID,
-            DISCRETE_BOOL,
-            DISCRETE_BOOL,
-            DISCRETE_BOOL,
-            SIMPLE_FLOAT,
-            SIMPLE_FLOAT,
-            NONE,
-            NONE,
-            NONE,
-            NONE,
-            NONE,
-            NONE,
-        ],
-        count: 6,
-    }
-}
+const TEXT_PATH_OPTION: [Attribute; 6] = [
+    ID,
+    DISCRETE_BOOL,
+    DISCRETE_BOOL,
+    DISCRETE_BOOL,
+    SIMPLE_FLOAT,
+    SIMPLE_FLOAT,
+];
 
 // 10: anchorPointGrouping, groupingAlignment
-fn text_more_option() -> Block
-    ensures { Attributes result.rows result.count bodies.text_more_option }
-{
-    Block {
-        rows: [
-            ANCHOR_POINT_GROUPING,
-            SIZED_POINT,
-            NONE,
-            NONE,
-            NONE,
-            NONE,
-            NONE,
-            NONE,
-            NONE,
-            NONE,
-            NONE,
-            NONE,
-        ],
-        count: 2,
-    }
-}
+const TEXT_MORE_OPTION: [Attribute; 2] = [ANCHOR_POINT_GROUPING, SIZED_POINT];
 
 // 13: anchorPoint, position, xPosition, yPosition, scale, rotation, opacity
-fn transform_2d() -> Block
-    ensures { Attributes result.rows result.count bodies.transform_2d }
-{
-    Block {
-        rows: [
-            POINT, POINT, FLOAT, FLOAT, POINT, FLOAT, BYTE, NONE, NONE, NONE, NONE, NONE,
-        ],
-        count: 7,
-    }
-}
+const TRANSFORM_2D: [Attribute; 7] = [POINT, POINT, FLOAT, FLOAT, POINT, FLOAT, BYTE];
 
 // 14: id, inverted, maskMode, path, opacity, expansion
-fn mask_block() -> Block
-    ensures { Attributes result.rows result.count bodies.mask_block }
-{
-    Block {
-        rows: [
-            FIXED_ID,
-            BIT,
-            MASK_MODE,
-            SIMPLE_PATH,
-            SIMPLE_BYTE,
-            SIMPLE_FLOAT,
-            NONE,
-            NONE,
-            NONE,
-            NONE,
-            NONE,
-            NONE,
-        ],
-        count: 6,
-    }
-}
+const MASK_BLOCK: [Attribute; 6] = [
+    FIXED_ID,
+    BIT,
+    MASK_MODE,
+    SIMPLE_PATH,
+    SIMPLE_BYTE,
+    SIMPLE_FLOAT,
+];
 
 // 15: blendMode, anchorPoint, position, scale, skew, skewAxis, rotation, opacity, TagBlock
-fn shape_group() -> Block
-    ensures { Attributes result.rows result.count bodies.shape_group }
-{
-    Block {
-        rows: [
-            BLEND_MODE,
-            SPATIAL_POINT,
-            SPATIAL_POINT,
-            SIZED_POINT,
-            SIMPLE_FLOAT,
-            SIMPLE_FLOAT,
-            SIMPLE_FLOAT,
-            SIMPLE_BYTE,
-            TAG_BLOCK,
-            NONE,
-            NONE,
-            NONE,
-        ],
-        count: 9,
-    }
-}
+const SHAPE_GROUP: [Attribute; 9] = [
+    BLEND_MODE,
+    SPATIAL_POINT,
+    SPATIAL_POINT,
+    SIZED_POINT,
+    SIMPLE_FLOAT,
+    SIMPLE_FLOAT,
+    SIMPLE_FLOAT,
+    SIMPLE_BYTE,
+    TAG_BLOCK,
+];
 
 // 16: reversed, size, position, roundness
-fn rectangle() -> Block
-    ensures { Attributes result.rows result.count bodies.rectangle }
-{
-    Block {
-        rows: [
-            BIT,
-            SIZED_POINT,
-            SPATIAL_POINT,
-            SIMPLE_FLOAT,
-            NONE,
-            NONE,
-            NONE,
-            NONE,
-            NONE,
-            NONE,
-            NONE,
-            NONE,
-        ],
-        count: 4,
-    }
-}
+const RECTANGLE: [Attribute; 4] = [BIT, SIZED_POINT, SPATIAL_POINT, SIMPLE_FLOAT];
 
 // 17: reversed, size, position
-fn ellipse() -> Block
-    ensures { Attributes result.rows result.count bodies.ellipse }
-{
-    Block {
-        rows: [
-            BIT,
-            SIZED_POINT,
-            SPATIAL_POINT,
-            NONE,
-            NONE,
-            NONE,
-            NONE,
-            NONE,
-            NONE,
-            NONE,
-            NONE,
-            NONE,
-        ],
-        count: 3,
-    }
-}
+const ELLIPSE: [Attribute; 3] = [BIT, SIZED_POINT, SPATIAL_POINT];
 
 // 18: reversed, polyType, points, position, rotation, innerRadius, outerRadius, innerRoundness, outerRoundness
-fn poly_star() -> Block
-    ensures { Attributes result.rows result.count bodies.poly_star }
-{
-    Block {
-        rows: [
-            BIT,
-            POLY_STAR_TYPE,
-            SIMPLE_FLOAT,
-            SPATIAL_POINT,
-            SIMPLE_FLOAT,
-            SIMPLE_FLOAT,
-            SIMPLE_FLOAT,
-            SIMPLE_FLOAT,
-            SIMPLE_FLOAT,
-            NONE,
-            NONE,
-            NONE,
-        ],
-        count: 9,
-    }
-}
+const POLY_STAR: [Attribute; 9] = [
+    BIT,
+    POLY_STAR_TYPE,
+    SIMPLE_FLOAT,
+    SPATIAL_POINT,
+    SIMPLE_FLOAT,
+    SIMPLE_FLOAT,
+    SIMPLE_FLOAT,
+    SIMPLE_FLOAT,
+    SIMPLE_FLOAT,
+];
 
 // 19: shapePath
-fn shape_path() -> Block
-    ensures { Attributes result.rows result.count bodies.shape_path }
-{
-    Block {
-        rows: [
-            SIMPLE_PATH,
-            NONE,
-            NONE,
-            NONE,
-            NONE,
-            NONE,
-            NONE,
-            NONE,
-            NONE,
-            NONE,
-            NONE,
-            NONE,
-        ],
-        count: 1,
-    }
-}
+const SHAPE_PATH: [Attribute; 1] = [SIMPLE_PATH];
 
 // 20: blendMode, composite, fillRule, color, opacity
-fn fill_block() -> Block
-    ensures { Attributes result.rows result.count bodies.fill_block }
-{
-    Block {
-        rows: [
-            BLEND_MODE,
-            COMPOSITE_ORDER,
-            FILL_RULE,
-            SIMPLE_COLOR,
-            SIMPLE_BYTE,
-            NONE,
-            NONE,
-            NONE,
-            NONE,
-            NONE,
-            NONE,
-            NONE,
-        ],
-        count: 5,
-    }
-}
+const FILL_BLOCK: [Attribute; 5] = [
+    BLEND_MODE,
+    COMPOSITE_ORDER,
+    FILL_RULE,
+    SIMPLE_COLOR,
+    SIMPLE_BYTE,
+];
 
 // 21: blendMode, composite, lineCap, lineJoin, miterLimit, color, opacity, strokeWidth
-fn stroke() -> Block
-    ensures { Attributes result.rows result.count bodies.stroke }
-{
-    Block {
-        rows: [
-            BLEND_MODE,
-            COMPOSITE_ORDER,
-            LINE_CAP,
-            LINE_JOIN,
-            SIMPLE_FLOAT,
-            SIMPLE_COLOR,
-            SIMPLE_BYTE,
-            SIMPLE_FLOAT,
-            NONE,
-            NONE,
-            NONE,
-            NONE,
-        ],
-        count: 8,
-    }
-}
+const STROKE: [Attribute; 8] = [
+    BLEND_MODE,
+    COMPOSITE_ORDER,
+    LINE_CAP,
+    LINE_JOIN,
+    SIMPLE_FLOAT,
+    SIMPLE_COLOR,
+    SIMPLE_BYTE,
+    SIMPLE_FLOAT,
+];
 
 // 22: blendMode, composite, fillRule, fillType, startPoint, endPoint, colors, opacity
-fn gradient_fill() -> Block
-    ensures { Attributes result.rows result.count bodies.gradient_fill }
-{
-    Block {
-        rows: [
-            BLEND_MODE,
-            COMPOSITE_ORDER,
-            FILL_RULE,
-            GRADIENT_FILL_TYPE,
-            SPATIAL_POINT,
-            SPATIAL_POINT,
-            SIMPLE_GRADIENT,
-            SIMPLE_BYTE,
-            NONE,
-            NONE,
-            NONE,
-            NONE,
-        ],
-        count: 8,
-    }
-}
+const GRADIENT_FILL: [Attribute; 8] = [
+    BLEND_MODE,
+    COMPOSITE_ORDER,
+    FILL_RULE,
+    GRADIENT_FILL_TYPE,
+    SPATIAL_POINT,
+    SPATIAL_POINT,
+    SIMPLE_GRADIENT,
+    SIMPLE_BYTE,
+];
 
 // 23: blendMode, composite, fillType, startPoint, endPoint, color, opacity, strokeWidth, lineCap, lineJoin, miterLimit, dashes
-fn gradient_stroke() -> Block
-    ensures { Attributes result.rows result.count bodies.gradient_stroke }
-{
-    Block {
-        rows: [
-            BLEND_MODE,
-            COMPOSITE_ORDER,
-            GRADIENT_FILL_TYPE,
-            SPATIAL_POINT,
-            SPATIAL_POINT,
-            SIMPLE_COLOR,
-            SIMPLE_BYTE,
-            SIMPLE_FLOAT,
-            LINE_CAP,
-            LINE_JOIN,
-            SIMPLE_FLOAT,
-            DASHES,
-        ],
-        count: 12,
-    }
-}
+const GRADIENT_STROKE: [Attribute; 12] = [
+    BLEND_MODE,
+    COMPOSITE_ORDER,
+    GRADIENT_FILL_TYPE,
+    SPATIAL_POINT,
+    SPATIAL_POINT,
+    SIMPLE_COLOR,
+    SIMPLE_BYTE,
+    SIMPLE_FLOAT,
+    LINE_CAP,
+    LINE_JOIN,
+    SIMPLE_FLOAT,
+    DASHES,
+];
 
 // 24: mode
-fn merge_paths() -> Block
-    ensures { Attributes result.rows result.count bodies.merge_paths }
-{
-    Block {
-        rows: [
-            MERGE_PATHS_MODE,
-            NONE,
-            NONE,
-            NONE,
-            NONE,
-            NONE,
-            NONE,
-            NONE,
-            NONE,
-            NONE,
-            NONE,
-            NONE,
-        ],
-        count: 1,
-    }
-}
+const MERGE_PATHS: [Attribute; 1] = [MERGE_PATHS_MODE];
 
 // 25: start, end, offset, trimType
-fn trim_paths() -> Block
-    ensures { Attributes result.rows result.count bodies.trim_paths }
-{
-    Block {
-        rows: [
-            SIMPLE_FLOAT,
-            SIMPLE_FLOAT,
-            SIMPLE_FLOAT,
-            TRIM_PATHS_TYPE,
-            NONE,
-            NONE,
-            NONE,
-            NONE,
-            NONE,
-            NONE,
-            NONE,
-            NONE,
-        ],
-        count: 4,
-    }
-}
+const TRIM_PATHS: [Attribute; 4] = [SIMPLE_FLOAT, SIMPLE_FLOAT, SIMPLE_FLOAT, TRIM_PATHS_TYPE];
 
 // 26: composite, copies, offset, anchorPoint, position, scale, rotation, startOpacity, endOpacity
-fn repeater() -> Block
-    ensures { Attributes result.rows result.count bodies.repeater }
-{
-    Block {
-        rows: [
-            COMPOSITE_ORDER,
-            SIMPLE_FLOAT,
-            SIMPLE_FLOAT,
-            SPATIAL_POINT,
-            SPATIAL_POINT,
-            SIZED_POINT,
-            SIMPLE_FLOAT,
-            SIMPLE_BYTE,
-            SIMPLE_BYTE,
-            NONE,
-            NONE,
-            NONE,
-        ],
-        count: 9,
-    }
-}
+const REPEATER: [Attribute; 9] = [
+    COMPOSITE_ORDER,
+    SIMPLE_FLOAT,
+    SIMPLE_FLOAT,
+    SPATIAL_POINT,
+    SPATIAL_POINT,
+    SIZED_POINT,
+    SIMPLE_FLOAT,
+    SIMPLE_BYTE,
+    SIMPLE_BYTE,
+];
 
 // 27: radius
-fn round_corners() -> Block
-    ensures { Attributes result.rows result.count bodies.round_corners }
-{
-    Block {
-        rows: [
-            SIMPLE_FLOAT,
-            NONE,
-            NONE,
-            NONE,
-            NONE,
-            NONE,
-            NONE,
-            NONE,
-            NONE,
-            NONE,
-            NONE,
-            NONE,
-        ],
-        count: 1,
-    }
-}
+const ROUND_CORNERS: [Attribute; 1] = [SIMPLE_FLOAT];
 
-// No attributes.
-fn none() -> Block
-    ensures { Attributes result.rows result.count [] }
-{
-    Block {
-        rows: [NONE; 12],
-        count: 0,
-    }
-}
-
-// The attributes of a tag that is an attribute block; the others have none.
-pub fn block_of(code: u32) -> Block
-    ensures { Attributes result.rows result.count (attributes_of code) }
+// The attributes of a tag that is an attribute block, in order; the others have none.
+#[tactic(auto, unfolding(crate::specs::Rows::attributes_of))]
+pub fn block_of(code: u32) -> &'static [Attribute]
+    ensures few { length result.now ≤ 12 }
+    ensures are { attributes_in result.now ≡ attributes_of code }
 {
     match code {
-        6 => layer_attributes(),
-        9 => text_path_option(),
-        10 => text_more_option(),
-        13 => transform_2d(),
-        14 => mask_block(),
-        15 => shape_group(),
-        16 => rectangle(),
-        17 => ellipse(),
-        18 => poly_star(),
-        19 => shape_path(),
-        20 => fill_block(),
-        21 => stroke(),
-        22 => gradient_fill(),
-        23 => gradient_stroke(),
-        24 => merge_paths(),
-        25 => trim_paths(),
-        26 => repeater(),
-        27 => round_corners(),
-        _ => none(),
+        6 => &LAYER_ATTRIBUTES,
+        9 => &TEXT_PATH_OPTION,
+        10 => &TEXT_MORE_OPTION,
+        13 => &TRANSFORM_2D,
+        14 => &MASK_BLOCK,
+        15 => &SHAPE_GROUP,
+        16 => &RECTANGLE,
+        17 => &ELLIPSE,
+        18 => &POLY_STAR,
+        19 => &SHAPE_PATH,
+        20 => &FILL_BLOCK,
+        21 => &STROKE,
+        22 => &GRADIENT_FILL,
+        23 => &GRADIENT_STROKE,
+        24 => &MERGE_PATHS,
+        25 => &TRIM_PATHS,
+        26 => &REPEATER,
+        27 => &ROUND_CORNERS,
+        _ => &[],
     }
 }

@@ -5,9 +5,8 @@ use mathlib.Core.List.{List, [], ◌∷◌}
 use mathlib.Core.Path.{◌≡◌, refl}
 use denote.Ref.{Bor}
 use Rattle.format.specs.Bits.{bit_at, ub}
-use Rattle.bit_reader.specs.declared.Field.TheVariants.{Value, Refused}
-use Rattle.bit_reader.specs.declared.Step.{Step}
-use Rattle.bit_reader.specs.Fields.{step_at}
+use Rattle.format.specs.Reasons.{accepted, refused}
+use Rattle.bit_reader.specs.Fields.{Step, step_at}
 use Rattle.bit_reader.specs.Readers.{at_start, taken}
 
 abbrev step : Bool → List ℕ → ℕ → ℕ → Step
@@ -18,10 +17,10 @@ abbrev low_step : Bool → List ℕ → ℕ → ℕ → Step
 low_step signed b p n = step_at 1 signed b (record { 0 = p }) n
 
 abbrev gives : ℕ → ℕ → Step
-gives v q = record { field = Value v; place = record { 0 = q } }
+gives v q = record { field = accepted v; place = record { 0 = q } }
 
 abbrev refuses : ℕ → ℕ → Step
-refuses e p = record { field = Refused e 0; place = record { 0 = p } }
+refuses e p = record { field = refused e 0; place = record { 0 = p } }
 
 -- two bytes, 5A 92: sixteen bits
 abbrev two : List ℕ
@@ -54,6 +53,6 @@ unfolding bit_at ub
 fields_read = refl
 
 -- P7 by a reader of these two bytes: made, and asked twice
-pub reader_read : (x : Bor (List ℕ)) → x.now ≡ two → taken false (taken false (at_start 0 x) 6).reader 5 ≡ record { reader = record { bytes = x; order = 0; place = record { 0 = 11 } }; field = Value 20 }
+pub reader_read : (x : Bor (List ℕ)) → x.now ≡ two → taken false (taken false (at_start 0 x) 6).reader 5 ≡ record { reader = record { bytes = x; order = 0; place = record { 0 = 11 } }; field = accepted 20 }
 unfolding bit_at ub
 reader_read x h = rw h

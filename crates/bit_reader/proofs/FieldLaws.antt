@@ -1,5 +1,5 @@
 -- A field by the bytes near it, what the bit reader answers case by case, and that no second answer fits.
-use Prim.Native.Nat.{ℕ, zero, suc, ◌+◌, ◌-◌, ◌*◌, ◌/◌, ◌%◌, ◌^◌, ◌≤◌, ◌<◌}
+use Prim.Native.Nat.{ℕ, zero, suc, ◌+◌, ◌-◌, ◌*◌, ◌/◌, ◌%◌, ◌^◌, ◌≤◌, ◌<◌, min}
 use mathlib.Core.Path.{◌≡◌, refl, sym, ap, ◌∙◌}
 use mathlib.Core.List.{List}
 use mathlib.Core.Bool.{Bool, true, false}
@@ -8,28 +8,24 @@ use native.Mathlib.Omega.{arith}
 use denote.Ref.{Bor}
 use lib.ListN.{length, take, drop, length-drop}
 use lib.Seq.{get_or-take, get_or-drop, length-take-le}
-use lib.Dec.{leb, ltb}
-use borrow.Author.Tests.{le-leb, lt-leb, leb-false, lt-ltb, le-ltb, ltb-true, ltb-false}
+use lib.Dec.{leb}
+use borrow.Author.Tests.{le-leb, lt-ltb, le-ltb}
 use Rattle.format.specs.Bits.{Order, order_named, bit_at, ub}
-use Rattle.format.specs.Items.{Num, num, bad, map_num, read_ub}
+use Rattle.format.specs.Items.{Num, num, map_num, read_ub}
 use Rattle.format.proofs.Promises.{one_answer}
-use Rattle.format.proofs.Absurd.{clash}
-use Rattle.bits.specs.declared.BitPlace.{BitPlace}
-use Rattle.bits.proofs.FieldLaws.{IsField, map_got}
+use Rattle.std.specs.Prelude.{Result, Ok, Err}
+use Rattle.reasons.specs.declared.Reason.{Reason}
+use Rattle.reasons.specs.Numbers.{number_of}
+use Rattle.reasons.proofs.NumberLaws.{number_one}
+use Rattle.bits.specs.declared.Number.{Number}
+use Rattle.bits.specs.Places.{num_of}
+use Rattle.bits.proofs.FieldLaws.{IsField, map_got, num_one}
 use Rattle.bit_reader.specs.declared.BitReader.{BitReader}
-use Rattle.bit_reader.specs.declared.Step.{Step}
-use Rattle.bit_reader.specs.declared.Taken.{Taken}
-use Rattle.bit_reader.specs.Fields.{value_of, in_bytes, field_of, step_at}
-use Rattle.bit_reader.specs.Near.{read_field, near_end}
-use Rattle.bit_reader.specs.Readers.{at_start, taken}
+use Rattle.bit_reader.specs.Fields.{value_of, in_bytes, field_of}
+use Rattle.bit_reader.specs.Near.{read_field}
+use Rattle.bit_reader.specs.Readers.{at_start, Taken, taken, answer_of, left}
 
 -- ---- the bytes near a field
-
-pub near_short : (i len : ℕ) → len - i < 5 → len ≡ near_end i len
-near_short i len h = rw (lt-ltb (len - i) 5 h)
-
-pub near_five : (i len : ℕ) → 5 ≤ len - i → i + 5 ≡ near_end i len
-near_five i len h = rw (le-ltb (len - i) 5 h)
 
 -- the bytes from i to e are in the len bytes, and what runs past them runs past all bytes, if it is no longer than five
 pub record Near (i len e : ℕ) : Type 0 where
@@ -38,17 +34,8 @@ pub record Near (i len e : ℕ) : Type 0 where
   pub five : e ≤ i + 5
   pub past : (m : ℕ) → m ≤ 40 → 8 * (e - i) < m → 8 * (len - i) < m
 
-pub near_end_lem : (i len : ℕ) {e : ℕ} → i < len → e ≡ near_end i len → Near i len e
-near_end_lem i len {e} h s = go (ltb (len - i) 5) refl
-  where
-    go : (t : Bool) → ltb (len - i) 5 ≡ t → Near i len e
-    go true t =
-        let f : e ≡ len = rw t at s in
-        record { after = omega arith; inside = omega arith; five = omega (arith, ltb-true (len - i) 5 t); past = λ m l k. omega arith }
-    go false t =
-        let f : e ≡ i + 5 = rw t at s in
-        let g : 5 ≤ len - i = ltb-false (len - i) 5 t in
-        record { after = omega arith; inside = omega arith; five = omega arith; past = λ m l k. absurd (omega arith) }
+pub near_end : (i len : ℕ) {e : ℕ} → i < len → e ≡ min len (i + 5) → Near i len e
+near_end i len {e} h s = record { after = omega arith; inside = omega arith; five = omega arith; past = λ m l k. omega arith }
 
 pub near_length : (b : List ℕ) (i e : ℕ) → e ≤ length b → length (take (e - i) (drop i b)) ≡ e - i
 near_length b i e h = length-take-le (e - i) (drop i b) (rw length-drop (omega arith))
@@ -76,30 +63,7 @@ field_turned o false b p n = go (leb (p + n) (8 * length b)) refl
     go true t = rw t
     go false t = rw t
 
--- what a refused field tells
-map_fault : (o : Order) (f : ℕ → ℕ) (b : List ℕ) (p n : ℕ) {w : ℕ} → bad w ≡ map_num f (read_ub o b p n) → (w ≡ 13) × (8 * length b < p + n)
-map_fault o f b p n {w} e = go (leb (p + n) (8 * length b)) refl
-  where
-    go : (t : Bool) → leb (p + n) (8 * length b) ≡ t → (w ≡ 13) × (8 * length b < p + n)
-    go true t =
-        let h : bad w ≡ num (f (ub o b p n)) (p + n) = rw t at e in
-        clash cc
-    go false t =
-        let h : bad w ≡ bad 13 = rw t at e in
-        (cc, leb-false _ _ t)
-
 -- ---- what the code answers for a width from 1 to 32
-
-pub field_past : (o : Order) (s : Bool) (b : List ℕ) (p n : ℕ) → 8 * length b < p + n → bad 13 ≡ in_bytes o s b p n
-field_past o s b p n h = rw (lt-leb (p + n) (8 * length b) h)
-
--- the next place would have more than 64 bits
-pub field_unplaced : (o : Order) (s : Bool) (b : List ℕ) (p n : ℕ) → 2 ^ 64 ≤ p + n → bad 13 ≡ in_bytes o s b p n
-field_unplaced o s b p n h = go (leb (p + n) (8 * length b)) refl
-  where
-    go : (t : Bool) → leb (p + n) (8 * length b) ≡ t → bad 13 ≡ in_bytes o s b p n
-    go true t = rw (t, le-ltb (p + n) (2 ^ 64) h)
-    go false t = rw t
 
 pub near_value : (o : Order) (s : Bool) (b : List ℕ) (p n i e : ℕ) {v q : ℕ} → p / 8 ≡ i → Near i (length b) e → p + n < 2 ^ 64
     → num v q ≡ read_field o s (take (e - i) (drop i b)) (p % 8) n → num v (p + n) ≡ in_bytes o s b p n
@@ -111,26 +75,7 @@ near_value o s b p n i e {v} {q} d k l r =
     let x : ub o c (p % 8) n ≡ ub o b p n = rw j at (near_ub o b i (e - i) (p % 8) n h) in
     rw (le-leb (p + n) (8 * length b) (omega (arith, k.inside)), lt-ltb (p + n) (2 ^ 64) l, g.value, x)
 
-pub near_fault : (o : Order) (s : Bool) (b : List ℕ) (p n i e : ℕ) {w : ℕ} → p / 8 ≡ i → Near i (length b) e → n ≤ 32
-    → bad w ≡ read_field o s (take (e - i) (drop i b)) (p % 8) n → bad w ≡ in_bytes o s b p n
-near_fault o s b p n i e {w} d k l r =
-    let c : List ℕ = take (e - i) (drop i b) in
-    let g = map_fault o (value_of s n) c (p % 8) n (r ∙ field_turned o s c (p % 8) n) in
-    let h : 8 * (e - i) < p % 8 + n = rw (near_length b i e k.inside) at g.1 in
-    ap bad g.0 ∙ field_past o s b p n (omega (arith, k.past (p % 8 + n) (omega arith) h, k.after, k.inside))
-
--- ---- and for the others
-
-pub order_neither : (order : ℕ) (s : Bool) (b : List ℕ) (p n : ℕ) → 1 < order → bad 24 ≡ field_of order s b p n
-order_neither order s b p n h = rw (lt-ltb 1 order h)
-
 module _ (order : ℕ) (s : Bool) (b : List ℕ) (p n : ℕ) (ordered : order ≤ 1) where
-  pub width_low : n < 1 → bad 17 ≡ field_of order s b p n
-  width_low h = rw (le-ltb 1 order ordered, lt-leb 1 n h)
-
-  pub width_high : 32 < n → bad 17 ≡ field_of order s b p n
-  width_high h = rw (le-ltb 1 order ordered, le-leb 1 n (omega arith), lt-leb n 32 h)
-
   pub width_right : {x : Num} → 1 ≤ n → n ≤ 32 → x ≡ in_bytes (order_named order) s b p n → x ≡ field_of order s b p n
   width_right h k e = rw (le-ltb 1 order ordered, le-leb 1 n h, le-leb n 32 k) e
 
@@ -144,11 +89,21 @@ module _ (order : ℕ) (s : Bool) (b : List ℕ) (p n : ℕ) (ordered : order �
 
 -- ---- no second answer fits
 
-pub one_step : (order : ℕ) (s : Bool) (b : List ℕ) (at : BitPlace) (n : ℕ) (x y : Step) → x ≡ step_at order s b at n → y ≡ step_at order s b at n → x ≡ y
-one_step order s b at n = one_answer (λ x. x) (λ x y e. e) (step_at order s b at n)
+pub one_field : (order : ℕ) (s : Bool) (b : List ℕ) (p n : ℕ) (x y : Result Number Reason) → num_of x ≡ field_of order s b p n → num_of y ≡ field_of order s b p n → x ≡ y
+one_field order s b p n = one_answer num_of num_one (field_of order s b p n)
 
-pub one_taken : (s : Bool) (r : BitReader) (n : ℕ) (x y : Taken) → x ≡ taken s r n → y ≡ taken s r n → x ≡ y
-one_taken s r n = one_answer (λ x. x) (λ x y e. e) (taken s r n)
+-- the reader and the answer
+pub left_one : (r r' : BitReader) (x y : Result ℕ Reason) → left r x ≡ left r' y → (r ≡ r') × (x ≡ y)
+left_one r r' x y e = (ap (λ (t : Taken). t.reader) e, answers x y (ap (λ (t : Taken). t.field) e))
+  where
+    answers : (x y : Result ℕ Reason) → answer_of x ≡ answer_of y → x ≡ y
+    answers (Ok v) (Ok w) e = cc
+    answers (Ok v) (Err a) e = cc
+    answers (Err a) (Ok v) e = cc
+    answers (Err a) (Err d) e = let n : number_of a ≡ number_of d = cc in let q : a ≡ d = number_one a d n in cc
+
+pub one_taken : (s : Bool) (r : BitReader) (n : ℕ) (p q : BitReader) (x y : Result ℕ Reason) → left p x ≡ taken s r n → left q y ≡ taken s r n → (p ≡ q) × (x ≡ y)
+one_taken s r n p q x y d e = left_one p q x y (d ∙ sym e)
 
 pub one_start : (order : ℕ) (b : Bor (List ℕ)) (x y : BitReader) → x ≡ at_start order b → y ≡ at_start order b → x ≡ y
 one_start order b = one_answer (λ x. x) (λ x y e. e) (at_start order b)

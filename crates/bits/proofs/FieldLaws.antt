@@ -6,21 +6,27 @@ use lib.ListN.{get_or-eq_default}
 use lib.Seq.{drop-length}
 use lib.Pow.{pow-lt}
 use borrow.Author.Tests.{lt-leb}
-use Rattle.format.specs.Bits.{Order, high, low, bit_at, ub}
+use mir.Syntax.{w8}
+use mir.Val.{Fits}
+use Rattle.format.specs.Bits.{Order, high, low, bit_at, ub, order_named}
 use Rattle.format.specs.FileAndTags.{le64}
 use Rattle.format.specs.WritingItems.{below}
 use Rattle.format.specs.Items.{Num, num, bad, map_num, read_ub, sign_extend, skipped, read_align}
-use Rattle.format.specs.Reading.{shows, stop}
+use Rattle.format.specs.Reading.{Reading, Ending, At, shows, stop}
 use Rattle.format.proofs.BitLaws.{ub_lt, ub_split, ub_within}
 use Rattle.format.proofs.ByteLaws.{ub_byte}
 use Rattle.format.proofs.Absurd.{clash}
-use Rattle.bits.specs.Places.{aligned_at, num_of, turned_of, ordered_by, bit_of, with_sign}
+use Rattle.bits.specs.Places.{aligned_as, order_by, order_of, num_of, turned_of, ordered_by, bit_of, with_sign}
 use Rattle.bits.specs.declared.BitPlace.{BitPlace}
 use Rattle.bits.specs.declared.BytePlace.{BytePlace}
-use Rattle.bits.specs.declared.Aligned.{Aligned}
-use Rattle.bits.specs.declared.Aligned.TheVariants.{Clean, Unclean}
-use Rattle.bits.specs.declared.Got.{Got}
-use Rattle.bits.specs.declared.Got.TheVariants.{Value, Fault}
+use Rattle.bits.specs.declared.Number.{Number}
+use Rattle.bits.specs.declared.Order.{Order as Code}
+use Rattle.bits.specs.declared.whole.Whole.{Whole}
+use Rattle.reasons.specs.declared.Reason.{Reason}
+use Rattle.reasons.specs.declared.Reason.TheVariants.{OrderUnknown}
+use Rattle.reasons.specs.Numbers.{number_of}
+use Rattle.reasons.proofs.NumberLaws.{number_one}
+use Rattle.std.specs.Prelude.{Result, Ok, Err}
 
 -- no bits
 pub skips_none : (o : Order) (b : List ℕ) (p : ℕ) → ub o b p 0 ≡ 0
@@ -39,6 +45,10 @@ below_lt low k l m e h g = rw e h
 
 abbrev pub IsByte : List ℕ → ℕ → ℕ → Type 0
 IsByte b i x = (x ≡ get_or b i 0) × (x < 256)
+
+-- the numbers of a slice of bytes are bytes
+pub is_byte : (b : List ℕ) (i : ℕ) {x : ℕ} → ((k : ℕ) → Fits w8 (get_or b k 0)) → x ≡ get_or b i 0 → IsByte b i x
+is_byte b i h e = (e, omega (arith, e, h i))
 
 pub ub_first : (o : Order) (b : List ℕ) (i : ℕ) {x : ℕ} → (x ≡ get_or b i 0) × (x < 256) → x ≡ ub o b (8 * i) 8
 ub_first o b i h = h.0 ∙ sym (ub_byte o b i ∙ mod-eq_of_lt (rw h.0 at h.1))
@@ -221,6 +231,13 @@ map_num_lem f {q = q} e g = ap (λ (x : ℕ). num x q) g ∙ ap (map_num f) e
 pub map_bad : (f : ℕ → ℕ) {w : Num} {e : ℕ} → bad e ≡ w → bad e ≡ map_num f w
 map_bad f h = ap (map_num f) h
 
+-- an answer that is a number, as what was told of the answer; and one that is a reason
+pub ok_of : {a : Result Number Reason} {n : Number} {w : Num} → a ≡ Ok n → num_of a ≡ w → num n.value n.next.0 ≡ w
+ok_of e h = ap num_of (sym e) ∙ h
+
+pub err_of : {a : Result Number Reason} {e : Reason} {w : Num} → a ≡ Err e → num_of a ≡ w → bad (number_of e) ≡ w
+err_of e h = ap num_of (sym e) ∙ h
+
 -- what an accepted field tells
 pub record IsField (o : Order) (f : ℕ → ℕ) (b : List ℕ) (p n v q : ℕ) : Type 0 where
   pub value : v ≡ f (ub o b p n)
@@ -285,42 +302,44 @@ unsigned v z l w = let y : ltb (v + 0) z ≡ true = lt-ltb (v + 0) z (omega arit
 
 -- ---- the next whole byte, where n bits are skipped
 
-pub aligned_clean : (o : Order) (b : List ℕ) (p n : ℕ) {i q : ℕ} → skipped p ≡ n → ub o b p n ≡ 0 → p + n ≡ q → q ≡ 8 * i
-    → Clean (record { 0 = i }) (record { 0 = q }) ≡ aligned_at o b p
-unfolding aligned_at
-aligned_clean o b p n {i} {q} s e f g =
-    let d : q / 8 ≡ i = omega arith in
-    rw (s, e, f, d)
+pub aligned_clean : (o : Order) (b : List ℕ) (p n : ℕ) {q : ℕ} → skipped p ≡ n → ub o b p n ≡ 0 → p + n ≡ q → shows [] q ≡ read_align o b p
+aligned_clean o b p n s e f = rw (s, e, f)
 
-pub aligned_unclean : (o : Order) (b : List ℕ) (p n : ℕ) → skipped p ≡ n → (ub o b p n ≡ 0 → ⊥) → Unclean ≡ aligned_at o b p
-unfolding aligned_at
+pub aligned_unclean : (o : Order) (b : List ℕ) (p n : ℕ) → skipped p ≡ n → (ub o b p n ≡ 0 → ⊥) → stop 15 ≡ read_align o b p
 aligned_unclean o b p n s e = rw (s, ne_eqb (ub o b p n) 0 e)
 
--- and as the definitions read it. A place in the bytes stays in them: omega has that from the last three.
-abbrev pub AlignsTo : Order → List ℕ → ℕ → Aligned → Type 0
-AlignsTo o b p (Clean i q) = (read_align o b p ≡ shows [] q.0) × (q.0 ≡ 8 * i.0) × (p ≤ q.0) × (q.0 < p + 8)
-AlignsTo o b p Unclean = read_align o b p ≡ stop 15
+-- and what it tells. A place in the bytes stays in them: omega has that from the last two.
+abbrev pub AlignsTo : Order → List ℕ → ℕ → Result Whole Reason → Type 0
+AlignsTo o b p (Ok w) = (read_align o b p ≡ shows [] w.bit.0) × (p ≤ w.bit.0) × (w.bit.0 < p + 8)
+AlignsTo o b p (Err e) = read_align o b p ≡ stop (number_of e)
 
-pub align_run : (o : Order) (b : List ℕ) (p : ℕ) → AlignsTo o b p (aligned_at o b p)
-unfolding aligned_at
-align_run o b p = go (eqb (ub o b p (skipped p)) 0) refl
+pub align_told : (o : Order) (b : List ℕ) (p : ℕ) (a : Result Whole Reason) → aligned_as a ≡ read_align o b p → AlignsTo o b p a
+align_told o b p (Err e) h = sym h
+align_told o b p (Ok w) h = go (eqb (ub o b p (skipped p)) 0) refl
   where
-    go : (t : Bool) → eqb (ub o b p (skipped p)) 0 ≡ t → AlignsTo o b p (aligned_at o b p)
-    go true t = rw t (rw t, omega arith, omega arith, omega arith)
-    go false t = rw t (rw t)
+    go : (t : Bool) → eqb (ub o b p (skipped p)) 0 ≡ t → AlignsTo o b p (Ok w)
+    go true t = let k : w.bit.0 ≡ p + skipped p = let z : At w.bit.0 ≡ At (p + skipped p) = ap (λ (r : Reading). r.ended) (rw t at h) in cc in (sym h, omega arith, omega arith)
+    go false t = let z : At w.bit.0 ≡ Ending.Fault 15 = ap (λ (r : Reading). r.ended) (rw t at h) in clash cc
 
-pub align_clean : (o : Order) (b : List ℕ) (p : ℕ) {i : BytePlace} {q : BitPlace} → aligned_at o b p ≡ Clean i q → AlignsTo o b p (Clean i q)
-align_clean o b p e = subst (AlignsTo o b p) e (align_run o b p)
+-- ---- the order that a number names: that of the definitions; any other number is above 1
+abbrev pub Named : ℕ → Result Code Reason → Type 0
+Named n (Ok o) = (order_of o ≡ order_named n) × (n ≤ 1)
+Named n (Err e) = (e ≡ OrderUnknown) × (1 < n)
 
-pub align_unclean : (o : Order) (b : List ℕ) (p : ℕ) → aligned_at o b p ≡ Unclean → AlignsTo o b p Unclean
-align_unclean o b p e = subst (AlignsTo o b p) e (align_run o b p)
+named_by : (n : ℕ) → Named n (order_by n)
+named_by zero = (refl, omega arith)
+named_by (suc zero) = (refl, omega arith)
+named_by (suc (suc n)) = rw (ne_eqb (suc (suc n)) 0 (λ z. omega arith), ne_eqb (suc (suc n)) 1 (λ z. omega arith)) (refl, omega arith)
+
+pub order_told : (n : ℕ) {a : Result Code Reason} → a ≡ order_by n → Named n a
+order_told n e = subst (Named n) (sym e) (named_by n)
 
 -- ---- no second answer fits
-pub num_one : (a b : Got) → num_of a ≡ num_of b → a ≡ b
-num_one (Value v q) (Value w r) e =
-    let f : v ≡ w = cc in
-    let g : q.0 ≡ r.0 = cc in
-    ap₂ (λ (x y : ℕ). Value x (record { 0 = y })) f g
-num_one (Value v q) (Fault s) e = clash cc
-num_one (Fault s) (Value v q) e = clash cc
-num_one (Fault s) (Fault t) e = let f : s ≡ t = cc in ap Fault f
+pub num_one : (a b : Result Number Reason) → num_of a ≡ num_of b → a ≡ b
+num_one (Ok n) (Ok m) e =
+    let f : n.value ≡ m.value = cc in
+    let g : n.next.0 ≡ m.next.0 = cc in
+    ap₂ (λ (x y : ℕ). Ok (record { value = x; next = record { 0 = y } })) f g
+num_one (Ok n) (Err s) e = clash cc
+num_one (Err s) (Ok n) e = clash cc
+num_one (Err s) (Err t) e = let f : number_of s ≡ number_of t = cc in ap Err (number_one s t f)

@@ -1,20 +1,25 @@
 -- What the functions of this crate answer, in the words of the definitions.
-use Rattle.std.specs.Prelude.{ℕ, ◌+◌, ◌-◌, ◌*◌, ◌/◌, ◌%◌, ◌^◌, ◌<◌, ◌≤◌, List, length, ◌==◌, nat_lt}
+use Rattle.std.specs.Prelude.{ℕ, ◌+◌, ◌-◌, ◌*◌, ◌/◌, ◌%◌, ◌^◌, ◌<◌, ◌≤◌, List, [], length, ◌==◌, nat_lt, Result, Ok, Err}
 use Rattle.format.specs.Tests.{pick}
 use Rattle.format.specs.Bits as paper
-use Rattle.format.specs.Bits.{ub}
 use Rattle.format.specs.WritingItems.{below}
-use Rattle.format.specs.Items.{Num, num, bad, skipped, to_byte}
+use Rattle.format.specs.Items.{Num, num, bad}
+use Rattle.format.specs.Reading.{Reading, shows, stop}
 use Rattle.bits.specs.declared.Order.{Order}
 use Rattle.bits.specs.declared.Order.TheVariants.{HighFirst, LowFirst}
-use Rattle.bits.specs.declared.Aligned.{Aligned}
-use Rattle.bits.specs.declared.Aligned.TheVariants.{Clean, Unclean}
-use Rattle.bits.specs.declared.Got.{Got}
-use Rattle.bits.specs.declared.Got.TheVariants.{Value, Fault}
+use Rattle.bits.specs.declared.Number.{Number}
+use Rattle.bits.specs.declared.whole.Whole.{Whole}
+use Rattle.reasons.specs.declared.Reason.{Reason}
+use Rattle.reasons.specs.declared.Reason.TheVariants.{OrderUnknown}
+use Rattle.reasons.specs.Numbers.{number_of}
 
 abbrev pub order_of : Order → paper.Order
 order_of HighFirst = paper.high
 order_of LowFirst = paper.low
+
+-- the order that a number names, or the refusal of one that names none
+abbrev pub order_by : ℕ → Result Order Reason
+order_by n = pick (n == 0) (Ok HighFirst) (pick (n == 1) (Ok LowFirst) (Err OrderUnknown))
 
 -- what holds in either order, since it is about whole bytes
 abbrev pub InEither : (paper.Order → Type 0) → Type 0
@@ -43,11 +48,12 @@ with_sign z h v = pick (nat_lt (v + h) z) v (v + (2 ^ 64 - z))
 abbrev pub PlaceIn : List ℕ → ℕ → Type 0
 PlaceIn b p = (p ≤ 8 * length b) × (length b < 2 ^ 60)
 
--- the whole byte at or after the bit place p, in both counts, if the skipped bits are zero
-unfoldable pub aligned_at : paper.Order → List ℕ → ℕ → Aligned
-aligned_at o b p = pick (ub o b p (skipped p) == 0) (Clean (record { 0 = to_byte (p + skipped p) }) (record { 0 = p + skipped p })) Unclean
+-- an answer of `align` as the definitions have it
+abbrev pub aligned_as : Result Whole Reason → Reading
+aligned_as (Ok w) = shows [] w.bit.0
+aligned_as (Err e) = stop (number_of e)
 
 -- an answer of the code as the definitions have it
-abbrev pub num_of : Got → Num
-num_of (Value v q) = num v q.0
-num_of (Fault e) = bad e
+abbrev pub num_of : Result Number Reason → Num
+num_of (Ok n) = num n.value n.next.0
+num_of (Err e) = bad (number_of e)

@@ -6,7 +6,8 @@ ghost use Rattle.format.specs.FileAndTags.{le64};
 ghost use Rattle.format.specs.WritingItems.{below as below_of};
 ghost use Rattle.bits.specs.Places.{PlaceIn, num_of, order_of, turned_of, ordered_by, bit_of, with_sign};
 
-use crate::{BitPlace, Got, Order, wide};
+use crate::{BitPlace, Number, Order};
+use reasons::Reason;
 
 // n bits of x, with b bits below them.
 pub(crate) fn cut(x: u64, below: u64, width: u64) -> u64
@@ -31,11 +32,9 @@ pub fn few(bytes: &[u8]) -> u64
     requires { length bytes.now < 8 }
     ensures { (result ≡ field_at low bytes.now 0 64) × (result ≡ le64 bytes.now) }
 {
-    let mut left = bytes.len();
     let mut sum = 0;
-    while 0 < left {
-        left -= 1;
-        sum = sum * 256 + wide(bytes[left]);
+    for i in (0..bytes.len()).rev() {
+        sum = sum * 256 + u64::from(bytes[i]);
     }
     sum
 }
@@ -45,14 +44,14 @@ pub fn eight(bytes: &[u8], i: usize) -> u64
     requires { i + 8 ≤ length bytes.now }
     ensures { (result ≡ field_at low bytes.now (8 * i) 64) × (result ≡ le64 (drop i bytes.now)) }
 {
-    let b0 = wide(bytes[i]);
-    let b1 = wide(bytes[i + 1]);
-    let b2 = wide(bytes[i + 2]);
-    let b3 = wide(bytes[i + 3]);
-    let b4 = wide(bytes[i + 4]);
-    let b5 = wide(bytes[i + 5]);
-    let b6 = wide(bytes[i + 6]);
-    let b7 = wide(bytes[i + 7]);
+    let b0 = u64::from(bytes[i]);
+    let b1 = u64::from(bytes[i + 1]);
+    let b2 = u64::from(bytes[i + 2]);
+    let b3 = u64::from(bytes[i + 3]);
+    let b4 = u64::from(bytes[i + 4]);
+    let b5 = u64::from(bytes[i + 5]);
+    let b6 = u64::from(bytes[i + 6]);
+    let b7 = u64::from(bytes[i + 7]);
     ((((((b7 * 256 + b6) * 256 + b5) * 256 + b4) * 256 + b3) * 256 + b2) * 256 + b1) * 256 + b0
 }
 
@@ -82,13 +81,6 @@ fn cut_out(order: Order, x: u64, before: u64, width: u64) -> u64
     }
 }
 
-// The lesser of two numbers.
-fn lesser(a: usize, b: usize) -> usize
-    ensures { result ≡ min a b }
-{
-    if a < b { a } else { b }
-}
-
 // A field that stands in the bytes: it is cut out of the eight bytes from its first one on, or of the last eight, or of all if there are fewer.
 pub fn field(order: Order, bytes: &[u8], at: BitPlace, width: u64) -> u64
     requires { (at.0 + width ≤ 8 * length bytes.now) × (length bytes.now < 2 ^ 60) × (1 ≤ width) × (width ≤ 32) }
@@ -99,7 +91,7 @@ pub fn field(order: Order, bytes: &[u8], at: BitPlace, width: u64) -> u64
     if len < 8 {
         return cut_out(order, few(bytes), place as u64, width);
     }
-    let i = lesser(place / 8, len - 8);
+    let i = (place / 8).min(len - 8);
     cut_out(order, eight(bytes, i), (place - 8 * i) as u64, width)
 }
 
@@ -137,20 +129,25 @@ pub fn bit_of(order: Order, first: u64, place: u64) -> u64
     cut(first, bits_below(order, place, 39 - place), 1)
 }
 
-// UB[n]. A bit is always in one byte, so of a flag the bytes around it are not touched.
-pub fn read_ub(order: Order, bytes: &[u8], at: BitPlace, width: u64) -> Got
+// UB[n]; past the end of the bytes it is refused (13). A bit is always in one byte, so of a flag the bytes around it are not touched.
+pub fn read_ub(order: Order, bytes: &[u8], at: BitPlace, width: u64) -> Result<Number, Reason>
     requires { PlaceIn bytes.now at.0 × (1 ≤ width) × (width ≤ 32) }
     ensures { num_of result ≡ read_ub (order_of order) bytes.now at.0 width }
 {
     let place = at.0;
     let next = place + width as usize;
     if bytes.len() * 8 < next {
-        return Got::Fault(13);
+        return Err(Reason::ItemPastTheBody);
     }
-    if (place % 8) as u64 + width <= 8 {
-        return Got::Value(field_in_byte(order, bytes, at, width), BitPlace(next));
-    }
-    Got::Value(field(order, bytes, at, width), BitPlace(next))
+    let value = if (place % 8) as u64 + width <= 8 {
+        field_in_byte(order, bytes, at, width)
+    } else {
+        field(order, bytes, at, width)
+    };
+    Ok(Number {
+        value,
+        next: BitPlace(next),
+    })
 }
 
 // A number below `size`, the last so many of which are negative ones: those are kept modulo 2^64, by a difference that wraps. No branch, since signs are hard to foretell.
@@ -172,25 +169,25 @@ fn extend(value: u64, width: u64) -> u64
 }
 
 // SB[n].
-pub fn read_sb(order: Order, bytes: &[u8], at: BitPlace, width: u64) -> Got
+pub fn read_sb(order: Order, bytes: &[u8], at: BitPlace, width: u64) -> Result<Number, Reason>
     requires { PlaceIn bytes.now at.0 × (1 ≤ width) × (width ≤ 32) }
     ensures { num_of result ≡ read_sb (order_of order) bytes.now at.0 width }
 {
-    let got = read_ub(order, bytes, at, width);
-    match got {
-        Got::Value(value, next) => Got::Value(extend(value, width), next),
-        Got::Fault(why) => Got::Fault(why),
-    }
+    let Number { value, next } = read_ub(order, bytes, at, width)?;
+    Ok(Number {
+        value: extend(value, width),
+        next,
+    })
 }
 
 // A width: UB[5] plus 1.
-pub fn read_width(order: Order, bytes: &[u8], at: BitPlace) -> Got
+pub fn read_width(order: Order, bytes: &[u8], at: BitPlace) -> Result<Number, Reason>
     requires { PlaceIn bytes.now at.0 }
     ensures { num_of result ≡ read_width (order_of order) bytes.now at.0 }
 {
-    let got = read_ub(order, bytes, at, 5);
-    match got {
-        Got::Value(value, next) => Got::Value(value + 1, next),
-        Got::Fault(why) => Got::Fault(why),
-    }
+    let Number { value, next } = read_ub(order, bytes, at, 5)?;
+    Ok(Number {
+        value: value + 1,
+        next,
+    })
 }

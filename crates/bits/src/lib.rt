@@ -2,14 +2,17 @@
 #![tactic(auto)]
 
 ghost use Rattle.std.specs.Prelude.{◌≡◌, ◌+◌, ◌*◌, ◌^◌, ◌<◌, slice_index};
-ghost use Rattle.format.specs.Bits.{order_named};
-ghost use Rattle.format.specs.Items.{skipped};
-ghost use Rattle.bits.specs.Places.{PlaceIn, aligned_at, order_of};
+ghost use Rattle.format.specs.Items.{skipped, read_align};
+ghost use Rattle.bits.specs.Places.{PlaceIn, aligned_as, order_by, order_of};
 
 pub mod fields;
+mod whole;
+
+use reasons::Reason;
+pub use whole::Whole;
 
 // In which order bits are taken from a byte and joined to a field: from the highest on, or from the lowest.
-#[derive(Clone, Copy)]
+#[derive(Clone, Copy, Debug, PartialEq, Eq)]
 pub enum Order {
     HighFirst,
     LowFirst,
@@ -17,62 +20,48 @@ pub enum Order {
 
 // Bit places and byte places are counted apart, and only `next_byte` turns one into the other; `first_bit` is its way back. A place is counted from
 // the start of the bytes that it is a place in. To address the byte in which a bit stands is no conversion.
-#[derive(Clone, Copy)]
+#[derive(Clone, Copy, Debug, PartialEq, Eq)]
 pub struct BitPlace(pub usize);
 
-#[derive(Clone, Copy)]
+#[derive(Clone, Copy, Debug, PartialEq, Eq)]
 pub struct BytePlace(pub usize);
 
-// A whole byte, in both counts.
-#[derive(Clone, Copy)]
-pub struct Whole {
-    pub byte: BytePlace,
-    pub bit: BitPlace,
+// A number and the place after it.
+#[derive(Clone, Copy, Debug, PartialEq, Eq)]
+pub struct Number {
+    pub value: u64,
+    pub next: BitPlace,
 }
 
-// A whole byte, in both counts, after zero bits; or a skipped bit is not zero.
-#[derive(Clone, Copy)]
-pub enum Aligned {
-    Clean(BytePlace, BitPlace),
-    Unclean,
-}
+// The order that a call's number names: 0 is high first, 1 low first, and any other number is refused (24).
+impl TryFrom<u32> for Order {
+    type Error = Reason;
 
-// A number and the place after it, or a reason.
-#[derive(Clone, Copy)]
-pub enum Got {
-    Value(u64, BitPlace),
-    Fault(u32),
-}
+    ghost try_from_gives = { λ number given. given ≡ order_by number };
 
-// The order that a call's number names: 0 is high first, 1 low first. Any other number was refused before.
-pub fn order_named(number: u32) -> Order
-    ensures { order_of result ≡ order_named number }
-{
-    if number == 0 {
-        Order::HighFirst
-    } else {
-        Order::LowFirst
+    fn try_from(number: u32) -> Result<Order, Reason> {
+        match number {
+            0 => Ok(Order::HighFirst),
+            1 => Ok(Order::LowFirst),
+            _ => Err(Reason::OrderUnknown),
+        }
     }
 }
 
-// A byte as a number.
-pub fn wide(b: u8) -> u64
-    ensures { (result ≡ b) × (result < 256) }
-{
-    b as u64
-}
-
-// The byte at an index; past the end stand zeros.
+// The byte at an index as a number; past the end stand zeros.
 pub fn byte_at(bytes: &[u8], i: usize) -> u64
     ensures { (result ≡ slice_index bytes.now i) × (result < 256) }
 {
-    if i < bytes.len() { wide(bytes[i]) } else { 0 }
+    match bytes.get(i) {
+        Some(&byte) => u64::from(byte),
+        None => 0,
+    }
 }
 
 // The whole byte at or after a bit place.
 pub fn next_byte(at: BitPlace) -> Whole
     requires { at.0 < 2 ^ 63 }
-    ensures { (result.bit.0 ≡ at.0 + skipped at.0) × (result.bit.0 ≡ 8 * result.byte.0) }
+    ensures { result.bit.0 ≡ at.0 + skipped at.0 }
 {
     let place = at.0;
     let byte = place / 8;
@@ -97,26 +86,20 @@ pub fn first_bit(at: BytePlace) -> BitPlace
     BitPlace(8 * at.0)
 }
 
-// The next whole byte: the bits up to it are skipped, and zero.
-pub fn align(order: Order, bytes: &[u8], at: BitPlace) -> Aligned
+// The next whole byte: the bits up to it are skipped, and zero (15).
+pub fn align(order: Order, bytes: &[u8], at: BitPlace) -> Result<Whole, Reason>
     requires { PlaceIn bytes.now at.0 }
-    ensures { result ≡ aligned_at (order_of order) bytes.now at.0 }
+    ensures { aligned_as result ≡ read_align (order_of order) bytes.now at.0 }
 {
     let place = at.0;
     let used = place % 8;
     // Asked before the call: counted, it then costs no more than the shift that it stands for (docs/SPEED.md).
     if used == 0 {
-        let whole = next_byte(at);
-        let start = whole.byte;
-        let first = whole.bit;
-        return Aligned::Clean(start, first);
+        return Ok(next_byte(at));
     }
     let below = fields::bits_below(order, used as u64, 0);
     if fields::cut(byte_at(bytes, place / 8), below, (8 - used) as u64) != 0 {
-        return Aligned::Unclean;
+        return Err(Reason::SkippedBitNotZero);
     }
-    let whole = next_byte(at);
-    let start = whole.byte;
-    let first = whole.bit;
-    Aligned::Clean(start, first)
+    Ok(next_byte(at))
 }

@@ -1,218 +1,251 @@
 -- Whole bodies: their items, the skipped bits at their end, and what may follow.
-use Prim.Native.Nat.{ℕ, ◌+◌, ◌*◌, ◌^◌, ◌≤◌, ◌<◌}
-use mathlib.Core.List.{List, [], append-nil}
+use Prim.Native.Nat.{ℕ, ◌+◌, ◌*◌, ◌/◌, ◌%◌}
+use mathlib.Core.List.{List, [], ◌++◌, append-nil}
 use mathlib.Core.Bool.{Bool, true, false}
-use mathlib.Core.Path.{◌≡◌, refl, ap, sym, subst, ◌∙◌}
+use mathlib.Core.Path.{◌≡◌, refl, ap, ap₂, sym, subst, ◌∙◌}
 use native.Mathlib.Omega.{arith}
-use lib.ListN.{length, get_or}
-use lib.Seq.{sets}
+use lib.ListN.{length, get_or, take}
+use lib.Seq.{get_or-take}
 use lib.Dec.{eqb}
-use borrow.Author.Tests.{eq-eqb, ne_eqb, eqb-true, eqb-false}
+use borrow.Author.Tests.{eq-eqb, ne_eqb}
+use Rattle.std.proofs.Common.{Result, Ok, Err, Option, Some, None}
 use Rattle.format.specs.Tests.{pick}
-use Rattle.format.specs.Bits.{Order, ub}
+use Rattle.format.specs.Bits.{Order as PaperOrder, ub}
 use Rattle.format.specs.Reading.{Ending, At, Fault, Reading, shows, stop, follow}
+use Rattle.format.specs.Formats.{Format}
 use Rattle.format.specs.Items.{skipped, read_align, run}
 use Rattle.format.specs.Bodies.{Attribute, Body, all_flags, read_block, read_part, to_end, used_up, read_body}
-use Rattle.format.specs.WritingBodies.{write_part}
 use Rattle.format.proofs.Absurd.{clash}
-use Rattle.format.proofs.BodyLaws.{trip_part}
-use Rattle.format.proofs.Trip.{There, has_le}
-use Rattle.bits.specs.declared.BitPlace.{BitPlace}
+use Rattle.reasons.specs.declared.Reason.{Reason}
+use Rattle.reasons.specs.declared.Reason.TheVariants.{BodyNotUsedUp}
+use Rattle.reasons.proofs.NumberLaws.{number_one}
+use Rattle.reasons.specs.Numbers.{number_of}
+use Rattle.bits.specs.Places.{order_of}
 use Rattle.bits.specs.declared.BytePlace.{BytePlace}
+use Rattle.bits.specs.declared.Number.{Number}
+use Rattle.bits.specs.declared.Order.{Order}
 use Rattle.table.specs.State.{State, shown_over}
-use Rattle.table.specs.Run.{run_leaves}
-use Rattle.table.specs.declared.Run.{Run}
-use Rattle.table.specs.declared.Run.TheVariants as run
-use Rattle.table.proofs.EngineLaws.{state_eq}
+use Rattle.table.specs.Readers.{Reads, Same, state_of}
+use Rattle.table.specs.declared.reader.Reader.{Reader}
+use Rattle.table.proofs.EngineLaws.{state, resume, after_follow, after_none, one_stopped}
+use Rattle.table.proofs.ReaderLaws.{reading, same_refl, same_then}
 use Rattle.attributes.specs.Rows.{attributes_of}
+use Rattle.attributes.specs.Flags.{flags_as, FlagsRead}
+use Rattle.attributes.proofs.FlagLaws.{digit_at}
 use Rattle.fixed.specs.Fixed.{fixed_of}
 use Rattle.bodies.specs.Leaf.{is_block, body_by, leaf_body, group, container_body, has_list_in, own_part}
-use Rattle.bodies.specs.Shown.{shown_end, shown_leaves, is_open, opens, Shows, finished, Inside, end_by, end_after, Finishes}
-use Rattle.bodies.specs.declared.Shown.{Shown}
-use Rattle.bodies.specs.declared.Shown.TheVariants.{Done, Open, Stop}
-use Rattle.attributes.proofs.FlagLaws.{ended_is}
-use Rattle.bodies.proofs.ContentLaws.{block_stop}
+use Rattle.bodies.specs.Shown.{Lays, Opens, Shows}
 use Rattle.bodies.proofs.ListFlagLaws.{last_of, group_last}
 
+-- ---- a reading that is laid over a table
+module _ {A : Type 0} {a b : Reader} {r : Result A Reason} where
+  pub lays_as : {R S : Reading} → R ≡ S → Lays a b r R → Lays a b r S
+  lays_as e h = record { same = h.same; left = h.left ∙ ap (shown_over a.table.now a.index) e }
+
+  pub reads_lays : {f : Format} → Reads a b r f → Lays a b r (reading a f)
+  reads_lays h = record { same = h.same; left = h.left }
+
+  module _ {R : Reading} (h : Lays a b r R) where
+    -- another answer that ends alike
+    pub lays_ok : {B : Type 0} {x : A} (y : B) → r ≡ Ok x → Lays a b (Ok y) R
+    lays_ok y e = record { same = h.same; left = ap (state_of b) (sym e) ∙ h.left }
+
+    pub lays_err : {B : Type 0} {s : Result B Reason} {e : Reason} → r ≡ Err e → s ≡ Err e → Lays a b s R
+    lays_err {s = s} e d = record { same = h.same; left = ap (state_of b) d ∙ ap (state_of b) (sym e) ∙ h.left }
+
+    -- and what follows it, from there
+    module _ (g : List ℕ → ℕ → Reading) where
+      pub then_lays : {B : Type 0} {s : Result B Reason} {c : Reader} {x : A} → r ≡ Ok x → Lays b c s (g R.shown b.place.0) → Lays a c s (follow R.shown R.ended g)
+      unfolding shown_over
+      then_lays e k = record {
+        same = same_then h.same k.same;
+        left = k.left ∙ ap (λ (s : State). resume s.table s.count s.ended (g R.shown)) (ap (state_of b) (sym e) ∙ h.left) ∙ sym (after_follow a.table.now a.index R.shown R.ended g);
+      }
+
+      pub stop_lays : {B : Type 0} {s : Result B Reason} {e : Reason} → r ≡ Err e → s ≡ Err e → Lays a b s (follow R.shown R.ended g)
+      unfolding shown_over
+      stop_lays e d = record {
+        same = h.same;
+        left = ap (state_of b) d ∙ ap (λ (s : State). resume s.table s.count s.ended (g R.shown)) (ap (state_of b) (sym e) ∙ h.left) ∙ sym (after_follow a.table.now a.index R.shown R.ended g);
+      }
+
+-- nothing was shown, and the place is the next; or it was refused
+pub lays_none : {A : Type 0} {a b : Reader} {x : A} {R : Reading} → Same a b → b.table.now ≡ a.table.now → b.index ≡ a.index → R ≡ shows [] b.place.0 → Lays a b (Ok x) R
+lays_none {a = a} {b = b} h t i e = record { same = h; left = ap₂ (λ (u : List ℕ) (j : ℕ). state u j (At b.place.0)) t i ∙ sym (ap (shown_over a.table.now a.index) e ∙ after_none a.table.now a.index b.place.0) }
+
+pub lays_never : {A : Type 0} {a : Reader} {r : Result A Reason} {e : Reason} {R : Reading} → r ≡ Err e → R ≡ stop (number_of e) → Lays a a r R
+lays_never {a = a} d h = record { same = same_refl a; left = ap (state_of a) d ∙ one_stopped a.table.now a.index h }
+
 -- ---- the items, by the code
-module _ (o : Order) (b t : List ℕ) (k code : ℕ) {block : Bool} {x : State} where
-  pub part_block : {attrs : List Attribute} → block ≡ true → attrs ≡ attributes_of code → x ≡ shown_over t k (read_block o b attrs 0) → x ≡ shown_over t k (read_part o b (body_by block code) 0)
+module _ {A : Type 0} {a b : Reader} {r : Result A Reason} (code : ℕ) {block : Bool} where
+  pub part_block : {attrs : List Attribute} → block ≡ true → attrs ≡ attributes_of code → Lays a b r (read_block (order_of a.order) a.body.now attrs 0) → Lays a b r (read_part (order_of a.order) a.body.now (body_by block code) 0)
   unfolding read_part
-  part_block c e h = rw c (h ∙ ap (λ (l : List Attribute). shown_over t k (read_block o b l 0)) e)
+  part_block c e = lays_as (rw (c, e))
 
-  pub part_fixed : block ≡ false → x ≡ shown_over t k (run o b (fixed_of code) 0) → x ≡ shown_over t k (read_part o b (body_by block code) 0)
+  pub part_fixed : block ≡ false → a.place.0 ≡ 0 → Reads a b r (fixed_of code) → Lays a b r (read_part (order_of a.order) a.body.now (body_by block code) 0)
   unfolding read_part
-  part_fixed c h = rw c h
-
--- the items end in the body
-part_le : (o : Order) (y : Body) (b : List ℕ) (q : ℕ) → (read_part o b y 0).ended ≡ At q → q ≤ 8 * length b
-part_le o y b q e =
-    let u : There o b 0 q (read_part o b y 0).shown (λ ns p. write_part o y ns p) = rw e at ((trip_part o y).there b 0 (omega arith)) in
-    omega (arith, u.ends, has_le o b 0 u.bits u.has)
-
-pub part_inside : (o : Order) (b t : List ℕ) (k : ℕ) (y : Body) {u : List ℕ} (items : Run) → run_leaves u items ≡ shown_over t k (read_part o b y 0) → length b < 2 ^ 60 → Inside b items
-unfolding shown_over
-part_inside o b t k y (run.Done p j) e h = (part_le o y b p.0 (sym (ap (λ (s : State). s.ended) e)), h)
-part_inside o b t k y (run.Stop x j) e h = tt
+  part_fixed c z h = lays_as (rw (c, z)) (reads_lays h)
 
 -- ---- after the items
-module _ (o : Order) (b : List ℕ) {items : Run} (list : Bool) where
-  pub finish_stop : {e k : ℕ} → items ≡ run.Stop e k → Finishes o b items list (Stop e k)
-  finish_stop is = rw is (record { index = refl; ended = refl; opened = refl })
+abbrev pub end_at : PaperOrder → List ℕ → ℕ → Reading
+end_at o b p = used_up (8 * length b) (read_align o b p).shown (read_align o b p).ended
 
-  pub finish_unclean : {q : BitPlace} {k : ℕ} → items ≡ run.Done q k → read_align o b q.0 ≡ stop 15 → Finishes o b items list (Stop 15 k)
-  finish_unclean is a = rw is (record { index = refl; ended = rw a; opened = refl })
+-- a body without a list is read as its items and then its end
+body_is : (o : PaperOrder) (b : List ℕ) (y : Body) → read_body o y b ≡ follow (read_part o b y 0).shown (read_part o b y 0).ended (λ xs p. end_at o b p)
+unfolding read_body
+body_is o b y = go (read_part o b y 0).shown (read_part o b y 0).ended
+  where
+    both : (xs ys : List ℕ) (z : Ending) → used_up (8 * length b) (xs ++ ys) z ≡ record { shown = xs ++ (used_up (8 * length b) ys z).shown; ended = (used_up (8 * length b) ys z).ended }
+    both xs ys (At q) = refl
+    both xs ys (Fault e) = refl
 
-  -- at the byte i
-  pub finish_byte : {q : BitPlace} {k n : ℕ} (i : BytePlace) {s : Shown} → items ≡ run.Done q k → read_align o b q.0 ≡ shows [] n → n ≡ 8 * i.0 → s ≡ finished list (length b) i k → Finishes o b items list s
-  finish_byte {q} {k} {n} i {s} is a d e = rw (is, e) (go list (eqb i.0 (length b)) refl)
-    where
-      same : (c : Bool) → eqb i.0 (length b) ≡ c → eqb n (8 * length b) ≡ c
-      same true v = eq-eqb n (8 * length b) (omega (arith, eqb-true i.0 (length b) v))
-      same false v = ne_eqb n (8 * length b) (λ z. eqb-false i.0 (length b) v (omega (arith, z)))
+    go : (xs : List ℕ) (z : Ending) → used_up (8 * length b) (follow xs z (λ xs p. read_align o b p)).shown (follow xs z (λ xs p. read_align o b p)).ended ≡ follow xs z (λ xs p. end_at o b p)
+    go xs (At p) = both xs (read_align o b p).shown (read_align o b p).ended
+    go xs (Fault e) = refl
 
-      go : (l c : Bool) → eqb i.0 (length b) ≡ c → Finishes o b (run.Done q k) l (pick l (Open i k) (pick c (Done i k) (Stop 18 k)))
-      go true c v = record { index = refl; ended = rw (a, d); opened = refl }
-      go false true v = record { index = refl; ended = rw (a, same true v, d); opened = refl }
-      go false false v = record { index = refl; ended = rw (a, same false v); opened = refl }
+-- what was laid of a reading, judged at the end of n bits
+abbrev judged : ℕ → Ending → Ending
+judged n (At p) = pick (eqb p n) (At p) (Fault 18)
+judged n (Fault e) = Fault e
+
+judged_over : (t : List ℕ) (k n : ℕ) (xs : List ℕ) (z : Ending) → shown_over t k (used_up n xs z) ≡ state (shown_over t k (record { shown = xs; ended = z })).table (shown_over t k (record { shown = xs; ended = z })).count (judged n (shown_over t k (record { shown = xs; ended = z })).ended)
+unfolding shown_over
+judged_over t k n xs (At p) = refl
+judged_over t k n xs (Fault e) = refl
+
+-- the next whole byte is the end of the body; or it is not; or there was none
+module _ {a b : Reader} {r : Result BytePlace Reason} (h : Lays a b r (read_align (order_of a.order) a.body.now a.place.0)) where
+  abbrev end_here : Reading
+  end_here = end_at (order_of a.order) a.body.now a.place.0
+
+  ends : {s : Result Unit Reason} → state_of b s ≡ state b.table.now b.index (judged (8 * length a.body.now) (state_of b r).ended) → Lays a b s end_here
+  ends e = record {
+    same = h.same;
+    left = e ∙ ap (λ (s : State). state s.table s.count (judged (8 * length a.body.now) s.ended)) h.left
+        ∙ sym (judged_over a.table.now a.index (8 * length a.body.now) (read_align (order_of a.order) a.body.now a.place.0).shown (read_align (order_of a.order) a.body.now a.place.0).ended);
+  }
+
+  pub end_err : {s : Result Unit Reason} {e : Reason} → r ≡ Err e → s ≡ Err e → Lays a b s end_here
+  end_err z d = ends (rw (z, d))
+
+  module _ {q : BytePlace} (z : r ≡ Ok q) (at : b.place.0 ≡ 8 * q.0) where
+    pub end_in : q.0 ≡ length b.body.now → Lays a b (Ok (tt {0})) end_here
+    end_in l = ends (rw (z, eq-eqb b.place.0 (8 * length a.body.now) (omega (arith, at, l, ap length h.same.body))))
+
+    pub end_over : (q.0 ≡ length b.body.now → ⊥) → Lays {A = Unit {0}} a b (Err BodyNotUsedUp) end_here
+    end_over n = ends (rw (z, ne_eqb b.place.0 (8 * length a.body.now) (λ e. n (omega (arith, at, e, ap length h.same.body)))))
 
 -- ---- so a body is read
-module _ (o : Order) (b : List ℕ) (y : Body) where
-  end_shown : (to_end o b y).shown ≡ (read_part o b y 0).shown
-  end_shown = go (read_part o b y 0).shown (read_part o b y 0).ended
-    where
-      skip : (xs : List ℕ) (p : ℕ) (c : Bool) → (follow xs (At p) (λ xs p. pick c (shows [] (p + skipped p)) (stop 15))).shown ≡ xs
-      skip xs p true = append-nil xs
-      skip xs p false = append-nil xs
-
-      go : (xs : List ℕ) (z : Ending) → (follow xs z (λ xs p. read_align o b p)).shown ≡ xs
-      go xs (At p) = skip xs p (eqb (ub o b p (skipped p)) 0)
-      go xs (Fault e) = refl
+module _ {A : Type 0} {a b : Reader} {r : Result A Reason} (y : Body) (h : Lays a b r (read_part (order_of a.order) a.body.now y 0)) where
+  abbrev o : PaperOrder
+  o = order_of a.order
 
   -- with a list, and without one
   abbrev pub either : Bool → Reading
-  either list = pick list (to_end o b y) (read_body o y b)
+  either list = pick list (to_end o a.body.now y) (read_body o y a.body.now)
 
-  either_shown : (list : Bool) → (either list).shown ≡ (read_part o b y 0).shown
-  unfolding read_body
-  either_shown true = end_shown
-  either_shown false = go (to_end o b y).ended ∙ end_shown
-    where
-      go : (z : Ending) → (used_up (8 * length b) (to_end o b y).shown z).shown ≡ (to_end o b y).shown
-      go (At p) = refl
-      go (Fault e) = refl
+  pub open_lays : {B : Type 0} {s : Result B Reason} {c : Reader} {x : A} → r ≡ Ok x → Lays b c s (read_align (order_of b.order) b.body.now b.place.0) → Lays a c s (to_end o a.body.now y)
+  open_lays e k = then_lays h (λ xs p. read_align o a.body.now p) e
+      (lays_as (ap₂ (λ (u : Order) (z : List ℕ). read_align (order_of u) z b.place.0) h.same.order h.same.body) k)
 
-  either_ended : (list : Bool) → (either list).ended ≡ end_after o b list (read_part o b y 0).ended
-  unfolding read_body
-  either_ended list = go list (read_part o b y 0).shown (read_part o b y 0).ended
-    where
-      used : (xs : List ℕ) (z : Ending) → (used_up (8 * length b) xs z).ended ≡ end_by false (8 * length b) z
-      used xs (At p) = refl
-      used xs (Fault e) = refl
-
-      listed : (z : Ending) → z ≡ end_by true (8 * length b) z
-      listed (At p) = refl
-      listed (Fault e) = refl
-
-      after : List ℕ → Ending → Reading
-      after xs z = follow xs z (λ xs p. read_align o b p)
-
-      go : (list : Bool) (xs : List ℕ) (z : Ending) → (pick list (after xs z) (used_up (8 * length b) (after xs z).shown (after xs z).ended)).ended ≡ end_after o b list z
-      go true xs (At p) = listed (read_align o b p).ended
-      go true xs (Fault e) = refl
-      go false xs (At p) = used _ (read_align o b p).ended
-      go false xs (Fault e) = refl
-
-  -- by what was read of its items
-  module _ (t : List ℕ) (k : ℕ) {u : List ℕ} (items : Run) (list : Bool) {s : Shown} (read : run_leaves u items ≡ shown_over t k (read_part o b y 0)) (done : Finishes o b items list s) where
-    pub body_shows : Shows t k (either list) list u s
-    unfolding shown_over
-    body_shows =
-        let z : shown_end s ≡ (either list).ended = done.ended ∙ ap (λ (s : State). end_after o b list s.ended) read ∙ sym (either_ended list) in
-        record {
-          left = state_eq (ap (λ (s : State). s.table) read ∙ ap (sets t k) (sym (either_shown list)))
-              (done.index ∙ ap (λ (s : State). s.count) read ∙ rw (either_shown list)) z;
-          opened = done.opened ∙ ap (opens list) z;
-        }
+  pub leaf_lays : {B : Type 0} {s : Result B Reason} {c : Reader} {x : A} → r ≡ Ok x → Lays b c s (end_at (order_of b.order) b.body.now b.place.0) → Lays a c s (read_body o y a.body.now)
+  leaf_lays e k = lays_as (sym (body_is o a.body.now y))
+      (then_lays h (λ xs p. end_at o a.body.now p) e (lays_as (ap₂ (λ (u : Order) (z : List ℕ). end_at (order_of u) z b.place.0) h.same.order h.same.body) k))
 
   -- refused before its end, it is the same both ways
-  module _ {e : ℕ} (cut : (read_part o b y 0).ended ≡ Fault e) where
-    either_cut : (list : Bool) → (either list).ended ≡ Fault e
-    either_cut list = either_ended list ∙ ap (end_after o b list) cut
+  pub either_stop : {B : Type 0} {s : Result B Reason} {e : Reason} (list : Bool) → r ≡ Err e → s ≡ Err e → Lays a b s (either list)
+  either_stop true e d = stop_lays h (λ xs p. read_align o a.body.now p) e d
+  either_stop false e d = lays_as (sym (body_is o a.body.now y)) (stop_lays h (λ xs p. end_at o a.body.now p) e d)
 
-    either_one : (l m : Bool) → either l ≡ either m
-    either_one l m = λ i. record { shown = (either_shown l ∙ sym (either_shown m)) i; ended = (either_cut l ∙ sym (either_cut m)) i }
+  -- whether its list is still to be read
+  pub part_stop : {s : Result (Option BytePlace) Reason} {e : Reason} (list : Bool) → r ≡ Err e → s ≡ Err e → Shows a b s (either list) list
+  part_stop list e d = record { lays = either_stop list e d; opened = rw d tt }
 
-    shows_either : (t : List ℕ) (k : ℕ) {u : List ℕ} {s : Shown} (l m : Bool) → Shows t k (either l) l u s → Shows t k (either m) m u s
-    shows_either t k l m h = record {
-      left = h.left ∙ ap (shown_over t k) (either_one l m);
-      opened = h.opened ∙ ap (opens l) (either_cut l) ∙ sym (ap (opens m) (either_cut m));
-    }
+  module _ {x : A} (e : r ≡ Ok x) {list : Bool} where
+    module _ {c : Reader} {s : Result BytePlace Reason} (is : list ≡ true) (k : Lays b c s (read_align (order_of b.order) b.body.now b.place.0)) where
+      pub open_shows : {q : BytePlace} → s ≡ Ok q → c.place.0 ≡ 8 * q.0 → Shows a c (Ok (Some q)) (either list) list
+      open_shows {q} z at = rw is (record { lays = lays_ok (open_lays e k) (Some q) z; opened = (refl, at) })
+
+      pub open_stop : {t : Result (Option BytePlace) Reason} {n : Reason} → s ≡ Err n → t ≡ Err n → Shows a c t (either list) list
+      open_stop z d = rw is (record { lays = lays_err (open_lays e k) z d; opened = rw d tt })
+
+    module _ {c : Reader} {s : Result Unit Reason} (is : list ≡ false) (k : Lays b c s (end_at (order_of b.order) b.body.now b.place.0)) where
+      pub closed_shows : {u : Unit} → s ≡ Ok u → Shows a c (Ok None) (either list) list
+      closed_shows z = rw is (record { lays = lays_ok (leaf_lays e k) None z; opened = refl })
+
+      pub closed_stop : {t : Result (Option BytePlace) Reason} {n : Reason} → s ≡ Err n → t ≡ Err n → Shows a c t (either list) list
+      closed_stop z d = rw is (record { lays = lays_err (leaf_lays e k) z d; opened = rw d tt })
 
 -- ---- by the code
-module _ (o : Order) (b t : List ℕ) (k code : ℕ) {u : List ℕ} (items : Run) {s : Shown} where
-  -- a leaf
-  pub leaf_shows : (block : Bool) → run_leaves u items ≡ shown_over t k (read_part o b (body_by block code) 0) → Finishes o b items false s → Shows t k (read_body o (body_by block code) b) false u s
-  leaf_shows block h done = body_shows o b (body_by block code) t k items false h done
-
-  -- a container with items
-  pub items_shows : (code ≡ 15 → ⊥) → run_leaves u items ≡ shown_over t k (read_part o b (body_by false code) 0) → Finishes o b items true s
-      → Shows t k (own_part o (container_body code) b) (has_list_in o (container_body code) b) u s
-  unfolding container_body
-  items_shows z h done = rw (ne_eqb code 15 z) (body_shows o b (body_by false code) t k items true h done)
-
 -- a leaf by its code alone
-pub leaf_code : (o : Order) (b t : List ℕ) (k code : ℕ) {u : List ℕ} {s : Shown} {block : Bool} → block ≡ is_block code → Shows t k (read_body o (body_by block code) b) false u s → Shows t k (read_body o (leaf_body code) b) false u s
+pub leaf_code : {a b : Reader} {r : Result Unit Reason} (code : ℕ) {block : Bool} → block ≡ is_block code → Lays a b r (read_body (order_of a.order) (body_by block code) a.body.now) → Lays a b r (read_body (order_of a.order) (leaf_body code) a.body.now)
 unfolding leaf_body
-leaf_code o b t k code {u} {s} e h = subst (λ (v : Bool). Shows t k (read_body o (body_by v code) b) false u s) e h
+leaf_code {a} {b} {r} code e h = subst (λ (v : Bool). Lays a b r (read_body (order_of a.order) (body_by v code) a.body.now)) e h
 
-pub container_group : (o : Order) (b t : List ℕ) (k code : ℕ) {u : List ℕ} {s : Shown} → code ≡ 15 → Shows t k (own_part o group b) (has_list_in o group b) u s
-    → Shows t k (own_part o (container_body code) b) (has_list_in o (container_body code) b) u s
-unfolding container_body
-container_group o b t k code z h = rw (eq-eqb code 15 z) h
+module _ {a b : Reader} {r : Result (Option BytePlace) Reason} (code : ℕ) where
+  pub container_group : code ≡ 15 → Shows a b r (own_part (order_of a.order) group a.body.now) (has_list_in (order_of a.order) group a.body.now)
+      → Shows a b r (own_part (order_of a.order) (container_body code) a.body.now) (has_list_in (order_of a.order) (container_body code) a.body.now)
+  unfolding container_body
+  container_group z h = rw (eq-eqb code 15 z) h
 
--- a group, whose flags were read into f
-pub group_shows : (o : Order) (b t : List ℕ) (k : ℕ) {u φs : List ℕ} {p : ℕ} (items : Run) {list : Bool} {s : Shown} (attrs : List Attribute) → attrs ≡ attributes_of 15
-    → run o b (all_flags attrs) 0 ≡ shows φs p → run_leaves u items ≡ shown_over t k (read_block o b attrs 0) → list ≡ eqb (get_or φs 8 0) 1 → Finishes o b items list s
-    → Shows t k (own_part o group b) (has_list_in o group b) u s
-unfolding attributes_of read_part
-group_shows o b t k {u} {φs} items {list} {s} attrs is flags h flag done = go (read_part o b group 0).ended refl
+  -- others have a list always
+  pub container_items : (code ≡ 15 → ⊥) → Shows a b r (to_end (order_of a.order) a.body.now (body_by false code)) true
+      → Shows a b r (own_part (order_of a.order) (container_body code) a.body.now) (has_list_in (order_of a.order) (container_body code) a.body.now)
+  unfolding container_body
+  container_items z h = rw (ne_eqb code 15 z) h
+
+-- ---- a group: its flags are n, and it has a list where digit 8 is set
+end_shown : (o : PaperOrder) (b : List ℕ) (y : Body) → (to_end o b y).shown ≡ (read_part o b y 0).shown
+end_shown o b y = go (read_part o b y 0).shown (read_part o b y 0).ended
   where
-    shown : Shows t k (either o b group list) list u s
-    shown = body_shows o b group t k items list (h ∙ ap (λ (l : List Attribute). shown_over t k (read_block o b l 0)) is) done
+    skip : (xs : List ℕ) (p : ℕ) (c : Bool) → (follow xs (At p) (λ xs p. pick c (shows [] (p + skipped p)) (stop 15))).shown ≡ xs
+    skip xs p true = append-nil xs
+    skip xs p false = append-nil xs
 
-    go : (z : Ending) → (read_part o b group 0).ended ≡ z → Shows t k (own_part o group b) (has_list_in o group b) u s
-    go (Fault e) z = shows_either o b group z t k list (has_list_in o group b) shown
-    go (At q) z =
-        let last : get_or φs 8 0 ≡ last_of (read_part o b group 0).shown = group_last o b 0 q (ap (λ (l : List Attribute). run o b (all_flags l) 0) (sym is) ∙ flags) z in
-        let e : list ≡ has_list_in o group b = flag ∙ ap (λ (n : ℕ). eqb n 1) (last ∙ ap last_of (sym (end_shown o b group))) in
-        subst (λ (l : Bool). Shows t k (either o b group l) l u s) e shown
+    go : (xs : List ℕ) (z : Ending) → (follow xs z (λ xs p. read_align o b p)).shown ≡ xs
+    go xs (At p) = skip xs p (eqb (ub o b p (skipped p)) 0)
+    go xs (Fault e) = refl
 
--- its flags were not read
-pub group_stops : (o : Order) (b t : List ℕ) (k : ℕ) {e : ℕ} (attrs : List Attribute) → attrs ≡ attributes_of 15 → (run o b (all_flags attrs) 0).ended ≡ Fault e
-    → Shows t k (own_part o group b) (has_list_in o group b) t (Stop e k)
+pub group_part : {A : Type 0} {a b : Reader} {r : Result A Reason} {rows : List Attribute} → rows ≡ attributes_of 15 → Lays a b r (read_block (order_of a.order) a.body.now rows 0) → Lays a b r (read_part (order_of a.order) a.body.now group 0)
 unfolding attributes_of read_part
-group_stops o b t k {e} attrs is f =
-    let h : run_leaves t (run.Stop e k) ≡ shown_over t k (read_part o b group 0) = block_stop o b t k 0 attrs f ∙ ap (λ (l : List Attribute). shown_over t k (read_block o b l 0)) is in
-    shows_either o b group (ended_is t k (read_part o b group 0) h) t k false (has_list_in o group b) (body_shows o b group t k (run.Stop e k) false h (finish_stop o b false refl))
+group_part is = lays_as (rw is)
 
--- ---- no second answer fits a promise on the values of a tag: what was left, seen as a state, tells the table; and with whether a list follows, the answer
-pub one_shown : (t u : List ℕ) (a b : Shown) → shown_leaves t a ≡ shown_leaves u b → is_open a ≡ is_open b → (t ≡ u) × (a ≡ b)
-one_shown t u a b e l = (ap (λ (s : State). s.table) e, go a b (ap (λ (s : State). s.count) e) (ap (λ (s : State). s.ended) e) l)
+pub group_list : {a b : Reader} {n : Number} {r : Result Number Reason} (rows : List Attribute) (count : ℕ) → rows ≡ attributes_of 15 → count ≡ length rows → Lays a b r (read_block (order_of a.order) a.body.now rows 0) → r ≡ Ok n
+    → FlagsRead count (run (order_of a.order) a.body.now (all_flags rows) 0) (Ok n) → has_list_in (order_of a.order) group a.body.now ≡ eqb (n.value / 16777216 % 8) 1
+unfolding attributes_of read_part shown_over
+group_list {a} {b} {n} {r} rows count is many h e flags =
+    let nine : count ≡ 9 = many ∙ ap length is in
+    let o : PaperOrder = order_of a.order in
+    let ended : (read_block o a.body.now rows 0).ended ≡ At b.place.0 = sym (ap (λ (s : State). s.ended) (ap (state_of b) (sym e) ∙ h.left)) in
+    let digit : n.value / 16777216 % 8 ≡ get_or (take count (flags_as n.value)) 8 0 = sym (rw nine (get_or-take 9 (flags_as n.value) 8 0 (omega arith) ∙ digit_at n.value 8 12 (omega arith))) in
+    let last : get_or (take count (flags_as n.value)) 8 0 ≡ last_of (read_part o a.body.now group 0).shown = group_last o a.body.now 0 b.place.0 (ap (λ (l : List Attribute). run o a.body.now (all_flags l) 0) (sym is) ∙ flags.0) (ap (λ (l : List Attribute). (read_block o a.body.now l 0).ended) (sym is) ∙ ended) in
+    ap (λ (v : ℕ). eqb v 1) (ap last_of (end_shown o a.body.now group) ∙ sym (digit ∙ last))
+
+-- ---- no second answer fits a promise on the values of a tag: what was left, seen as a state, tells the table, the index and the answer; with whether a list follows, the place of that
+pub one_laid : {a b c : Reader} {r s : Result Unit Reason} {R : Reading} → Lays a b r R → Lays a c s R → (b.table.now ≡ c.table.now) × (b.index ≡ c.index) × (r ≡ s)
+one_laid {a} {b} {c} {r} {s} h k =
+    let e : state_of b r ≡ state_of c s = h.left ∙ sym k.left in
+    (ap (λ (s : State). s.table) e, ap (λ (s : State). s.count) e, go r s (ap (λ (s : State). s.ended) e))
   where
-    go : (a b : Shown) → (shown_leaves t a).count ≡ (shown_leaves u b).count → (shown_leaves t a).ended ≡ (shown_leaves u b).ended → is_open a ≡ is_open b → a ≡ b
-    go (Done p k) (Done q j) c z l =
-        let m : 8 * p.0 ≡ 8 * q.0 = cc in
-        let d : p.0 ≡ q.0 = omega arith in
-        λ i. Done (record { 0 = d i }) (c i)
-    go (Open p k) (Open q j) c z l =
-        let m : 8 * p.0 ≡ 8 * q.0 = cc in
-        let d : p.0 ≡ q.0 = omega arith in
-        λ i. Open (record { 0 = d i }) (c i)
-    go (Stop r k) (Stop z' j) c z l = let d : r ≡ z' = cc in λ i. Stop (d i) (c i)
-    go (Done p k) (Open q j) c z l = clash cc
-    go (Done p k) (Stop r j) c z l = clash cc
-    go (Open p k) (Done q j) c z l = clash cc
-    go (Open p k) (Stop r j) c z l = clash cc
-    go (Stop r k) (Done q j) c z l = clash cc
-    go (Stop r k) (Open q j) c z l = clash cc
+    go : (r s : Result Unit Reason) → (state_of b r).ended ≡ (state_of c s).ended → r ≡ s
+    go (Ok x) (Ok y) z = refl
+    go (Err x) (Err y) z = ap Err (number_one x y (let d : number_of x ≡ number_of y = cc in d))
+    go (Ok x) (Err y) z = clash cc
+    go (Err x) (Ok y) z = clash cc
+
+pub one_shown : {a b c : Reader} {r s : Result (Option BytePlace) Reason} {R : Reading} {list : Bool} → Shows a b r R list → Shows a c s R list → (b.table.now ≡ c.table.now) × (b.index ≡ c.index) × (r ≡ s)
+one_shown {a} {b} {c} {r} {s} {R} {list} h k =
+    let e : state_of b r ≡ state_of c s = h.lays.left ∙ sym k.lays.left in
+    (ap (λ (s : State). s.table) e, ap (λ (s : State). s.count) e, go r s (ap (λ (s : State). s.ended) e) h.opened k.opened)
+  where
+    go : (r s : Result (Option BytePlace) Reason) → (state_of b r).ended ≡ (state_of c s).ended → Opens list b.place.0 r → Opens list c.place.0 s → r ≡ s
+    go (Ok (Some p)) (Ok (Some q)) z h k =
+        let m : b.place.0 ≡ c.place.0 = cc in
+        let d : p.0 ≡ q.0 = omega (arith, h.1, k.1, m) in
+        λ i. Ok (Some (record { 0 = d i }))
+    go (Ok None) (Ok None) z h k = refl
+    go (Ok (Some p)) (Ok None) z h k = let e : true ≡ false = sym h.0 ∙ k in clash cc
+    go (Ok None) (Ok (Some q)) z h k = let e : true ≡ false = sym k.0 ∙ h in clash cc
+    go (Err x) (Err y) z h k = ap Err (number_one x y (let d : number_of x ≡ number_of y = cc in d))
+    go (Ok x) (Err y) z h k = clash cc
+    go (Err x) (Ok y) z h k = clash cc

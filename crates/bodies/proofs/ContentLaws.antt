@@ -1,11 +1,12 @@
 -- Attribute blocks: an attribute's content by its kind and flag number, and the rows of a block one after the other.
-use Prim.Native.Nat.{ℕ, zero, suc, ◌+◌, ◌-◌, ◌*◌, ◌≤◌, ◌<◌}
+use Prim.Native.Nat.{ℕ, suc, ◌+◌, ◌-◌, ◌*◌, ◌^◌, ◌≤◌, ◌<◌}
 use mathlib.Core.List.{List, [], ◌∷◌}
 use mathlib.Core.Path.{◌≡◌, refl, ap, ap₂, sym, ◌∙◌}
 use native.Mathlib.Numerals.{add-one}
 use native.Mathlib.Omega.{arith}
-use lib.ListN.{length, get_or, take}
+use lib.ListN.{length, get_or, take, drop, set}
 use lib.Seq.{slice, slice-cons}
+use Rattle.std.proofs.Common.{Result, Ok, Err}
 use Rattle.format.specs.Bits.{Order}
 use Rattle.format.specs.Reading.{At, Fault, Reading, shows}
 use Rattle.format.specs.Formats.{Item, Format, nothing, item, ◌▸◌}
@@ -14,25 +15,27 @@ use Rattle.format.specs.Bodies as bodies
 use Rattle.format.specs.Bodies.{content, rows, all_flags, read_block}
 use Rattle.format.proofs.SizeLaws.{Fair, FairEnd, fair_echo, fair_then, fair_content}
 use Rattle.format.proofs.WalkLaws.{run_le}
+use Rattle.reasons.specs.declared.Reason.{Reason}
+use Rattle.reasons.specs.Numbers.{number_of}
+use Rattle.bits.specs.Places.{order_of}
 use Rattle.bits.specs.declared.BitPlace.{BitPlace}
+use Rattle.bits.specs.declared.Number.{Number}
 use Rattle.table.specs.State.{State, shown_over}
-use Rattle.table.specs.Run.{run_leaves}
-use Rattle.table.specs.Fields.{Fits}
-use Rattle.table.specs.declared.Run.{Run}
-use Rattle.table.specs.declared.Run.TheVariants.{Done, Stop}
-use Rattle.table.proofs.EngineLaws.{state, after_none, after_stop, alike_assoc}
-use Rattle.table.proofs.RunLaws.{run_done, run_stop}
-use Rattle.attributes.specs.Rows.{attribute_in, rows_from}
+use Rattle.table.specs.Readers.{Reads, Room, Same, state_of}
+use Rattle.table.specs.declared.reader.Reader.{Reader}
+use Rattle.table.proofs.EngineLaws.{state, one_stored, after_stop, alike_assoc}
+use Rattle.table.proofs.ReaderLaws.{reading, reads_as, reads_then, same_refl, same_then, OnWay, on_start, on_next, on_stop, on_done}
+use Rattle.attributes.specs.Rows.{attribute_of, attributes_in}
+use Rattle.attributes.specs.declared.Attribute.{Attribute}
 use Rattle.attributes.proofs.FlagLaws.{row_at, rows_next, rows_none}
+use Rattle.bodies.specs.Shown.{Lays}
 
 -- ---- a content: none, so nothing was read and nothing stored; or what stands of it was read
-module _ (o : Order) (b t : List ℕ) (k p : ℕ) where
-  pub content_none : (f : Format) → f ≡ nothing → state t k (At p) ≡ shown_over t k (run o b f p)
-  unfolding run
-  content_none f e = rw e (sym (after_none t k p))
+pub content_none : {a : Reader} (f : Format) → Room a → f ≡ nothing → Reads a a (Ok (tt {0})) f
+content_none f z e = on_done (on_start z refl) e
 
-  pub content_is : {x : State} (f g : Format) → g ≡ f → x ≡ shown_over t k (run o b f p) → x ≡ shown_over t k (run o b g p)
-  content_is f g e h = h ∙ ap (λ (z : Format). shown_over t k (run o b z p)) (sym e)
+pub content_is : {a b : Reader} {r : Result Unit Reason} (f g : Format) → g ≡ f → Reads a b r f → Reads a b r g
+content_is {a} f g e = reads_as (ap (reading a) (sym e))
 
 -- the flag number is shown, and takes no bits
 pub echo_one : (o : Order) (b : List ℕ) (p φ : ℕ) → run o b (item (Item.echo φ)) p ≡ shows (φ ∷ []) p
@@ -46,83 +49,85 @@ row_of a φ = item (Item.echo φ) ▸ content a φ
 fair_row : (o : Order) (a : bodies.Attribute) (φ : ℕ) → Fair o 1 (row_of a φ)
 fair_row o a φ = fair_then o 1 0 (item (Item.echo φ)) (λ xs. content a φ) (fair_echo o φ) (λ b p q e. fair_content o a.kind a.data_type φ)
 
+-- an attribute: its flag number was stored, and its content was read from there
+pub attribute_read : {a b c : Reader} {r : Result Unit Reason} (d : bodies.Attribute) (φ : ℕ) → Room b → Same a b → b.table.now ≡ set a.table.now a.index φ → b.index ≡ a.index + 1 → b.place ≡ a.place
+    → Reads b c r (content d φ) → Reads a c r (row_of d φ)
+attribute_read {a} {b} d φ z h t i p k = reads_then (λ ns. content d φ) echo refl k
+  where
+    echo : Reads {A = Unit {0}} a b (Ok (tt {0})) (item (Item.echo φ))
+    echo = record {
+      same = h;
+      left = ap₂ (λ (j q : ℕ). state b.table.now j (At q)) i (ap (λ (q : BitPlace). q.0) p) ∙ one_stored a.table.now a.index (echo_one (order_of a.order) a.body.now a.place.0 φ) t;
+      room = z;
+    }
+
 -- m numbers may be stored for nothing; a row uses one of these
-row_fits : (o : Order) (b t : List ℕ) (a : bodies.Attribute) (φ m k : ℕ) {u : List ℕ} {p j q : ℕ} → Fits b p (k + suc m) → state u j (At q) ≡ shown_over t k (run o b (row_of a φ) p) → Fits b q (j + m)
+row_room : {a b : Reader} {r : Result Unit Reason} {x : Unit} (d : bodies.Attribute) (φ m : ℕ) → Reads a b r (row_of d φ) → r ≡ Ok x → a.index + suc m ≤ a.place.0 + 2 ^ 62 → b.index + m ≤ b.place.0 + 2 ^ 62
 unfolding shown_over
-row_fits o b t a φ m k {u} {p} {j} {q} h e =
-    let z : (run o b (row_of a φ) p).ended ≡ At q = ap (λ (s : State). s.ended) (sym e) in
-    let l : (p ≤ q) × (q ≤ 8 * length b) = run_le o b (row_of a φ) p q h.0.0 z in
-    let n : FairEnd 1 (8 * length b) p (length (run o b (row_of a φ) p).shown) (At q) = rw z at (fair_row o a φ b p h.0.0) in
-    let c : j ≡ k + length (run o b (row_of a φ) p).shown = ap (λ (s : State). s.count) e in
-    ((l.1, h.0.1), omega (arith, n, c, h.1))
+row_room {a} {b} d φ m h e l =
+    let s : state_of b (Ok (tt {0})) ≡ shown_over a.table.now a.index (reading a (row_of d φ)) = ap (state_of b) (sym e) ∙ h.left in
+    let z : (reading a (row_of d φ)).ended ≡ At b.place.0 = ap (λ (s : State). s.ended) (sym s) in
+    let n : FairEnd 1 (8 * length a.body.now) a.place.0 (length (reading a (row_of d φ)).shown) (At b.place.0) = rw z at (fair_row (order_of a.order) d φ a.body.now a.place.0 a.inside.0) in
+    let c : b.index ≡ a.index + length (reading a (row_of d φ)).shown = ap (λ (s : State). s.count) s in
+    omega (arith, n, c, l)
 
--- the loop: the whole from the start is what is left from here
-module _ (o : Order) (s t₀ flags : List ℕ) (k : ℕ) (block : List ℕ) (count p₀ : ℕ) where
+-- the loop: what is left from here reads the whole
+module _ (a : Reader) (block : List Attribute) (flags : List ℕ) where
   abbrev rows_at : ℕ → Format
-  rows_at row = rows (rows_from block row (count - row)) (slice row count flags)
+  rows_at i = rows (attributes_in (drop i block)) (slice i (length block) flags)
 
-  abbrev whole : State
-  whole = shown_over t₀ k (run o s (rows (rows_from block 0 count) (take count flags)) p₀)
+  abbrev whole : Format
+  whole = rows (attributes_in block) (take (length block) flags)
 
-  pub record Going (t : List ℕ) (p j row : ℕ) : Type 0 where
-    pub size : length t ≡ length t₀
-    pub same : whole ≡ shown_over t j (run o s (rows_at row) p)
-    pub fits : Fits s p (j + (count - row))
-    pub below : row ≤ count
+  pub record RowsGoing (b : Reader) (i : ℕ) : Type 0 where
+    pub way : OnWay a b whole (rows_at i)
+    pub room : b.index + (length block - i) ≤ b.place.0 + 2 ^ 62
 
-  -- the row here has the flag number φ; R is the answer of the call that read it
-  module _ {t : List ℕ} {p j row φ : ℕ} (some : row < count) (lent : count ≤ length flags) (flag : φ ≡ get_or flags row 0) (g : Going t p j row) where
-    abbrev attribute_here : bodies.Attribute
-    attribute_here = attribute_in (row_at block row)
-
-    rows_here : run o s (rows_at row) p ≡ run o s (row_of attribute_here φ ▸ rows_at (row + 1)) p
+  -- the row here has the flag number φ
+  module _ {b c : Reader} {i φ : ℕ} {r : Result Unit Reason} (some : i < length block) (lent : length block ≤ length flags) (flag : φ ≡ get_or flags i 0) (g : RowsGoing b i)
+      (ran : Reads b c r (row_of (attribute_of (row_at block i)) φ)) where
+    rows_here : OnWay a b whole (row_of (attribute_of (row_at block i)) φ ▸ rows_at (i + 1))
     unfolding rows
     rows_here =
-        let f : slice row count flags ≡ φ ∷ slice (row + 1) count flags = slice-cons row count flags 0 some lent ∙ rw (flag, add-one row) in
-        ap₂ (λ (l : List bodies.Attribute) (φs : List ℕ). run o s (rows l φs) p) (rows_next block some) f
-        ∙ sym (alike_assoc (item (Item.echo φ)) (content attribute_here φ) (rows_at (row + 1)) o s p)
+        let f : slice i (length block) flags ≡ φ ∷ slice (i + 1) (length block) flags = slice-cons i (length block) flags 0 some lent ∙ rw (flag, add-one i) in
+        record {
+          same = g.way.same;
+          room = g.way.room;
+          left = g.way.left ∙ ap₂ (λ (l : List bodies.Attribute) (φs : List ℕ). shown_over b.table.now b.index (reading b (rows l φs))) (rows_next block some) f
+              ∙ ap (shown_over b.table.now b.index) (sym (alike_assoc (item (Item.echo φ)) (content (attribute_of (row_at block i)) φ) (rows_at (i + 1)) (order_of b.order) b.body.now b.place.0));
+        }
 
-    module _ {u : List ℕ} {R : Run} (ran : run_leaves u R ≡ shown_over t j (run o s (row_of attribute_here φ) p)) where
-      pub rows_next_row : {q : BitPlace} {i : ℕ} → length u ≡ length t → R ≡ Done q i → Going u q.0 i (row + 1)
-      rows_next_row z e = record {
-        size = z ∙ g.size;
-        same = g.same ∙ ap (shown_over t j) rows_here ∙ sym (run_done o s t j (row_of attribute_here φ) p ran (λ xs. rows_at (row + 1)) e refl);
-        fits = row_fits o s t attribute_here φ (count - (row + 1)) j (g.fits.0, omega (arith, g.fits.1)) (ap (run_leaves u) (sym e) ∙ ran);
-        below = omega arith;
-      }
+    pub rows_next_row : {x : Unit} → r ≡ Ok x → RowsGoing c (i + 1)
+    rows_next_row e = record {
+      way = on_next rows_here refl ran e;
+      room = row_room (attribute_of (row_at block i)) φ (length block - (i + 1)) ran e (omega (arith, g.room));
+    }
 
-      pub rows_stop : {e i : ℕ} → R ≡ Stop e i → run_leaves u R ≡ whole
-      rows_stop e = run_stop o s t j (row_of attribute_here φ) p ran (λ xs. rows_at (row + 1)) e ∙ sym (g.same ∙ ap (shown_over t j) rows_here)
+    pub rows_stop : {s : Result Unit Reason} {e : Reason} → r ≡ Err e → s ≡ Err e → Reads a c s whole
+    rows_stop e d = on_stop rows_here refl ran e d
 
-  pub rows_done : {t : List ℕ} {p j row : ℕ} → count ≤ row → Going t p j row → state t j (At p) ≡ whole
-  unfolding run rows
-  rows_done {t} {p} {j} {row} h g =
-      let z : row ≡ count = omega (arith, g.below) in
-      let n : rows_from block row (count - row) ≡ [] = rw z (rows_none block count) in
-      sym (g.same ∙ rw n (after_none t j p))
+  pub rows_done : {b : Reader} {i : ℕ} → length block ≤ i → RowsGoing b i → Reads a b (Ok (tt {0})) whole
+  unfolding rows
+  rows_done {b} {i} h g = on_done g.way (rw (rows_none block i h))
 
-  -- at the start all flags are left
-  pub rows_start : count ≤ 12 → Fits s p₀ (k + 12) → Going t₀ p₀ k 0
-  rows_start few h = let n : count - 0 ≡ count = omega arith in record { size = refl; same = rw n; fits = (h.0, omega (arith, h.1)); below = omega arith }
-
--- ---- the first rows of a block
-pub rows_first : (block : List ℕ) (i m n : ℕ) → m ≤ n → rows_from block i m ≡ take m (rows_from block i n)
-rows_first block i zero n h = refl
-rows_first block i (suc m) zero h = absurd (omega arith)
-rows_first block i (suc m) (suc n) h = ap (λ (l : List bodies.Attribute). attribute_in (row_at block i) ∷ l) (rows_first block (suc i) m n (omega arith))
+  pub rows_start : length block ≤ 12 → a.index + 12 ≤ a.place.0 + 2 ^ 62 → RowsGoing a 0
+  rows_start few h = record { way = on_start (omega (arith, h)) refl; room = omega arith }
 
 -- ---- a block: its flags, and then its rows
-module _ (o : Order) (b t : List ℕ) (k p : ℕ) (attrs : List bodies.Attribute) where
-  pub block_rows : {φs : List ℕ} {q : ℕ} {x : State} → run o b (all_flags attrs) p ≡ shows φs q → x ≡ shown_over t k (run o b (rows attrs φs) q) → x ≡ shown_over t k (read_block o b attrs p)
+module _ {a : Reader} (attrs : List bodies.Attribute) where
+  -- they were read up to the place q, and the rows from there
+  pub block_rows : {b c : Reader} {r : Result Unit Reason} (n : Number) {φs : List ℕ} → run (order_of a.order) a.body.now (all_flags attrs) 0 ≡ shows φs n.next.0 → Same a b → b.table.now ≡ a.table.now → b.index ≡ a.index → b.place ≡ n.next
+      → Reads b c r (rows attrs φs) → Lays a c r (read_block (order_of a.order) a.body.now attrs 0)
   unfolding read_block
-  block_rows e h = rw e h
+  block_rows n {φs} e h t i p k = record {
+    same = same_then h k.same;
+    left = k.left ∙ (λ j. shown_over (t j) (i j) (run (order_of (h.order j)) (h.body j) (rows attrs φs) (p j).0)) ∙ rw e;
+  }
 
-  pub block_stop : {e : ℕ} → (run o b (all_flags attrs) p).ended ≡ Fault e → state t k (Fault e) ≡ shown_over t k (read_block o b attrs p)
+  pub block_stop : {A : Type 0} {r : Result A Reason} {e : Reason} → (run (order_of a.order) a.body.now (all_flags attrs) 0).ended ≡ Fault (number_of e) → r ≡ Err e → Lays a a r (read_block (order_of a.order) a.body.now attrs 0)
   unfolding read_block
-  block_stop {e} h = rw h (sym (after_stop t k e))
+  block_stop {e = e} h d = record { same = same_refl a; left = ap (state_of a) d ∙ rw h (sym (after_stop a.table.now a.index (number_of e))) }
 
 -- flags take no room in the table
-pub flags_fit : (o : Order) (b : List ℕ) (attrs : List bodies.Attribute) {φs : List ℕ} {p q k : ℕ} → run o b (all_flags attrs) p ≡ shows φs q → Fits b p k → Fits b q k
-flags_fit o b attrs {φs} {p} {q} e h =
-    let l : (p ≤ q) × (q ≤ 8 * length b) = run_le o b (all_flags attrs) p q h.0.0 (ap (λ (r : Reading). r.ended) e) in
-    ((l.1, h.0.1), omega (arith, l.0, h.1))
+pub flags_in : (a : Reader) (attrs : List bodies.Attribute) {φs : List ℕ} {q : ℕ} → run (order_of a.order) a.body.now (all_flags attrs) 0 ≡ shows φs q → q ≤ 8 * length a.body.now
+flags_in a attrs {φs} {q} e = (run_le (order_of a.order) a.body.now (all_flags attrs) 0 q (omega arith) (ap (λ (r : Reading). r.ended) e)).1

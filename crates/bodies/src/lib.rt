@@ -1,148 +1,101 @@
 // The body of a tag that is read: its values into the lent table, and its end.
 #![tactic(auto)]
 
-ghost use Rattle.std.specs.Prelude.{◌≡◌, false, ◌≤◌, ◌<◌, ◌^◌, length};
-ghost use Rattle.format.specs.Bodies.{read_part, read_body};
+ghost use Rattle.std.specs.Prelude.{◌≡◌, ◌*◌, length, IfOk};
+ghost use Rattle.format.specs.Items.{read_align};
+ghost use Rattle.format.specs.Bodies.{read_part, read_body, used_up};
 ghost use Rattle.bits.specs.Places.{order_of};
-ghost use Rattle.table.specs.State.{shown_over};
-ghost use Rattle.table.specs.Run.{run_leaves};
 ghost use Rattle.bodies.specs.Leaf.{is_block, body_by, leaf_body, group, container_body, has_list_in, own_part};
-ghost use Rattle.bodies.specs.Shown.{Inside, finished, Finishes, Shows};
+ghost use Rattle.bodies.specs.Shown.{Starts, Lays, Shows};
 
 pub mod blocks;
 
-use bits::{Aligned, BitPlace, BytePlace, Got, Order};
-use table::Run;
-
-// After the values of a tag: the byte of its body where they end, and the index behind what was stored. Its body is used up; or its list is still to be read,
-// from that byte on. Or a reason.
-#[derive(Clone, Copy)]
-pub enum Shown {
-    Done(BytePlace, usize),
-    Open(BytePlace, usize),
-    Stop(u32, usize),
-}
+use bits::BytePlace;
+use reasons::Reason;
+use table::Reader;
 
 // Is the code one of an attribute block?
 pub fn is_block(code: u32) -> bool
     ensures { result ≡ is_block code }
 {
-    if 13 <= code {
-        return code <= 27;
-    }
-    match code {
-        6 => true,
-        9 => true,
-        10 => true,
-        _ => false,
-    }
+    matches!(code, 6 | 9 | 10 | 13..=27)
 }
 
-// The items of a body, up to where they end: those of an attribute block, or of another body. It is sliced again for either: see `items::read_item`.
-fn read_part(
-    order: Order,
-    block: bool,
-    code: u32,
-    body: &[u8],
-    table: &mut [u64],
-    from: usize,
-) -> Run
-    requires { (length body.now < 2 ^ 60) × (from < 2 ^ 61) }
-    ensures { run_leaves table.new result ≡ shown_over table.old from (read_part (order_of order) body.now (body_by block code) 0) }
+// The items of a body, up to where they end: those of an attribute block, or of another body.
+fn read_part(reader: &mut Reader<'_>, block: bool, code: u32) -> Result<(), Reason>
+    requires { Starts reader.old }
+    ensures { Lays reader.old reader.new result (read_part (order_of reader.old.order) reader.old.body.now (body_by block code) 0) }
 {
-    if block {
-        return table::again(blocks::read_block(
-            order,
-            attributes::blocks::block_of(code),
-            &body[0..body.len()],
-            table,
-            from,
-        ));
+    if !block {
+        return fixed::read_fixed(reader, code);
     }
-    table::again(fixed::read_fixed(order, code, &body[0..body.len()], BitPlace(0), table, from))
+    blocks::read_block(reader, attributes::blocks::block_of(code))?;
+    Ok(())
 }
 
-// At a whole byte of a body of this size: its list follows; or nothing more may follow (18).
-fn at_byte(list: bool, size: usize, end: BytePlace, behind: usize) -> Shown
-    ensures { result ≡ finished list size end behind }
+// Zero bits up to the next whole byte (15), which is told.
+fn to_byte(reader: &mut Reader<'_>) -> Result<BytePlace, Reason>
+    ensures lays { Lays reader.old reader.new result (read_align (order_of reader.old.order) reader.old.body.now reader.old.place.0) }
+    ensures byte { IfOk result (λ byte. reader.new.place.0 ≡ 8 * byte.0) }
 {
-    if list {
-        return Shown::Open(end, behind);
-    }
-    if end.0 == size {
-        Shown::Done(end, behind)
+    let start = bits::align(reader.order, reader.body, reader.place)?;
+    reader.place = start.bit;
+    Ok(start.byte)
+}
+
+// After the items of a body: zero bits up to a whole byte (15), and nothing more (18).
+fn end_body(reader: &mut Reader<'_>) -> Result<(), Reason>
+    ensures { Lays reader.old reader.new result (used_up (8 * length reader.old.body.now) (read_align (order_of reader.old.order) reader.old.body.now reader.old.place.0).shown (read_align (order_of reader.old.order) reader.old.body.now reader.old.place.0).ended) }
+{
+    let end = to_byte(reader)?;
+    if end.0 == reader.body.len() {
+        Ok(())
     } else {
-        Shown::Stop(18, behind)
-    }
-}
-
-// After the items of a body: zero bits up to a whole byte (15). There its list follows, or nothing more.
-fn finish(order: Order, body: &[u8], items: Run, list: bool) -> Shown
-    requires { Inside body.now items }
-    ensures { Finishes (order_of order) body.now items list result }
-{
-    match items {
-        Run::Stop(why, behind) => Shown::Stop(why, behind),
-        Run::Done(next, behind) => match bits::align(order, body, next) {
-            Aligned::Unclean => Shown::Stop(15, behind),
-            Aligned::Clean(end, _) => at_byte(list, body.len(), end, behind),
-        },
+        Err(Reason::BodyNotUsedUp)
     }
 }
 
 // The body of a leaf tag, an attribute block or another: its items, zero bits up to a whole byte (15), and nothing more (18).
-pub fn read_leaf(
-    order: Order,
-    block: bool,
-    code: u32,
-    body: &[u8],
-    table: &mut [u64],
-    from: usize,
-) -> Shown
-    requires { (length body.now < 2 ^ 60) × (from < 2 ^ 61) }
-    ensures { Shows table.old from (read_body (order_of order) (body_by block code) body.now) false table.new result }
+pub fn read_leaf(reader: &mut Reader<'_>, block: bool, code: u32) -> Result<(), Reason>
+    requires { Starts reader.old }
+    ensures { Lays reader.old reader.new result (read_body (order_of reader.old.order) (body_by block code) reader.old.body.now) }
 {
-    let items = read_part(order, block, code, body, table, from);
-    finish(order, body, items, false)
+    read_part(reader, block, code)?;
+    end_body(reader)
 }
 
 // The same, by its code alone.
-pub fn read_body(order: Order, code: u32, body: &[u8], table: &mut [u64], from: usize) -> Shown
-    requires { (length body.now < 2 ^ 60) × (from < 2 ^ 61) }
-    ensures { Shows table.old from (read_body (order_of order) (leaf_body code) body.now) false table.new result }
+pub fn read_body(reader: &mut Reader<'_>, code: u32) -> Result<(), Reason>
+    requires { Starts reader.old }
+    ensures { Lays reader.old reader.new result (read_body (order_of reader.old.order) (leaf_body code) reader.old.body.now) }
 {
-    read_leaf(order, is_block(code), code, body, table, from)
+    read_leaf(reader, is_block(code), code)
 }
 
 // A ShapeGroup: it has a list where the flag of its last attribute, the TagBlock, is set: digit 8 of its flag numbers. The walk that counts stores no values, so the
 // flag is taken from those.
-fn read_group(order: Order, body: &[u8], table: &mut [u64], from: usize) -> Shown
-    requires { (length body.now < 2 ^ 60) × (from < 2 ^ 61) }
-    ensures { Shows table.old from (own_part (order_of order) group body.now) (has_list_in (order_of order) group body.now) table.new result }
+fn read_group(reader: &mut Reader<'_>) -> Result<Option<BytePlace>, Reason>
+    requires { Starts reader.old }
+    ensures { Shows reader.old reader.new result (own_part (order_of reader.old.order) group reader.old.body.now) (has_list_in (order_of reader.old.order) group reader.old.body.now) }
 {
-    let block = attributes::blocks::block_of(15);
-    let rows = block.rows;
-    let count = block.count;
-    let got = attributes::read_flags(order, &rows, count, body);
-    match got {
-        Got::Value(numbers, next) => {
-            let items = blocks::read_contents(
-                order, &rows, count, numbers, body, next, table, from,
-            );
-            finish(order, body, items, numbers / 16777216 % 8 == 1)
-        }
-        Got::Fault(why) => Shown::Stop(why, from),
+    let flags = blocks::read_block(reader, attributes::blocks::block_of(15))?;
+    if flags.value / 16777216 % 8 == 1 {
+        let list = to_byte(reader)?;
+        return Ok(Some(list));
     }
+    end_body(reader)?;
+    Ok(None)
 }
 
 // The own part of a container: its items, and zero bits up to the whole byte where its list starts (15). A group without a list ends like a leaf.
-pub fn read_container(order: Order, code: u32, body: &[u8], table: &mut [u64], from: usize) -> Shown
-    requires { (length body.now < 2 ^ 60) × (from < 2 ^ 61) }
-    ensures { Shows table.old from (own_part (order_of order) (container_body code) body.now) (has_list_in (order_of order) (container_body code) body.now) table.new result }
+pub fn read_container(reader: &mut Reader<'_>, code: u32) -> Result<Option<BytePlace>, Reason>
+    requires { Starts reader.old }
+    ensures { Shows reader.old reader.new result (own_part (order_of reader.old.order) (container_body code) reader.old.body.now) (has_list_in (order_of reader.old.order) (container_body code) reader.old.body.now) }
 {
     if code == 15 {
-        return read_group(order, body, table, from);
+        return read_group(reader);
     }
-    let items = read_part(order, false, code, body, table, from);
-    finish(order, body, items, true)
+    read_part(reader, false, code)?;
+    let list = to_byte(reader)?;
+    Ok(Some(list))
 }

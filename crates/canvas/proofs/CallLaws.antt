@@ -1,36 +1,39 @@
 -- The public call: what it answers, by what looking through the tags at depth 0 gave.
 use Prim.Native.Nat.{ℕ, ◌+◌, ◌-◌, ◌^◌, ◌≤◌, ◌<◌}
-use mathlib.Core.Bool.{false}
 use mathlib.Core.List.{List, [], ◌++◌, append-nil}
 use mathlib.Core.Path.{◌≡◌, ap, ap₂, sym, subst, ◌∙◌}
 use native.Mathlib.Omega.{arith}
 use lib.ListN.{length, take, drop, length-drop, length-take}
 use lib.Seq.{sets, sets-eq, drop-drop}
 use borrow.Author.Tests.{ne_eqb}
+use Rattle.std.proofs.Common.{Result, Ok, Err, Option, Some, None}
 use Rattle.format.specs.Bits.{Order, order_named}
 use Rattle.format.specs.Reading.{At}
 use Rattle.format.specs.Bodies.{Body, composition_attributes, fixed, read_body}
 use Rattle.format.specs.FileAndTags as paper
 use Rattle.format.specs.FileAndTags.{class_of, Walk, broken, file, walk_list}
 use Rattle.format.specs.Reasons.{start_fault, walk_file}
+use Rattle.format.proofs.Absurd.{clash}
 use Rattle.format.proofs.StartLaws.{good_start}
+use Rattle.reasons.specs.declared.Reason.{Reason}
+use Rattle.reasons.specs.Numbers.{number_of}
+use Rattle.reasons.proofs.NumberLaws.{number_one, positive}
 use Rattle.table.specs.State.{State, shown_over}
+use Rattle.table.specs.declared.reader.Reader.{Reader}
 use Rattle.bodies.specs.Leaf.{leaf_body}
-use Rattle.bodies.specs.Shown.{Shows}
-use Rattle.bodies.specs.declared.Shown.{Shown}
+use Rattle.bodies.specs.Shown.{Lays}
 use Rattle.classes.specs.Classes.{Classed}
+use Rattle.classes.specs.declared.Class.{Class}
 use Rattle.classes.specs.declared.Scope.TheVariants.{All}
-use Rattle.bits.specs.declared.BytePlace.{BytePlace}
 use Rattle.tags.specs.Lent.{classes_in}
-use Rattle.lists.proofs.ListLaws.{piece, piece_rest}
 use Rattle.tags.proofs.LentLaws.{class_level}
-use Rattle.canvas.specs.Canvas.{Seen, found, none, refused, Canvas, canvas_in, canvas_of, canvas_file}
-use Rattle.canvas.specs.Looking.{body_at, Looks, Bounds, zeros, bare, told, filled}
+use Rattle.lists.specs.declared.Fault.{Fault as Refused}
+use Rattle.lists.proofs.ListLaws.{piece, piece_rest}
+use Rattle.canvas.specs.Canvas.{Seen, found, Canvas, canvas, canvas_in, canvas_of, canvas_file}
+use Rattle.canvas.specs.Looking.{refusal, body_at, Sees, Looks, zeros, seen_of, answered, Answers}
 use Rattle.canvas.specs.declared.CanvasSize.{CanvasSize}
-use Rattle.canvas.specs.declared.Seen.TheVariants as seen
-use Rattle.canvas.specs.declared.Spot.{Spot}
-use Rattle.canvas.specs.declared.Looked.{Looked}
-use Rattle.canvas.specs.declared.Looked.TheVariants as looked
+use Rattle.canvas.specs.declared.Refusal.{Refusal}
+use Rattle.canvas.specs.declared.Span.{Span}
 use Rattle.canvas.proofs.LookLaws.{leaf_is}
 use Rattle.canvas.proofs.SureLaws.{SureEnd, canvas_sure}
 
@@ -40,81 +43,92 @@ over_zeros xs h =
     let d : drop (0 + length xs) zeros ≡ [] = rw h in
     sets-eq xs zeros 0 (omega (arith, h)) ∙ ap (λ (ys : List ℕ). xs ++ ys) d ∙ append-nil xs
 
-pub filled_is : (o : Order) (body : List ℕ) (h : ℕ) {t : List ℕ} (R : Shown) → Shows zeros 0 (read_body o (leaf_body 3) body) false t R → record { seen = seen.Found; values = t; headers = h } ≡ filled o body h
+pub filled_is : {a b : Reader} {r : Result (Unit {0}) Reason} (o : Order) (body : List ℕ) {t : List ℕ} → Lays a b r (read_body o (leaf_body 3) body) → a.table.now ≡ zeros → a.index ≡ 0 → t ≡ b.table.now → t ≡ sets zeros 0 (read_body o (fixed composition_attributes) body).shown
 unfolding shown_over
-filled_is o body h R e =
-    ap (λ (s : State). record { seen = seen.Found; values = s.table; headers = h }) e.left
-    ∙ ap (λ (y : Body). record { seen = seen.Found; values = sets zeros 0 (read_body o y body).shown; headers = h }) leaf_is
-
--- the answer that a walk gives
-abbrev pub answers : Canvas → CanvasSize
-answers c = told c.seen c.headers
+filled_is {a} {b} {r} o body {t} e z k q =
+    q ∙ ap (λ (s : State). s.table) e.left ∙ rw (z, k) (ap (λ (y : Body). sets zeros 0 (read_body o y body).shown) leaf_is)
 
 module _ (order level : ℕ) (f : List ℕ) where
-  pub call_start : {e : ℕ} → e ≡ start_fault order level f → (e ≡ 0 → ⊥) → bare (seen.Refused e 0) 0 ≡ answers (canvas_file order level f)
+  -- a refusal before any tag
+  pub call_start : {h : ℕ} (e : Reason) {x : Result (Option (List ℕ)) Refusal} → number_of e ≡ start_fault order level f → h ≡ 0 → x ≡ Err (refusal e 0) → Answers h x (canvas_file order level f)
   unfolding walk_file canvas_in
-  call_start {e} is h = rw (← is, ne_eqb e 0 h)
+  call_start e is z q = rw (z, q, ← is, ne_eqb (number_of e) 0 (λ w. omega (arith, w, positive e)))
 
-  module _ (start : start_fault order level f ≡ 0) (o : Order) (named : o ≡ order_named order) {ns : List ℕ} (made : Classed All level ns) where
+  module _ (start : 0 ≡ start_fault order level f) {o : Order} (named : o ≡ order_named order) {cs : List Class} (made : Classed All level cs) where
     abbrev room : List ℕ
     room = piece 9 (length f) f
 
     -- by the classes of the level, and by those that are lent
     walk_at : walk_file order level f ≡ walk_list o (class_of level) 8 file 9 room
     unfolding walk_file
-    walk_at = rw (start, piece_rest 9 f, named)
+    walk_at = rw (← start, piece_rest 9 f, named)
 
-    walk_is : walk_file order level f ≡ walk_list o (classes_in ns) 8 file 9 room
-    walk_is = walk_at ∙ sym (ap (λ (class : ℕ → paper.Class). walk_list o class 8 file 9 room) (λ i. λ code. class_level ns All level made code i))
+    walk_is : walk_file order level f ≡ walk_list o (classes_in cs) 8 file 9 room
+    walk_is = walk_at ∙ sym (ap (λ (class : ℕ → paper.Class). walk_list o class 8 file 9 room) (λ i. λ code. class_level cs All level made code i))
 
-    module _ (y : Looked) (done : Looks o 9 room 0 y (canvas_of (walk_list o (classes_in ns) 8 file 9 room))) where
-      looks : Looks o 9 room 0 y (canvas_file order level f)
-      looks = subst (λ (w : Walk). Looks o 9 room 0 y (canvas_of w)) (sym walk_is) done
+    module _ {h n : ℕ} {y : Result (Option Span) Refused} (none_before : h ≡ 0) (done : Looks o 9 room h n y (canvas_of (walk_list o (classes_in cs) 8 file 9 room))) where
+      looks : Looks o 9 room h n y (canvas_file order level f)
+      looks = subst (λ (w : Walk). Looks o 9 room h n y (canvas_of w)) (sym walk_is) done
 
-      told_as : {s : Seen} {n : ℕ} → (canvas_file order level f).seen ≡ s → n ≡ 0 + (canvas_file order level f).headers → told s n ≡ answers (canvas_file order level f)
-      told_as p q = ap₂ told (sym p) (q ∙ omega arith)
+      sees_as : {z : Result (Option Span) Refused} → y ≡ z → Sees o 9 room z (canvas_file order level f).seen
+      sees_as e = subst (λ (z : Result (Option Span) Refused). Sees o 9 room z (canvas_file order level f).seen) e looks.sees
 
-      pub call_whole : {n : ℕ} → y ≡ looked.Whole n → bare seen.None n ≡ answers (canvas_file order level f)
-      call_whole {n} e =
-          let u : ((canvas_file order level f).seen ≡ none) × (n ≡ 0 + (canvas_file order level f).headers) = subst (λ (x : Looked). Looks o 9 room 0 x (canvas_file order level f)) e looks in
-          told_as u.0 u.1
+      told_as : {s : Seen} → (canvas_file order level f).seen ≡ s → canvas s n ≡ canvas_file order level f
+      told_as p = let q : n ≡ (canvas_file order level f).headers = omega (arith, looks.headers, none_before) in ap₂ canvas (sym p) q
 
-      pub call_fault : {e n : ℕ} {p : BytePlace} → y ≡ looked.Fault e p n → bare (seen.Refused e p.0) n ≡ answers (canvas_file order level f)
-      call_fault {e} {n} {p} q =
-          let u : ((canvas_file order level f).seen ≡ refused e p.0) × (n ≡ 0 + (canvas_file order level f).headers) = subst (λ (x : Looked). Looks o 9 room 0 x (canvas_file order level f)) q looks in
-          told_as u.0 u.1
+      pub call_whole : y ≡ Ok None → Answers n (Ok None) (canvas_file order level f)
+      call_whole e = told_as (sees_as e)
+
+      pub call_fault : {e : Refused} {x : Result (Option (List ℕ)) Refusal} → y ≡ Err e → x ≡ Err (refusal e.why e.place.0) → Answers n x (canvas_file order level f)
+      call_fault q w = rw w (told_as (sees_as q))
 
       -- the body that was found, in the file
-      module _ {s : Spot} (e : y ≡ looked.Found s) where
+      module _ {s : Span} (e : y ≡ Ok (Some s)) where
         abbrev i : ℕ
         i = s.start.0
 
         abbrev j : ℕ
         j = s.stop.0
 
-        at : Looks o 9 room 0 (looked.Found s) (canvas_file order level f)
-        at = subst (λ (x : Looked). Looks o 9 room 0 x (canvas_file order level f)) e looks
+        at : Sees o 9 room (Ok (Some s)) (canvas_file order level f).seen
+        at = sees_as e
 
         pub call_places : (i ≤ j) × (j ≤ length f)
-        call_places = (at.0.order, omega (arith, at.0.inside, ap length (piece_rest 9 f), length-drop 9 f, (good_start order level f start).long))
+        call_places = (at.0.order, omega (arith, at.0.inside, ap length (piece_rest 9 f), length-drop 9 f, (good_start order level f (sym start)).long))
 
         pub call_length : length (piece i j f) < 2 ^ 60
-        call_length = omega (arith, length-take (j - i) (drop i f), length-drop i f, (good_start order level f start).limit)
+        call_length = omega (arith, length-take (j - i) (drop i f), length-drop i f, (good_start order level f (sym start)).limit)
 
         body_is : body_at 9 room i j ≡ piece i j f
         body_is =
             let n : 9 + (i - 9) ≡ i = omega (arith, at.0.after) in
             ap (λ (r : List ℕ). take (j - i) (drop (i - 9) r)) (piece_rest 9 f) ∙ ap (take (j - i)) (drop-drop (i - 9) 9 f ∙ ap (λ (m : ℕ). drop m f) n)
 
-        pub call_found : {r : CanvasSize} → r ≡ filled o (piece i j f) s.headers → r ≡ answers (canvas_file order level f)
-        call_found {r} q =
+        pub call_found : {vs : List ℕ} → vs ≡ sets zeros 0 (read_body o (fixed composition_attributes) (piece i j f)).shown → Answers n (Ok (Some vs)) (canvas_file order level f)
+        call_found {vs} q =
             let g : (read_body o (fixed composition_attributes) (piece i j f)).ended ≡ At at.0.place = sym (ap (λ (x : List ℕ). (read_body o (fixed composition_attributes) x).ended) body_is) ∙ at.0.good in
             let n : length (read_body o (fixed composition_attributes) (piece i j f)).shown ≡ 7 = subst (SureEnd 7 (read_body o (fixed composition_attributes) (piece i j f)).shown) g (canvas_sure o (piece i j f)) in
-            let v : sets zeros 0 (read_body o (fixed composition_attributes) (piece i j f)).shown ≡ (read_body o (fixed composition_attributes) (piece i j f)).shown =
-            over_zeros (read_body o (fixed composition_attributes) (piece i j f)).shown n in
-            let w : (canvas_file order level f).seen ≡ found (read_body o (fixed composition_attributes) (piece i j f)).shown = at.1 ∙ ap (λ (x : List ℕ). found (read_body o (fixed composition_attributes) x).shown) body_is in
-            q ∙ ap (λ (vs : List ℕ). record { seen = seen.Found; values = vs; headers = s.headers }) v ∙ told_as w at.2
+            let v : vs ≡ (read_body o (fixed composition_attributes) (piece i j f)).shown = q ∙ over_zeros (read_body o (fixed composition_attributes) (piece i j f)).shown n in
+            rw v (told_as (at.1 ∙ ap (λ (x : List ℕ). found (read_body o (fixed composition_attributes) x).shown) body_is))
 
--- the list at depth 0
-pub call_bounds : (f : List ℕ) → 9 ≤ length f → length f ≤ 16777216 → Bounds 8 9 (length (piece 9 (length f) f)) 0
-call_bounds f h l = record { depth = omega arith; place = omega (arith, ap length (piece_rest 9 f), length-drop 9 f); headers = omega arith }
+-- the list at depth 0 ends inside the longest file
+pub call_inside : (f : List ℕ) → 9 ≤ length f → length f ≤ 16777216 → 9 + length (piece 9 (length f) f) ≤ 16777216
+call_inside f h l = omega (arith, ap length (piece_rest 9 f), length-drop 9 f)
+
+-- ---- no second answer fits the call's promise
+seen_one : (a b : Result (Option (List ℕ)) Refusal) → seen_of a ≡ seen_of b → a ≡ b
+seen_one (Ok (Some vs)) (Ok (Some ws)) e = let q : vs ≡ ws = cc in ap (λ (vs : List ℕ). Ok (Some vs)) q
+seen_one (Ok (Some vs)) (Ok None) e = clash cc
+seen_one (Ok (Some vs)) (Err y) e = clash cc
+seen_one (Ok None) (Ok (Some ws)) e = clash cc
+seen_one (Ok None) (Ok None) e = λ i. Ok None
+seen_one (Ok None) (Err y) e = clash cc
+seen_one (Err x) (Ok (Some ws)) e = clash cc
+seen_one (Err x) (Ok None) e = clash cc
+seen_one (Err x) (Err y) e =
+    let r : number_of x.reason ≡ number_of y.reason = cc in
+    let n : x.number ≡ y.number = cc in
+    ap₂ (λ (r : Reason) (n : ℕ). Err (refusal r n)) (number_one x.reason y.reason r) n
+
+pub answered_one : (a b : CanvasSize) → answered a ≡ answered b → a ≡ b
+answered_one a b e = ap₂ (λ (s : Result (Option (List ℕ)) Refusal) (n : ℕ). record { size = s; headers = n }) (seen_one a.size b.size (ap (λ (c : Canvas). c.seen) e)) (ap (λ (c : Canvas). c.headers) e)

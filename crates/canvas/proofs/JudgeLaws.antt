@@ -1,130 +1,106 @@
--- One tag: whether it is the one that is looked for, what its class tells, its header and its body.
-use Prim.Native.Nat.{ℕ, ◌+◌, ◌-◌, ◌*◌, ◌/◌, ◌≤◌}
+-- One tag: its values, and what its header and they tell.
+use Prim.Native.Nat.{ℕ, ◌+◌, ◌-◌, ◌/◌, ◌≤◌, ◌<◌, ◌^◌}
 use mathlib.Core.List.{List}
-use mathlib.Core.Path.{◌≡◌, ap, ap₂, sym, subst, ◌∙◌}
-use mathlib.Core.Bool.{Bool, true, false, not}
+use mathlib.Core.Path.{◌≡◌, refl, ap, sym, subst, ◌∙◌}
+use mathlib.Core.Bool.{Bool, true, false}
+use mathlib.Core.Logic.{◌⊎◌, inl, inr}
 use native.Mathlib.Omega.{arith}
 use lib.ListN.{length, take, drop, length-drop}
 use lib.Seq.{drop-drop, length-take-le}
-use lib.Dec.{eqb}
-use borrow.Author.Tests.{eq-eqb, ne_eqb}
+use Rattle.std.specs.Option.{IfSome}
+use Rattle.std.proofs.Common.{Result, Ok, Err, Option, Some, None}
 use Rattle.format.specs.Bits.{Order}
-use Rattle.format.specs.Reading.{At, Reading}
+use Rattle.format.specs.Reading.{Ending, At, Fault, Reading}
+use Rattle.format.specs.Bodies.{read_body}
 use Rattle.format.specs.FileAndTags as paper
-use Rattle.format.specs.FileAndTags.{le16, is_read, blame}
-use Rattle.format.proofs.WalkLaws.{Fits, head_fits}
+use Rattle.reasons.specs.declared.Reason.{Reason}
+use Rattle.bits.specs.Places.{order_of}
+use Rattle.bits.specs.declared.BytePlace.{BytePlace}
 use Rattle.table.specs.State.{State, shown_over}
-use Rattle.bodies.specs.Shown.{shown_end, is_open, opens, Shows}
-use Rattle.bodies.specs.declared.Shown.{Shown}
-use Rattle.bodies.specs.declared.Shown.TheVariants.{Done, Open, Stop}
-use Rattle.classes.specs.Classes.{bare}
+use Rattle.table.specs.Readers.{ending_of}
+use Rattle.table.specs.declared.reader.Reader.{Reader}
+use Rattle.bodies.specs.Leaf.{body_by}
+use Rattle.bodies.specs.Shown.{Lays, Opens, Shows}
 use Rattle.classes.specs.declared.Class.{Class}
-use Rattle.headers.specs.Heads.{as_head, head_by}
-use Rattle.headers.specs.declared.Head.TheVariants as heads
+use Rattle.classes.specs.declared.Class.TheVariants.{Fixed, Attributes}
 use Rattle.headers.specs.declared.Header.{Header}
 use Rattle.tags.specs.Shown.{values_of, list_of}
-use Rattle.tags.proofs.TagLaws.{values_le}
-use Rattle.bits.specs.declared.BytePlace.{BytePlace}
-use Rattle.lists.specs.Lists.{byte_at, owner_of}
-use Rattle.tags.specs.Lent.{class_in}
-use Rattle.lists.specs.declared.Owner.{Owner}
-use Rattle.canvas.specs.Looking.{is_looked, judged_class, judged_by, stands_at, judged_end, judged_at, judged_in, after_end}
-use Rattle.canvas.specs.declared.Body.{Body}
+use Rattle.tags.proofs.TagLaws.{leaf_shown, leaf_refused, values_le}
+use Rattle.canvas.specs.Looking.{span, judged_by, Valued, numbered, judged_end, judged_at}
 use Rattle.canvas.specs.declared.Judged.{Judged}
-use Rattle.canvas.specs.declared.Judged.TheVariants as judged
-use Rattle.canvas.specs.declared.Looked.TheVariants as looked
 
--- ---- is_looked
-pub looked_not : (class : Class) (code : ℕ) → (code ≡ 3 → ⊥) → false ≡ is_looked class code
-looked_not class code h = rw (ne_eqb code 3 h)
-
-pub looked_told : (code : ℕ) {class : Class} (told : Class) → code ≡ 3 → class ≡ told → not (eqb (is_read (bare told)) 0) ≡ is_looked class code
-looked_told code told h e = rw (e, eq-eqb code 3 h)
-
--- ---- by_class
-pub by_looked : (class : Class) (list : Bool) (code : ℕ) (body : Body) {b : Bool} → b ≡ is_looked class code → b ≡ true → judged.Canvas body ≡ judged_by class list code body
-by_looked class list code body e t = rw (sym e ∙ t)
-
-pub by_list : (class : Class) (code : ℕ) (body : Body) {list b : Bool} → b ≡ is_looked class code → b ≡ false → list ≡ true → judged.Open body ≡ judged_by class list code body
-by_list class code body e f l = rw (sym e ∙ f, l)
-
-pub by_told : (code : ℕ) (body : Body) {class : Class} (told : Class) {list b : Bool} → b ≡ is_looked class code → b ≡ false → list ≡ false → class ≡ told → judged_class told body.stop ≡ judged_by class list code body
-by_told code body {class} told e f l c = rw (sym e ∙ f, l) (ap (λ (d : Class). judged_class d body.stop) (sym c))
-
--- ---- after_end
-pub end_whole : (own : Owner) (a stop room h : ℕ) → stop ≡ room → looked.Whole h ≡ after_end own a stop room h
-end_whole own a stop room h e = rw (eq-eqb stop room e)
-
-pub end_more : (own : Owner) (a stop room h : ℕ) {b : BytePlace} → (stop ≡ room → ⊥) → b.0 ≡ blame (owner_of own) (a + stop) → looked.Fault 11 b h ≡ after_end own a stop room h
-end_more own a stop room h n e = ap (λ (n : ℕ). looked.Fault 11 (byte_at n) h) e ∙ rw (ne_eqb stop room n)
-
--- ---- judge_values: by the class that a `match` tells
-abbrev pub Values : Order → List ℕ → ℕ → Class → Shown → Type 0
-Values o body code class R = (shown_end R ≡ (values_of o class code body).ended) × (is_open R ≡ opens (list_of o class code body) (shown_end R))
-
-pub values_told : (o : Order) (body : List ℕ) (code : ℕ) {class : Class} (R : Shown) (told : Class) → class ≡ told → Values o body code told R → Values o body code class R
-values_told o body code R told e f = subst (λ (c : Class). Values o body code c R) (sym e) f
-
--- as reading with no table ended
-pub values_by_lem : (t : List ℕ) (k : ℕ) {u : List ℕ} (R : Shown) {r : Reading} {list : Bool} → Shows t k r list u R → (shown_end R ≡ r.ended) × (is_open R ≡ opens list (shown_end R))
+-- ---- judge_values: as reading with no table ended
+pub valued : {a b : Reader} {y : Result (Option BytePlace) Reason} {R : Reading} {list : Bool} → Shows a b y R list → Valued R.ended list y
 unfolding shown_over
-values_by_lem t k R {r} {list} e =
-    let z : shown_end R ≡ r.ended = ap (λ (s : State). s.ended) e.left in
-    (z, e.opened ∙ ap (opens list) (sym z))
+valued {a} {b} {y} {R} {list} s = go y (ap (λ (z : State). z.ended) s.lays.left) s.opened
+  where
+    go : (y : Result (Option BytePlace) Reason) → ending_of b.place y ≡ R.ended → Opens list b.place.0 y → Valued R.ended list y
+    go (Ok (Some q)) e v = subst (λ (z : Ending). Valued z list (Ok (Some q))) e v
+    go (Ok None) e v = subst (λ (z : Ending). Valued z list (Ok None)) e v
+    go (Err x) e v = subst (λ (z : Ending). Valued z list (Err x)) e refl
 
--- ---- judge_body: the tag with this header at i of the list r
-module _ (o : Order) (class : Class) (r : List ℕ) (i : ℕ) (head : Header) {start stop : ℕ} {body : List ℕ} (R : Shown) (begin : start ≡ i + head.size) (end : stop ≡ start + head.length)
-    (part : body ≡ take (stop - start) (drop start r)) (ran : Values o body head.code class R) where
-  abbrev list : Bool
-  list = list_of o class head.code body
+-- by the class that a `match` tells
+pub valued_told : (o : Order) (body : List ℕ) (code : ℕ) (y : Result (Option BytePlace) Reason) {class : Class} (told : Class) → class ≡ told
+    → Valued (values_of o told code body).ended (list_of o told code body) y → Valued (values_of o class code body).ended (list_of o class code body) y
+valued_told o body code y told e v = subst (λ (c : Class). Valued (values_of o c code body).ended (list_of o c code body) y) (sym e) v
 
-  body_is : body ≡ take head.length (drop head.size (drop i r))
+-- a leaf is read as an attribute block or as another body
+module _ {a b : Reader} {y : Result (Unit {0}) Reason} (code : ℕ) (class : Class) {block : Bool} (leaf : (class ≡ Fixed) ⊎ (class ≡ Attributes)) (fixed_so : class ≡ Fixed → block ≡ false) (attributes_so : class ≡ Attributes → block ≡ true)
+    (laid : Lays a b y (read_body (order_of a.order) (body_by block code) a.body.now)) where
+  abbrev V : Result (Option BytePlace) Reason → Type 0
+  V z = Valued (values_of (order_of a.order) class code a.body.now).ended (list_of (order_of a.order) class code a.body.now) z
+
+  leaf_valued : (z : Result (Option BytePlace) Reason) → Valued (read_body (order_of a.order) (body_by block code) a.body.now).ended false z → V z
+  leaf_valued z v = go leaf
+    where
+      go : (class ≡ Fixed) ⊎ (class ≡ Attributes) → V z
+      go (inl e) = valued_told (order_of a.order) a.body.now code z Fixed e (subst (λ (b : Bool). Valued (read_body (order_of a.order) (body_by b code) a.body.now).ended false z) (fixed_so e) v)
+      go (inr e) = valued_told (order_of a.order) a.body.now code z Attributes e (subst (λ (b : Bool). Valued (read_body (order_of a.order) (body_by b code) a.body.now).ended false z) (attributes_so e) v)
+
+  pub leaf_ok : {x : Unit {0}} → y ≡ Ok x → V (Ok None)
+  leaf_ok q = leaf_valued (Ok None) (valued (leaf_shown laid q))
+
+  pub leaf_err : {e : Reason} {z : Result (Option BytePlace) Reason} → y ≡ Err e → z ≡ Err e → V z
+  leaf_err {e} {z} q w = leaf_valued z (valued (leaf_refused laid q w))
+
+-- ---- judge_body: its values ended so
+end_ok : (class : Class) (code start stop : ℕ) (z : Ending) (list : Bool) (q : Option BytePlace) → Valued z list (Ok q) → Ok (judged_by class code (span start stop) q) ≡ judged_end class list code start stop z
+end_ok class code start stop (At p) list (Some q) v = let n : p / 8 ≡ q.0 = omega (arith, v.1) in rw (v.0, n)
+end_ok class code start stop (At p) list None v = rw v
+end_ok class code start stop (Fault n) list q v = absurd v
+
+-- the tag with this header at i of the list r
+module _ (o : Order) (class : Class) (r : List ℕ) (i : ℕ) (header : Header) where
+  abbrev start : ℕ
+  start = i + header.size
+
+  abbrev stop : ℕ
+  stop = start + header.length
+
+  abbrev body : List ℕ
+  body = take (stop - start) (drop start r)
+
+  abbrev Ran : List ℕ → Result (Option BytePlace) Reason → Type 0
+  Ran b y = Valued (values_of o class header.code b).ended (list_of o class header.code b) y
+
+  body_is : body ≡ take header.length (drop header.size (drop i r))
   body_is =
-      let n : stop - start ≡ head.length = omega arith in
-      part ∙ rw (n, begin) (ap (take head.length) (sym (drop-drop head.size i r)))
+      let n : stop - start ≡ header.length = omega arith in
+      rw n (ap (take header.length) (sym (drop-drop header.size i r)))
 
-  judged_is : judged_end class list head.code start stop (shown_end R) ≡ judged_at o class r i (as_head (heads.Tag head))
-  judged_is =
-      let b : start + head.length ≡ i + head.size + head.length = omega arith in
-      ap (judged_end class list head.code start stop) ran.0
-      ∙ ap (λ (b : List ℕ). judged_end class (list_of o class head.code b) head.code start stop (values_of o class head.code b).ended) body_is ∙ rw (end, b, begin)
+  module _ {y : Result (Option BytePlace) Reason} (ran : Ran body y) where
+    pub judged_ok : {list : Option BytePlace} {J : Judged} → y ≡ Ok list → J ≡ judged_by class header.code (span start stop) list
+        → numbered {A = Judged} (Ok J) ≡ (judged_at o class r i (paper.head header.code header.length header.size)).judged
+    judged_ok {list} q e = ap Ok e ∙ end_ok class header.code start stop _ _ list (subst (λ (b : List ℕ). Ran b (Ok list)) body_is (subst (Ran body) q ran))
 
-  pub judged_faulty : {e j : ℕ} → R ≡ Stop e j → judged.Faulty e ≡ judged_at o class r i (as_head (heads.Tag head))
-  judged_faulty q = ap (λ (x : Shown). judged_end class list head.code start stop (shown_end x)) (sym q) ∙ judged_is
+    -- its list starts in the room
+    pub judged_fits : {list : Option BytePlace} → y ≡ Ok list → stop ≤ length r → length r ≤ 16777216 → IfSome list (λ place. start + place.0 < 2 ^ 60)
+    judged_fits {list} q l m = go (values_of o class header.code body).ended refl list (subst (Ran body) q ran)
+      where
+        size : length body ≡ header.length
+        size = let n : length body ≡ stop - start = length-take-le (stop - start) (drop start r) (rw length-drop (omega arith)) in omega (arith, n)
 
-  -- whether its list is still to be read
-  judged_good : (p : ℕ) (l : Bool) {x : Judged} {b : Body} → shown_end R ≡ At (8 * p) → is_open R ≡ l → b ≡ stands_at start p stop → x ≡ judged_by class l head.code b → x ≡ judged_at o class r i (as_head (heads.Tag head))
-  judged_good p l q z s e =
-      let n : 8 * p / 8 ≡ p = omega arith in
-      let m : l ≡ list = sym z ∙ ran.1 ∙ ap (opens list) q in
-      e ∙ ap₂ (λ (l : Bool) (b : Body). judged_by class l head.code b) m (s ∙ ap (λ (n : ℕ). stands_at start n stop) (sym n))
-      ∙ ap (judged_end class list head.code start stop) (sym q) ∙ judged_is
-
-  pub judged_done : {p : BytePlace} {j : ℕ} {x : Judged} {b : Body} → R ≡ Done p j → b ≡ stands_at start p.0 stop → x ≡ judged_by class false head.code b → x ≡ judged_at o class r i (as_head (heads.Tag head))
-  judged_done {p} q s e = judged_good p.0 false (ap shown_end q) (ap is_open q) s e
-
-  pub judged_open : {p : BytePlace} {j : ℕ} {x : Judged} {b : Body} → R ≡ Open p j → b ≡ stands_at start p.0 stop → x ≡ judged_by class true head.code b → x ≡ judged_at o class r i (as_head (heads.Tag head))
-  judged_open {p} q s e = judged_good p.0 true (ap shown_end q) (ap is_open q) s e
-
-  -- its values end in the room
-  pub judged_fits : (p : ℕ) → start + head.length ≤ length r → shown_end R ≡ At (8 * p) → start + p ≤ length r
-  judged_fits p l q =
-      let n : length body ≡ head.length = ap length part ∙ length-take-le (stop - start) (drop start r) (rw length-drop (omega arith)) ∙ omega arith in
-      omega (arith, values_le o class head.code body (8 * p) (sym ran.0 ∙ q), n)
-
--- ---- judge_tag: its header, by its class
-module _ (o : Order) (class : Class) (depths : ℕ) (r : List ℕ) (i : ℕ) where
-  -- it is refused
-  pub judged_none : {e : ℕ} → head_by class depths (drop i r) ≡ paper.no_head e → judged.NoTag e ≡ judged_at o class r i (head_by class depths (drop i r))
-  judged_none is = ap (judged_at o class r i) (sym is)
-
-  -- it stands in the room with its body
-  pub judged_stands : {head : Header} → head_by class depths (drop i r) ≡ as_head (heads.Tag head) → i ≤ length r → i + head.size + head.length ≤ length r
-  judged_stands {head} e l =
-      let u : Fits (λ code. bare class) depths (drop i r) (as_head (heads.Tag head)) = subst (Fits (λ code. bare class) depths (drop i r)) e (head_fits (λ code. bare class) depths (drop i r)) in
-      omega (arith, u.1, length-drop i r)
-
--- the class was looked up
-pub judged_in_lem : (o : Order) (ns : List ℕ) (depths : ℕ) (r : List ℕ) (i : ℕ) {class : Class} {code : ℕ} {x : Judged} → class ≡ class_in ns code → code ≡ le16 (drop i r) / 64
-    → x ≡ judged_at o class r i (head_by class depths (drop i r)) → x ≡ judged_in o ns depths r i
-judged_in_lem o ns depths r i e f h = h ∙ ap (λ (c : Class). judged_at o c r i (head_by c depths (drop i r))) (e ∙ ap (class_in ns) f)
+        go : (z : Ending) → (values_of o class header.code body).ended ≡ z → (list : Option BytePlace) → Valued z (list_of o class header.code body) (Ok list) → IfSome list (λ place. start + place.0 < 2 ^ 60)
+        go z e None v = tt
+        go (At p) e (Some q) v = omega (arith, v.1, values_le o class header.code body p e, size, l, m)
+        go (Fault n) e (Some q) v = absurd v

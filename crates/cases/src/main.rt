@@ -1,9 +1,6 @@
 // The listing of each case, or its refusal: the arguments are pairs of a level and a file's name.
 #![tactic(auto)]
 
-ghost use Rattle.std.specs.Prelude.{◌≤◌, length};
-
-use printing::Input;
 use std::env::{Env, FillError};
 use std::fs::File;
 use std::io::{self, Read};
@@ -26,11 +23,9 @@ fn level_of(word: &[u8]) -> u32 {
 
 // The line before a case's listing: its name and its level.
 fn print_name(rt: &(impl Print + Eprint), name: &[u8], level: &[u8]) {
-    printing::write(rt, b"# ");
-    printing::write(rt, name);
-    printing::write(rt, b" ");
-    printing::write(rt, level);
-    printing::write(rt, b"\n");
+    for text in [b"# ".as_slice(), name, b" ", level, b"\n"] {
+        let _ = printing::write(rt, text);
+    }
 }
 
 fn print_file(rt: &(impl Print + Eprint), level: u32, file: &[u8]) {
@@ -52,14 +47,9 @@ fn print_input(
     name: &str,
 ) {
     match printing::read_input(source, file) {
-        Input::Failed(why) => fail(rt, name, why),
-        Input::Bytes(n) => {
-            if MOST < n {
-                printing::print_too_long(rt);
-            } else {
-                print_file(rt, level, &file[0..n]);
-            }
-        }
+        Ok(count) if count <= MOST => print_file(rt, level, &file[..count]),
+        Ok(_) => printing::print_too_long(rt),
+        Err(why) => fail(rt, name, why),
     }
 }
 
@@ -73,22 +63,23 @@ fn print_named(rt: &(impl Files + Print + Eprint), level: u32, name: &str) {
     }
 }
 
-// An argument at the start of the lent room, and its length: 0 if there is none, or no room for it.
-fn put_arg(rt: &impl Env, i: usize, word: &mut [u8]) -> usize
-    ensures { result ≤ length word.new }
-{
-    rt.arg(i, word).unwrap_or(0)
+// An argument, laid into the lent room: empty if there is none, or no room for it.
+fn arg<'a>(rt: &impl Env, i: usize, room: &'a mut [u8]) -> &'a [u8] {
+    match rt.arg(i, room) {
+        Ok(count) => &room[..count],
+        Err(_) => &[],
+    }
 }
 
 // The case whose level is argument i; its name is the next.
 fn print_case(rt: &(impl Env + Files + Print + Eprint), i: usize, next: usize) {
-    let mut level = [0u8; 4096];
-    let mut name = [0u8; 4096];
-    let n = put_arg(rt, i, &mut level);
-    let m = put_arg(rt, next, &mut name);
-    print_name(rt, &name[..m], &level[..n]);
-    match str::from_utf8(&name[..m]) {
-        Ok(name) => print_named(rt, level_of(&level[..n]), name),
+    let mut level_room = [0u8; 4096];
+    let mut name_room = [0u8; 4096];
+    let level = arg(rt, i, &mut level_room);
+    let name = arg(rt, next, &mut name_room);
+    print_name(rt, name, level);
+    match str::from_utf8(name) {
+        Ok(name) => print_named(rt, level_of(level), name),
         Err(_) => {
             let _ = eprintln!(rt; "a file's name is not UTF-8");
         }

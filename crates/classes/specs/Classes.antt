@@ -1,6 +1,5 @@
 -- The class of a code at a level, as the program has it.
-use Rattle.std.specs.Prelude.{ℕ, List, [], ◌≡◌, length, get_or, eqb, Bool}
-use Rattle.format.specs.Tests.{pick}
+use Rattle.std.specs.Prelude.{ℕ, List, [], ◌≡◌, length, get_or, Bool}
 use Rattle.format.specs.Formats.{nothing}
 use Rattle.format.specs.Bodies.{fixed, attributes}
 use Rattle.format.specs.FileAndTags as paper
@@ -60,23 +59,11 @@ taken_as Lists class = named (skimmed Lists (bare class))
 abbrev pub class_by : Scope → ℕ → ℕ → paper.Class
 class_by scope level code = skimmed scope (class_of level code)
 
--- ---- Classes as numbers.
+-- by name
+abbrev pub named_by : Scope → ℕ → ℕ → Class
+named_by scope level code = named (class_by scope level code)
 
-abbrev pub number_of : Class → ℕ
-number_of Opaque = 0
-number_of End = 1
-number_of Container = 2
-number_of Fixed = 3
-number_of Attributes = 4
-
-abbrev pub numbered : ℕ → Class
-numbered n = pick (eqb n 0) Opaque (pick (eqb n 1) End (pick (eqb n 2) Container (pick (eqb n 3) Fixed Attributes)))
-
--- the number of the class that a walk goes by
-abbrev pub number_by : Scope → ℕ → ℕ → ℕ
-number_by scope level code = number_of (named (class_by scope level code))
-
--- a table of numbers has the classes that a walk goes by
-pub record Classed (scope : Scope) (level : ℕ) (ns : List ℕ) : Type 0 where
-  pub size : length ns ≡ 1024
-  pub each : (code : ℕ) → numbered (get_or ns code 0) ≡ named (class_by scope level code)
+-- a table has the classes that a walk goes by
+pub record Classed (scope : Scope) (level : ℕ) (cs : List Class) : Type 0 where
+  pub size : length cs ≡ 1024
+  pub each : (code : ℕ) → get_or cs code Opaque ≡ named_by scope level code

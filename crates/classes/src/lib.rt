@@ -5,10 +5,10 @@ ghost use Rattle.std.specs.Prelude.{◌≡◌, ltb, ◌<◌, length};
 ghost use Rattle.format.specs.Tests.{pick};
 ghost use Rattle.std.proofs.lemmas.List.Edits.{sets};
 ghost use Rattle.classes.specs.Tables.{tab};
-ghost use Rattle.classes.specs.Classes.{all_classes, taken_as, number_of, numbered, number_by};
+ghost use Rattle.classes.specs.Classes.{all_classes, taken_as, named_by};
 ghost use Rattle.classes.specs.declared.Class.TheVariants.{Opaque};
 
-#[derive(Clone, Copy)]
+#[derive(Clone, Copy, Debug, PartialEq, Eq)]
 pub enum Class {
     Opaque,
     End,
@@ -18,7 +18,7 @@ pub enum Class {
 }
 
 // How much a walk reads of a tag list: all of it; or, where all of it was judged before, the lists alone, with every other body opaque.
-#[derive(Clone, Copy)]
+#[derive(Clone, Copy, Debug, PartialEq, Eq)]
 pub enum Scope {
     All,
     Lists,
@@ -86,54 +86,21 @@ pub fn at_level(level: u32, code: u32, listed: Class) -> Class
 pub fn taken_as(scope: Scope, class: Class) -> Class
     ensures { result ≡ taken_as scope class }
 {
-    match scope {
-        Scope::All => class,
-        Scope::Lists => match class {
-            Class::Opaque => Class::Opaque,
-            Class::End => Class::End,
-            Class::Container => Class::Container,
-            Class::Fixed => Class::Opaque,
-            Class::Attributes => Class::Opaque,
-        },
+    if scope == Scope::All || matches!(class, Class::End | Class::Container) {
+        class
+    } else {
+        Class::Opaque
     }
 }
 
-// A class as a number. A reference to enums is not covered, so a walk lends its classes as numbers.
-fn number_of(class: Class) -> u8
-    ensures { result ≡ number_of class }
+// The classes that a walk goes by, those of the codes of the table's first row; the other codes are opaque.
+pub fn fill_first(scope: Scope, level: u32, classes: &mut [Class])
+    requires { 31 < length classes.old }
+    ensures { classes.new ≡ sets classes.old 0 (tab (named_by scope level) 0 32) }
 {
-    match class {
-        Class::Opaque => 0,
-        Class::End => 1,
-        Class::Container => 2,
-        Class::Fixed => 3,
-        Class::Attributes => 4,
-    }
-}
-
-// The class of a number.
-pub fn class_numbered(number: u8) -> Class
-    ensures { result ≡ numbered number }
-{
-    match number {
-        0 => Class::Opaque,
-        1 => Class::End,
-        2 => Class::Container,
-        3 => Class::Fixed,
-        _ => Class::Attributes,
-    }
-}
-
-// The numbers of the classes that a walk goes by, from the first row of the table; those of the other rows are opaque.
-pub fn number_first(scope: Scope, level: u32, numbers: &mut [u8])
-    requires { 31 < length numbers.old }
-    ensures { numbers.new ≡ sets numbers.old 0 (tab (number_by scope level) 0 32) }
-{
-    let classes = all();
-    let mut code = 0;
-    while code < 32 {
-        let listed = classes[0][code];
-        numbers[code] = number_of(taken_as(scope, at_level(level, code as u32, listed)));
-        code += 1;
+    let table = all();
+    for code in 0..32 {
+        let listed = table[0][code];
+        classes[code] = taken_as(scope, at_level(level, code as u32, listed));
     }
 }

@@ -1,17 +1,19 @@
 -- The rows of a code are read as document 01's format; and a loop that reads a format part by part.
 use Prim.Native.Nat.{ℕ, zero, suc, ◌+◌, ◌*◌, ◌≤◌, ◌<◌}
 use mathlib.Core.List.{List, [], ◌∷◌, ◌++◌}
-use mathlib.Core.Path.{◌≡◌, refl, ap, sym, ◌∙◌}
+use mathlib.Core.Path.{◌≡◌, refl, ap, ap₂, sym, ◌∙◌}
 use mathlib.Core.Bool.{Bool, true, false}
 use native.Mathlib.Numerals.{add-one}
 use native.Mathlib.Omega.{arith}
-use lib.ListN.{get_or}
-use lib.Seq.{slice-cons, slice_empty}
+use lib.ListN.{length, get_or, drop}
+use lib.Seq.{drop-cons}
+use Rattle.std.proofs.lemmas.List.{drop_all}
 use lib.Dec.{eqb}
 use borrow.Author.Tests.{ne_eqb}
+use Rattle.std.proofs.Common.{Result, Ok}
 use Rattle.format.specs.Tests.{pick}
 use Rattle.format.specs.Bits.{Order}
-use Rattle.format.specs.Reading.{Reading}
+use Rattle.format.specs.Reading.{Ending, shows}
 use Rattle.format.specs.Formats.{Format, nothing, ◌▸◌, times}
 use Rattle.format.specs.Items.{run, u32, i32, time, byte, color}
 use Rattle.format.specs.Bodies.{font_tables, composition_attributes, solid_color, image_reference, composition_reference}
@@ -20,10 +22,16 @@ use Rattle.format.proofs.SizeLaws.{Fair, fair_nothing}
 use Rattle.format.proofs.RoomLaws.{fair_class}
 use Rattle.items.specs.Kinds.{format_of}
 use Rattle.items.specs.declared.Item.{Item}
-use Rattle.items.specs.declared.Item.TheVariants.{U32, I32, Byte}
+use Rattle.items.specs.declared.Item.TheVariants.{U32, I32, Time, Float, Byte, Count}
+use Rattle.items.proofs.ItemLaws.{count_range}
+use Rattle.reasons.specs.declared.Reason.{Reason}
+use Rattle.bits.specs.Places.{order_of}
 use Rattle.table.specs.State.{State, shown_over}
+use Rattle.table.specs.Readers.{Reads, state_of}
+use Rattle.table.specs.declared.reader.Reader.{Reader}
+use Rattle.table.proofs.ReaderLaws.{reading}
 use Rattle.table.proofs.EngineLaws.{Alike, alike_nothing, alike_assoc, alike_after}
-use Rattle.fixed.specs.Fixed.{in_order, all_items, items_from, fixed_of, RowsOf}
+use Rattle.fixed.specs.Fixed.{in_order, fixed_of, RowsOf}
 
 -- ---- every number takes a bit at least
 
@@ -50,62 +58,63 @@ unfolding in_order run
 in_order_append [] js o b p = refl
 in_order_append (i ∷ is) js o b p = alike_after (format_of i) (in_order (is ++ js)) (in_order is ▸ in_order js) (in_order_append is js) o b p ∙ sym (alike_assoc (format_of i) (in_order is) (in_order js) o b p)
 
-pub items_2 : Alike (in_order (items_from 0 1)) vector_composition
+pub items_2 : Alike (in_order (U32 ∷ [])) vector_composition
 unfolding in_order
 items_2 = alike_nothing u32
 
-pub items_3 : Alike (in_order (items_from 1 8)) composition_attributes
+pub items_3 : Alike (in_order (I32 ∷ I32 ∷ Time ∷ Float ∷ Byte ∷ Byte ∷ Byte ∷ [])) composition_attributes
 unfolding in_order times
 items_3 o b p = refl
 
-pub items_5 : Alike (in_order (items_from 8 10)) layer_block
+pub items_5 : Alike (in_order (Byte ∷ U32 ∷ [])) layer_block
 unfolding in_order
 items_5 = alike_after byte (u32 ▸ nothing) u32 (alike_nothing u32)
 
-pub items_7 : Alike (in_order (items_from 10 15)) solid_color
+pub items_7 : Alike (in_order (Byte ∷ Byte ∷ Byte ∷ I32 ∷ I32 ∷ [])) solid_color
 unfolding in_order times
 items_7 o b p = in_order_append (Byte ∷ Byte ∷ Byte ∷ []) (I32 ∷ I32 ∷ []) o b p ∙ alike_after color _ _ (alike_after i32 _ _ (alike_nothing i32)) o b p
 
-pub items_11 : Alike (in_order (items_from 15 16)) image_reference
+pub items_11 : Alike (in_order (U32 ∷ [])) image_reference
 unfolding in_order
 items_11 = alike_nothing u32
 
-pub items_12 : Alike (in_order (items_from 16 18)) composition_reference
+pub items_12 : Alike (in_order (U32 ∷ Time ∷ [])) composition_reference
 unfolding in_order
 items_12 = alike_after u32 (time ▸ nothing) time (alike_nothing time)
 
 -- for the arm of a code that was told
-pub rows_are : {code start end : ℕ} (told : ℕ) → code ≡ told → start ≤ end → end ≤ 18 → Alike (in_order (items_from start end)) (fixed_of told) → RowsOf code start end
-rows_are told e l m h = record { ordered = l; inside = m; items = λ q b p. rw e (h q b p) }
+pub rows_are : {code : ℕ} {rows : List Item} (told : ℕ) → code ≡ told → Alike (in_order rows) (fixed_of told) → RowsOf code rows
+rows_are told e h = record { items = λ q b p. rw e (h q b p) }
 
 -- for the codes that are not told
-pub rows_none : {code : ℕ} → (code ≡ 1 → ⊥) → (code ≡ 2 → ⊥) → (code ≡ 3 → ⊥) → (code ≡ 5 → ⊥) → (code ≡ 7 → ⊥) → (code ≡ 11 → ⊥) → (code ≡ 12 → ⊥) → RowsOf code 0 0
+pub rows_none : {code : ℕ} → (code ≡ 1 → ⊥) → (code ≡ 2 → ⊥) → (code ≡ 3 → ⊥) → (code ≡ 5 → ⊥) → (code ≡ 7 → ⊥) → (code ≡ 11 → ⊥) → (code ≡ 12 → ⊥) → RowsOf code []
 unfolding fixed_of in_order
 rows_none {code} a b c d e f g = record {
-  ordered = omega arith;
-  inside = omega arith;
   items = λ q bytes p. rw (ne_eqb code 1 a, ne_eqb code 2 b, ne_eqb code 3 c, ne_eqb code 5 d, ne_eqb code 7 e, ne_eqb code 11 f, ne_eqb code 12 g);
 }
 
+-- a code as its items or its rows are read
 pub fixed_fonts : (code : ℕ) → code ≡ 1 → fixed_of code ≡ font_tables
 unfolding fixed_of
 fixed_fonts code e = rw e
 
--- what was left by a reading that is the same
-pub left_as : {x : State} {r w : Reading} (t : List ℕ) (k : ℕ) → r ≡ w → x ≡ shown_over t k r → x ≡ shown_over t k w
-left_as t k h e = e ∙ ap (shown_over t k) h
+-- ---- fonts: how many there are is told
+pub fonts_few : {a b : Reader} {r : Result ℕ Reason} {n : ℕ} → Reads a b r (format_of (Count 0)) → r ≡ Ok n → (reading a (format_of (Count 0))).shown ≡ n ∷ [] → n ≤ 4096
+unfolding shown_over
+fonts_few {a} {b} {r} {n} h e shown =
+    let z : reading a (format_of (Count 0)) ≡ shows (n ∷ []) b.place.0 = ap₂ (λ (xs : List ℕ) (z : Ending). record { shown = xs; ended = z }) shown (ap (λ (s : State). s.ended) (sym h.left ∙ ap (state_of b) e)) in
+    (count_range (order_of a.order) a.body.now a.place.0 0 z).1
 
 -- ---- formats, part by part
 
--- the rows from row on are the row there and those after it
-pub items_more : {kind : Item} (row end : ℕ) → kind ≡ get_or all_items row U32 → row < end → end ≤ 18
-    → in_order (items_from row end) ≡ format_of kind ▸ in_order (items_from (row + 1) end)
+-- the items of the rows from here on are the item of the row here and those after it; or none are left
+pub items_more : (rows : List Item) (i : ℕ) (d : Item) → i < length rows → in_order (drop i rows) ≡ format_of (get_or rows i d) ▸ in_order (drop (i + 1) rows)
 unfolding in_order
-items_more row end e h l = rw (e, add-one, slice-cons row end all_items U32 h l)
+items_more rows i d h = rw (add-one i, drop-cons rows i d h)
 
-pub items_none : (row end : ℕ) → row ≡ end → in_order (items_from row end) ≡ nothing
+pub items_over : (rows : List Item) (i : ℕ) → length rows ≤ i → in_order (drop i rows) ≡ nothing
 unfolding in_order
-items_none row end e = rw (e, slice_empty end all_items)
+items_over rows i h = rw (drop_all i rows h)
 
 -- n times two is twice n
 pub pairs : (n : ℕ) (f : Format) → Alike (times n (f ▸ f)) (times (2 * n) f)

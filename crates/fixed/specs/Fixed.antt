@@ -1,6 +1,5 @@
 -- The constant table of the items of fixed bodies, in the words of the definitions.
-use Rattle.std.specs.Prelude.{ℕ, ◌≤◌, ◌≡◌, List, [], ◌∷◌, eqb}
-use Rattle.std.proofs.Math.Seq.{slice}
+use Rattle.std.specs.Prelude.{ℕ, ◌≡◌, List, [], ◌∷◌, eqb}
 use Rattle.format.specs.Tests.{pick}
 use Rattle.format.specs.Bits.{Order}
 use Rattle.format.specs.Formats.{Format, nothing, ◌▸◌}
@@ -9,19 +8,11 @@ use Rattle.format.specs.Bodies.{font_tables, composition_attributes, solid_color
 use Rattle.format.specs.FileAndTags.{vector_composition, layer_block}
 use Rattle.items.specs.Kinds.{format_of}
 use Rattle.items.specs.declared.Item.{Item}
-use Rattle.items.specs.declared.Item.TheVariants.{U32, I32, Time, Float, Byte}
 
 -- items in order
 unfoldable pub in_order : List Item → Format
 in_order [] = nothing
 in_order (i ∷ is) = format_of i ▸ in_order is
-
--- the items of 2, 3, 5, 7, 11 and 12, one after the other
-abbrev pub all_items : List Item
-all_items = U32 ∷ I32 ∷ I32 ∷ Time ∷ Float ∷ Byte ∷ Byte ∷ Byte ∷ Byte ∷ U32 ∷ Byte ∷ Byte ∷ Byte ∷ I32 ∷ I32 ∷ U32 ∷ U32 ∷ Time ∷ []
-
-abbrev pub items_from : ℕ → ℕ → List Item
-items_from start end = slice start end all_items
 
 -- the items of a tag that is no attribute block: of a container those before its list; the others have none
 unfoldable pub fixed_of : ℕ → Format
@@ -35,8 +26,6 @@ fixed_of code =
     (pick (eqb code 12) composition_reference
     nothing))))))
 
--- the rows from start up to end are read as the items of the code
-pub record RowsOf (code start end : ℕ) : Type 0 where
-  pub ordered : start ≤ end
-  pub inside : end ≤ 18
-  pub items : (o : Order) (b : List ℕ) (p : ℕ) → run o b (in_order (items_from start end)) p ≡ run o b (fixed_of code) p
+-- these rows are read as the items of the code
+pub record RowsOf (code : ℕ) (rows : List Item) : Type 0 where
+  pub items : (o : Order) (b : List ℕ) (p : ℕ) → run o b (in_order rows) p ≡ run o b (fixed_of code) p

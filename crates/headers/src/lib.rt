@@ -1,41 +1,28 @@
 // Tag headers: a little-endian 16-bit number, and a 32-bit body length after it where its length is 63.
 #![tactic(auto)]
 
-ghost use Rattle.std.specs.Prelude.{◌≡◌, ◌+◌, ◌<◌, ◌≤◌, ◌^◌, length, drop};
+ghost use Rattle.std.specs.Prelude.{◌≡◌, ◌+◌, ◌<◌, ◌≤◌, length, drop, IfOk};
 ghost use Rattle.format.specs.FileAndTags.{le16, le32, raw_head};
-ghost use Rattle.headers.specs.Heads.{as_head, code_of, fault_by};
+ghost use Rattle.headers.specs.Heads.{as_head, as_passed, class_here, fault_of, fault_by, head_by};
 
 use bits::BytePlace;
 use classes::Class;
+use reasons::Reason;
 
 // A tag's header: its code, the length of its body, and its own size, in bytes.
-#[derive(Clone, Copy)]
+#[derive(Clone, Copy, Debug, PartialEq, Eq)]
 pub struct Header {
     pub code: u32,
     pub length: u32,
     pub size: u32,
 }
 
-// A header, or a reason.
-#[derive(Clone, Copy)]
-pub enum Head {
-    Tag(Header),
-    Fault(u32),
-}
-
-fn wide(b: u8) -> u32
-    ensures { (result ≡ b) × (result < 256) }
-{
-    b as u32
-}
-
 // The little-endian 16-bit number at an index.
-fn le16_at(bytes: &[u8], i: usize) -> u32
+fn le16_at(bytes: &[u8], i: usize) -> u16
     requires { i + 2 ≤ length bytes.now }
-    ensures { (result ≡ le16 (drop i bytes.now)) × (result < 2 ^ 16) }
+    ensures { result ≡ le16 (drop i bytes.now) }
 {
-    let second = i + 1;
-    wide(bytes[i]) + 256 * wide(bytes[second])
+    u16::from_le_bytes([bytes[i], bytes[i + 1]])
 }
 
 // The little-endian 32-bit number at an index.
@@ -43,53 +30,76 @@ pub fn le32_at(bytes: &[u8], i: usize) -> u32
     requires { i + 4 ≤ length bytes.now }
     ensures { result ≡ le32 (drop i bytes.now) }
 {
-    let upper = i + 2;
-    le16_at(bytes, i) + 65536 * le16_at(bytes, upper)
+    u32::from_le_bytes([bytes[i], bytes[i + 1], bytes[i + 2], bytes[i + 3]])
 }
 
 // The header as it stands in a list's room, unless the room's end cuts it (6). The long one takes any length.
-pub fn raw_head(room: &[u8], at: BytePlace) -> Head
+pub fn raw_head(room: &[u8], at: BytePlace) -> Result<Header, Reason>
     requires { at.0 ≤ length room.now }
-    ensures { (as_head result ≡ raw_head (drop at.0 room.now)) × (code_of result < 1024) }
+    ensures { (as_head result ≡ raw_head (drop at.0 room.now)) × IfOk result (λ header. header.code < 1024) }
 {
     let i = at.0;
     let rest = room.len() - i;
     if rest < 2 {
-        return Head::Fault(6);
+        return Err(Reason::HeaderCut);
     }
-    let number = le16_at(room, i);
+    let number = u32::from(le16_at(room, i));
     let code = number / 64;
     let short = number % 64;
     if short != 63 {
-        return Head::Tag(Header {
-            code: code,
+        return Ok(Header {
+            code,
             length: short,
             size: 2,
         });
     }
     if rest < 6 {
-        return Head::Fault(6);
+        return Err(Reason::HeaderCut);
     }
-    Head::Tag(Header {
-        code: code,
+    Ok(Header {
+        code,
         length: le32_at(room, i + 2),
         size: 6,
     })
 }
 
-// Why a header does not pass, 0 if it does; `class` is that of its code, and `rest` bytes of the list's room follow it: its body is longer (9); End has a
-// body (10); a container, and no depth is left (12).
-pub fn head_fault(class: Class, depths: u32, rest: usize, len: u32) -> u32
-    ensures { result ≡ fault_by class depths rest len }
+// Whether a header passes; `class` is that of its code, and `rest` bytes of the list's room follow it: its body is longer (9); End has a body (10); a
+// container, and no depth is left (12).
+pub fn passes(class: Class, depths: u32, rest: usize, len: u32) -> Result<(), Reason>
+    ensures { fault_of result ≡ fault_by class depths rest len }
 {
     if rest < len as usize {
-        return 9;
+        return Err(Reason::BodyLongerThanList);
     }
     match class {
-        Class::End => if 0 < len { 10 } else { 0 },
-        Class::Container => if depths == 0 { 12 } else { 0 },
-        Class::Opaque => 0,
-        Class::Fixed => 0,
-        Class::Attributes => 0,
+        Class::End if 0 < len => Err(Reason::EndWithABody),
+        Class::Container if depths == 0 => Err(Reason::ContainerAtDepth8),
+        _ => Ok(()),
     }
+}
+
+// A header that passes, and the class of its code.
+#[derive(Clone, Copy, Debug, PartialEq, Eq)]
+pub struct Passed {
+    pub class: Class,
+    pub header: Header,
+}
+
+// The header at a place of a list's room, if it passes: once as it stands, then the class of its code among those lent, then the judge.
+pub fn read_head(
+    classes: &[Class],
+    depths: u32,
+    room: &[u8],
+    at: BytePlace,
+) -> Result<Passed, Reason>
+    requires { (length classes.now ≡ 1024) × (at.0 ≤ length room.now) }
+    ensures told { as_passed result ≡ head_by (class_here classes.now (drop at.0 room.now)) depths (drop at.0 room.now) }
+    ensures class { IfOk result (λ passed. passed.class ≡ class_here classes.now (drop at.0 room.now)) }
+    ensures inside { IfOk result (λ passed. at.0 + passed.header.size + passed.header.length ≤ length room.now) }
+{
+    let header = raw_head(room, at)?;
+    let class = classes[header.code as usize];
+    let start = at.0 + header.size as usize;
+    passes(class, depths, room.len() - start, header.length)?;
+    Ok(Passed { class, header })
 }

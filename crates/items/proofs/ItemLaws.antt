@@ -1,4 +1,6 @@
 -- Every item that shows one number: the skip to a whole byte (15), its bytes (13, 14), its range (16, 17). Assumes nothing.
+use std.HLevel.{prop→path_p}
+use native.Mathlib.Nat.{ℕ_set}
 use Rattle.std.proofs.Common.{◌≡◌, ℕ, zero, suc, ◌+◌, ◌*◌, ◌/◌, ◌%◌, ◌^◌, ◌<◌, ◌≤◌, Bool, true, false, eqb, ltb, leb, List, [], ◌∷◌, length, sym, refl, ap, ◌∙◌, add-zero, arith, lit≤, ltb-false, ltb-true, eq-eqb, ne_eqb, eqb-true, leb-true}
 use borrow.Author.Tests.{eqb-false}
 use Rattle.format.specs.Tests.{pick, ◌and◌}
@@ -11,26 +13,27 @@ use Rattle.format.proofs.BitLaws.{ub_lt}
 use Rattle.format.proofs.Absurd.{clash}
 use Rattle.bits.specs.Places.{num_of}
 use Rattle.bits.proofs.FieldLaws.{num_one}
-use Rattle.bits.specs.declared.BitPlace.{BitPlace}
-use Rattle.bits.specs.declared.Got.{Got}
-use Rattle.bits.specs.declared.Got.TheVariants.{Value, Fault}
-use Rattle.items.specs.Kinds.{format_of, spelt, range_fault, by_bits, Told}
+use Rattle.bits.specs.declared.Number.{Number}
+use Rattle.reasons.specs.declared.Reason.{Reason}
+use Rattle.reasons.specs.Numbers.{number_of, fault_of}
+use Rattle.reasons.proofs.NumberLaws.{number_one}
+use Rattle.std.specs.Prelude.{Result, Ok, Err}
+use Rattle.items.specs.Kinds.{format_of, spelt, range_fault, by_bits}
 use Rattle.items.specs.declared.Item.{Item}
 use Rattle.items.specs.declared.Item.TheVariants.{U32, I32, Time, Float, Uint16, Byte, Enum, BlendMode, Count}
 use Rattle.items.specs.declared.Spelled.{Spelled}
-use Rattle.items.specs.declared.Spelled.TheVariants as spelled
 use Rattle.items.proofs.VarLaws.{IsByte, byte_is, room_is, room_not, Below, var_below}
 
 -- ---- what an answer tells a caller
-module _ {r : Got} {w : Reading} (so : show_num (num_of r) ≡ w) where
-  pub got_value : {v : ℕ} {q : BitPlace} → r ≡ Value v q → w ≡ shows (v ∷ []) q.0
-  got_value e = sym so ∙ ap (λ (g : Got). show_num (num_of g)) e
+module _ {r : Result Number Reason} {w : Reading} (so : show_num (num_of r) ≡ w) where
+  pub got_value : {n : Number} → r ≡ Ok n → w ≡ shows (n.value ∷ []) n.next.0
+  got_value e = sym so ∙ ap (λ (g : Result Number Reason). show_num (num_of g)) e
 
-  pub got_fault : {e : ℕ} → r ≡ Fault e → w ≡ stop e
-  got_fault e = sym so ∙ ap (λ (g : Got). show_num (num_of g)) e
+  pub got_fault : {e : Reason} → r ≡ Err e → w ≡ stop (number_of e)
+  got_fault e = sym so ∙ ap (λ (g : Result Number Reason). show_num (num_of g)) e
 
 -- no second answer fits a promise that shows a number or a reason
-pub shown_one : (a b : Got) → show_num (num_of a) ≡ show_num (num_of b) → a ≡ b
+pub shown_one : (a b : Result Number Reason) → show_num (num_of a) ≡ show_num (num_of b) → a ≡ b
 shown_one a b e = num_one a b (go (num_of a) (num_of b) (ap (λ (r : Reading). r.shown) e) (ap (λ (r : Reading). r.ended) e))
   where
     go : (m n : Num) → (show_num m).shown ≡ (show_num n).shown → (show_num m).ended ≡ (show_num n).ended → m ≡ n
@@ -40,18 +43,18 @@ shown_one a b e = num_one a b (go (num_of a) (num_of b) (ap (λ (r : Reading). r
     go (bad e) (bad f) c z = let d : e ≡ f = cc in ap bad d
 
 -- and none that names the whole byte behind the number, in both counts
-pub spelled_one : (a b : Spelled) → Told a → Told b → show_num (num_of (by_bits a)) ≡ show_num (num_of (by_bits b)) → a ≡ b
-spelled_one a b s t e = go a b s t (ap num_of (shown_one (by_bits a) (by_bits b) e))
+pub spelled_one : (a b : Result Spelled Reason) → show_num (num_of (by_bits a)) ≡ show_num (num_of (by_bits b)) → a ≡ b
+spelled_one a b e = go a b (ap num_of (shown_one (by_bits a) (by_bits b) e))
   where
-    go : (a b : Spelled) → Told a → Told b → num_of (by_bits a) ≡ num_of (by_bits b) → a ≡ b
-    go (spelled.Value v w) (spelled.Value x y) s t e =
-        let d : v ≡ x = cc in
-        let f : w.bit.0 ≡ y.bit.0 = cc in
-        let g : w.byte.0 ≡ y.byte.0 = omega arith in
-        λ i. spelled.Value (d i) (record { byte = record { 0 = g i }; bit = record { 0 = f i } })
-    go (spelled.Value v w) (spelled.Fault z) s t e = clash cc
-    go (spelled.Fault z) (spelled.Value v w) s t e = clash cc
-    go (spelled.Fault y) (spelled.Fault z) s t e = let d : y ≡ z = cc in ap spelled.Fault d
+    go : (a b : Result Spelled Reason) → num_of (by_bits a) ≡ num_of (by_bits b) → a ≡ b
+    go (Ok s) (Ok t) e =
+        let d : s.value ≡ t.value = cc in
+        let f : s.next.bit.0 ≡ t.next.bit.0 = cc in
+        let g : s.next.byte.0 ≡ t.next.byte.0 = omega (arith, s.next.same, t.next.same) in
+        λ i. Ok (record { value = d i; next = record { byte = record { 0 = g i }; bit = record { 0 = f i }; same = prop→path_p (λ j. ◌≡◌ {A = ℕ} (f j) (8 * g j)) (ℕ_set _ _) s.next.same t.next.same i } })
+    go (Ok s) (Err z) e = clash cc
+    go (Err z) (Ok s) e = clash cc
+    go (Err y) (Err z) e = let d : number_of y ≡ number_of z = cc in ap Err (number_one y z d)
 
 -- ---- a Float and a Uint16: bytes, lowest first
 module _ (o : Order) (s : List ℕ) where
@@ -116,8 +119,8 @@ module _ {w : Num} {d q : ℕ} (so : num d q ≡ w) where
   pub i32_odd : {r : ℕ} → (d ≡ 1 → ⊥) → (d % 2 ≡ 0 → ⊥) → d < 2 ^ 64 → r < 2 ^ 64 → (r + d / 2) % 2 ^ 64 ≡ 0 → num r q ≡ map_num sign (not_one w)
   i32_odd n e l m f = rw (← so, ne_eqb d 1 n, ne_eqb (d % 2) 0 e) (ap (λ (x : ℕ). num x q) (omega arith))
 
-pub i32_bad : {r : Got} {w : Num} {e : ℕ} → r ≡ Fault e → num_of r ≡ w → num_of r ≡ map_num sign (not_one w)
-i32_bad h so = rw (← so, h)
+pub i32_bad : {w : Num} {e : ℕ} → bad e ≡ w → bad e ≡ map_num sign (not_one w)
+i32_bad so = rw (← so)
 
 -- ---- an item is its bytes from the next whole byte on, in its range
 abbrev ranged : Item → Num → Num
@@ -161,37 +164,37 @@ item_is o b p BlendMode n h = held_is o b p BlendMode n _ (h (formats.Item.UB 8)
 item_is o b p (Count lo) n h = held_is o b p (Count lo) n _ (h formats.Item.U32 (λ q. refl)) _ _ refl (λ v. refl)
 
 -- a skipped bit is not zero
-pub item_unclean : (o : Order) (b : List ℕ) (p : ℕ) (k : Item) → read_align o b p ≡ stop 15 → run o b (format_of k) p ≡ stop 15
+pub item_unclean : (o : Order) (b : List ℕ) (p : ℕ) (k : Item) {e : ℕ} → read_align o b p ≡ stop e → run o b (format_of k) p ≡ stop e
 unfolding run read_item
-item_unclean o b p k skip = item_is o b p k (bad 15) (λ i so. rw skip)
+item_unclean o b p k {e} skip = item_is o b p k (bad e) (λ i so. rw skip)
 
 -- they are zero, and the bytes read as n
 item_clean : (o : Order) (b : List ℕ) (p : ℕ) (k : Item) {q : ℕ} (n : Num) → read_align o b p ≡ shows [] q → n ≡ spelt o k b q → run o b (format_of k) p ≡ show_num (ranged k n)
 unfolding run read_item
 item_clean o b p k {q} n skip bytes = item_is o b p k n (λ i so. rw (skip, bytes) (so q))
 
-module _ (o : Order) (b : List ℕ) (p : ℕ) (k : Item) {q : ℕ} {r : Got} (skip : read_align o b p ≡ shows [] q) (bytes : num_of r ≡ spelt o k b q) where
-  pub item_bad : {e : ℕ} → r ≡ Fault e → show_num (num_of r) ≡ run o b (format_of k) p
-  item_bad h = sym (item_clean o b p k (num_of r) skip bytes ∙ rw h)
+module _ (o : Order) (b : List ℕ) (p : ℕ) (k : Item) {q : ℕ} (skip : read_align o b p ≡ shows [] q) where
+  pub item_bad : {e : ℕ} → bad e ≡ spelt o k b q → stop e ≡ run o b (format_of k) p
+  item_bad {e} h = sym (item_clean o b p k (bad e) skip h)
 
-  pub item_in : {v : ℕ} {z : BitPlace} → r ≡ Value v z → range_fault k v ≡ 0 → shows (v ∷ []) z.0 ≡ run o b (format_of k) p
-  item_in h e = sym (item_clean o b p k (num_of r) skip bytes ∙ rw (h, e))
+  pub item_in : {v z : ℕ} → num v z ≡ spelt o k b q → range_fault k v ≡ 0 → shows (v ∷ []) z ≡ run o b (format_of k) p
+  item_in {v} {z} h e = sym (item_clean o b p k (num v z) skip h ∙ rw e)
 
-  pub item_out : {v e : ℕ} {z : BitPlace} → r ≡ Value v z → e ≡ range_fault k v → (e ≡ 0 → ⊥) → stop e ≡ run o b (format_of k) p
-  item_out {v} {e} h f n = sym (item_clean o b p k (num_of r) skip bytes ∙ rw (h, ← f, ne_eqb e 0 n))
+  pub item_out : {v z e : ℕ} → num v z ≡ spelt o k b q → e ≡ range_fault k v → 0 < e → stop e ≡ run o b (format_of k) p
+  item_out {v} {z} {e} h f n = sym (item_clean o b p k (num v z) skip h ∙ rw (← f, ne_eqb e 0 (λ x. omega arith)))
 
 -- a Time has no range
-item_time : (o : Order) (b : List ℕ) (p : ℕ) {q : ℕ} (r : Got) → read_align o b p ≡ shows [] q → num_of r ≡ spelt o Time b q → show_num (num_of r) ≡ run o b (format_of Time) p
+item_time : (o : Order) (b : List ℕ) (p : ℕ) {q : ℕ} (r : Result Number Reason) → read_align o b p ≡ shows [] q → num_of r ≡ spelt o Time b q → show_num (num_of r) ≡ run o b (format_of Time) p
 unfolding range_fault
-item_time o b p (Value v z) skip bytes = item_in o b p Time skip bytes refl refl
-item_time o b p (Fault e) skip bytes = item_bad o b p Time skip bytes refl
+item_time o b p (Ok n) skip bytes = item_in o b p Time skip bytes refl
+item_time o b p (Err e) skip bytes = item_bad o b p Time skip bytes
 
 -- from a whole byte on nothing is skipped
-whole_skips : (o : Order) (b : List ℕ) (i p : ℕ) → p ≡ 8 * i → read_align o b p ≡ shows [] p
+pub whole_skips : (o : Order) (b : List ℕ) (i p : ℕ) → p ≡ 8 * i → read_align o b p ≡ shows [] p
 unfolding ub
 whole_skips o b i p at = let z : skipped p ≡ 0 = omega arith in rw (z, add-zero p)
 
-pub time_whole : (o : Order) (b : List ℕ) (i p : ℕ) (r : Got) → p ≡ 8 * i → num_of r ≡ spelt o Time b p → show_num (num_of r) ≡ run o b (format_of Time) p
+pub time_whole : (o : Order) (b : List ℕ) (i p : ℕ) (r : Result Number Reason) → p ≡ 8 * i → num_of r ≡ spelt o Time b p → show_num (num_of r) ≡ run o b (format_of Time) p
 time_whole o b i p r at bytes = item_time o b p r (whole_skips o b i p at) bytes
 
 -- a kind is read from a place as from the whole byte that it is aligned to
@@ -238,7 +241,7 @@ item_fine o b p k = go (eqb (ub o b p (skipped p)) 0) refl
 
     go : (t : Bool) → eqb (ub o b p (skipped p)) 0 ≡ t → Fine k (run o b (format_of k) p).shown (run o b (format_of k) p).ended
     go true e = rw (item_clean o b p k (spelt o k b (p + skipped p)) (rw e) refl) (fine (spelt o k b (p + skipped p)) (spelt_below o k b (p + skipped p)))
-    go false e = rw (item_unclean o b p k (rw e)) tt
+    go false e = rw (item_unclean o b p k {e = 15} (rw e)) tt
 
 module _ (o : Order) (b : List ℕ) (p : ℕ) {v q : ℕ} where
   value_fine : (k : Item) → run o b (format_of k) p ≡ shows (v ∷ []) q → (v < 2 ^ 64) × (range_fault k v ≡ 0)

@@ -25,6 +25,10 @@ pub byte_is : (o : Order) (s : List ℕ) (i p : ℕ) → p ≡ 8 * i → {x : �
 byte_is o s i p at y = rw at (sym (ub_first o s i y))
 
 -- a number's place may be any that is equal
+-- a number and a place that were made so
+pub num_is : {v p x q : ℕ} {w : Num} → (x ≡ v) × (q ≡ p) → num v p ≡ w → num x q ≡ w
+num_is e h = rw (e.0, e.1) h
+
 pub num_at : {v p q : ℕ} {w : Num} → q ≡ p → num v p ≡ w → num v q ≡ w
 num_at e h = rw e h
 

@@ -1,16 +1,15 @@
 -- The kinds of items that show one number: the formats of document 01 that they stand for, and what each part of an item reads as.
-use Rattle.std.specs.Prelude.{◌≡◌, ℕ, zero, suc, ◌+◌, ◌*◌, Bool, leb, List, nat_le, nat_lt}
+use Rattle.std.specs.Prelude.{◌≡◌, ℕ, zero, suc, ◌+◌, ◌*◌, Bool, leb, List, nat_le, nat_lt, Result, Ok, Err}
 use Rattle.format.specs.Tests.{pick, ◌and◌, ◌or◌}
 use Rattle.format.specs.Bits.{Order}
 use Rattle.format.specs.Formats.{Format}
 use Rattle.format.specs.Items.{Num, u32, i32, time, float, uint16, byte, enum, count, read_u32, read_u64, read_le, read_ub, map_num, not_one, sign}
 use Rattle.format.specs.Bodies.{blend_mode}
-use Rattle.bits.specs.declared.Got.{Got}
-use Rattle.bits.specs.declared.Got.TheVariants as got
+use Rattle.bits.specs.declared.Number.{Number}
+use Rattle.reasons.specs.declared.Reason.{Reason}
 use Rattle.items.specs.declared.Item.{Item}
 use Rattle.items.specs.declared.Item.TheVariants.{U32, I32, Time, Float, Uint16, Byte, Enum, BlendMode, Count}
 use Rattle.items.specs.declared.Spelled.{Spelled}
-use Rattle.items.specs.declared.Spelled.TheVariants.{Value, Fault}
 
 -- the format of a kind; a Count goes to 4,096
 abbrev pub format_of : Item → Format
@@ -62,11 +61,6 @@ cap zero top = top + 1
 cap (suc k) top = 128 * cap k top
 
 -- an answer with its bit place alone
-abbrev pub by_bits : Spelled → Got
-by_bits (Value v w) = got.Value v w.bit
-by_bits (Fault e) = got.Fault e
-
--- the place behind a number is the same in both counts
-abbrev pub Told : Spelled → Type 0
-Told (Value v w) = w.bit.0 ≡ 8 * w.byte.0
-Told (Fault e) = Unit {0}
+abbrev pub by_bits : Result Spelled Reason → Result Number Reason
+by_bits (Ok s) = Ok (record { value = s.value; next = s.next.bit })
+by_bits (Err e) = Err e

@@ -4,15 +4,17 @@
 ghost use Rattle.std.specs.Prelude.{◌≡◌, ◌+◌, ◌*◌, ◌^◌, ◌<◌, ◌≤◌, length};
 ghost use Rattle.format.specs.Items.{num, show_num, run, read_le, read_ub};
 ghost use Rattle.bits.specs.Places.{PlaceIn, num_of, order_of, InEither};
-ghost use Rattle.items.specs.Kinds.{format_of, spelt, between as within, range_fault, by_bits, Told};
+ghost use Rattle.items.specs.Kinds.{format_of, spelt, between as within, range_fault, by_bits};
+ghost use Rattle.reasons.specs.Numbers.{fault_of};
 ghost use Rattle.items.specs.declared.Item.TheVariants.{Time};
 
 mod var;
 
-use bits::{Aligned, BitPlace, BytePlace, Got, Order, Whole};
+use bits::{BitPlace, Number, Order, Whole};
+use reasons::Reason;
 
 // An Enum goes from 0 to its top, a Count from its least to 4,096. Each is one byte, so that a kind is two: counted, it is handed on in a register so.
-#[derive(Clone, Copy)]
+#[derive(Clone, Copy, Debug, PartialEq, Eq)]
 pub enum Item {
     U32,
     I32,
@@ -25,23 +27,34 @@ pub enum Item {
     Count(u8),
 }
 
-// A number and the whole byte behind it, in both counts; or a reason.
-#[derive(Clone, Copy)]
-pub enum Spelled {
-    Value(u64, Whole),
-    Fault(u32),
+// A number and the whole byte behind it.
+#[derive(Clone, Copy, Debug, PartialEq, Eq)]
+pub struct Spelled {
+    pub value: u64,
+    pub next: Whole,
+}
+
+// A number that takes so many bits from a whole byte on.
+fn number(value: u64, at: Whole, bits: usize) -> Number
+    requires { at.bit.0 + bits < 2 ^ 64 }
+    ensures { (result.value ≡ value) × (result.next.0 ≡ at.bit.0 + bits) }
+{
+    Number {
+        value,
+        next: BitPlace(at.bit.0 + bits),
+    }
 }
 
 // One byte. Whole bytes are the same in either order.
-fn read_byte(body: &[u8], byte: BytePlace, bit: BitPlace) -> Got
-    requires { PlaceIn body.now bit.0 × (bit.0 ≡ 8 * byte.0) }
-    ensures { InEither (λ o. num_of result ≡ read_ub o body.now bit.0 8) }
+fn read_byte(body: &[u8], at: Whole) -> Result<Number, Reason>
+    requires { PlaceIn body.now at.bit.0 }
+    ensures { InEither (λ o. num_of result ≡ read_ub o body.now at.bit.0 8) }
 {
-    let i = byte.0;
+    let i = at.byte.0;
     if body.len() <= i {
-        return Got::Fault(13);
+        return Err(Reason::ItemPastTheBody);
     }
-    Got::Value(bits::byte_at(body, i), BitPlace(bit.0 + 8))
+    Ok(number(bits::byte_at(body, i), at, 8))
 }
 
 // Four bytes, lowest first, as one number.
@@ -57,46 +70,43 @@ pub fn float_at(body: &[u8], i: usize) -> u64
 }
 
 // A Float: four bytes, kept as their pattern.
-fn read_float(body: &[u8], byte: BytePlace, bit: BitPlace) -> Got
-    requires { PlaceIn body.now bit.0 × (bit.0 ≡ 8 * byte.0) }
-    ensures { InEither (λ o. num_of result ≡ read_le o body.now bit.0 4) }
+fn read_float(body: &[u8], at: Whole) -> Result<Number, Reason>
+    requires { PlaceIn body.now at.bit.0 }
+    ensures { InEither (λ o. num_of result ≡ read_le o body.now at.bit.0 4) }
 {
-    let i = byte.0;
+    let i = at.byte.0;
     if body.len() - i < 4 {
-        return Got::Fault(13);
+        return Err(Reason::ItemPastTheBody);
     }
-    Got::Value(float_at(body, i), BitPlace(bit.0 + 32))
+    Ok(number(float_at(body, i), at, 32))
 }
 
 // Two bytes, lowest first.
-fn read_uint16(body: &[u8], byte: BytePlace, bit: BitPlace) -> Got
-    requires { PlaceIn body.now bit.0 × (bit.0 ≡ 8 * byte.0) }
-    ensures { InEither (λ o. num_of result ≡ read_le o body.now bit.0 2) }
+fn read_uint16(body: &[u8], at: Whole) -> Result<Number, Reason>
+    requires { PlaceIn body.now at.bit.0 }
+    ensures { InEither (λ o. num_of result ≡ read_le o body.now at.bit.0 2) }
 {
-    let i = byte.0;
+    let i = at.byte.0;
     if body.len() - i < 2 {
-        return Got::Fault(13);
+        return Err(Reason::ItemPastTheBody);
     }
     let b0 = bits::byte_at(body, i);
     let b1 = bits::byte_at(body, i + 1);
-    Got::Value(b0 + 256 * b1, BitPlace(bit.0 + 16))
+    Ok(number(b0 + 256 * b1, at, 16))
 }
 
 // An item's bytes (13) and their spelling (14), from a whole byte on.
-fn read_spelling(kind: Item, body: &[u8], byte: BytePlace, bit: BitPlace) -> Got
-    requires { PlaceIn body.now bit.0 × (bit.0 ≡ 8 * byte.0) }
-    ensures { InEither (λ o. num_of result ≡ spelt o kind body.now bit.0) }
+fn read_spelling(kind: Item, body: &[u8], at: Whole) -> Result<Number, Reason>
+    requires { PlaceIn body.now at.bit.0 }
+    ensures { InEither (λ o. num_of result ≡ spelt o kind body.now at.bit.0) }
 {
     match kind {
-        Item::U32 => var::read_u32(body, byte, bit),
-        Item::Count(_) => var::read_u32(body, byte, bit),
-        Item::I32 => var::read_i32(body, byte, bit),
-        Item::Time => var::read_u64(body, byte, bit),
-        Item::Float => read_float(body, byte, bit),
-        Item::Uint16 => read_uint16(body, byte, bit),
-        Item::Byte => read_byte(body, byte, bit),
-        Item::Enum(_) => read_byte(body, byte, bit),
-        Item::BlendMode => read_byte(body, byte, bit),
+        Item::U32 | Item::Count(_) => var::read_u32(body, at),
+        Item::I32 => var::read_i32(body, at),
+        Item::Time => var::read_u64(body, at),
+        Item::Float => read_float(body, at),
+        Item::Uint16 => read_uint16(body, at),
+        Item::Byte | Item::Enum(_) | Item::BlendMode => read_byte(body, at),
     }
 }
 
@@ -104,63 +114,50 @@ fn read_spelling(kind: Item, body: &[u8], byte: BytePlace, bit: BitPlace) -> Got
 fn between(least: u64, value: u64, most: u64) -> bool
     ensures { result ≡ within least value most }
 {
-    if least <= value { value <= most } else { false }
+    least <= value && value <= most
 }
 
-// The reason that a number out of its range gets, 0 for a number in its range.
-pub fn out_of_range(kind: Item, value: u64) -> u32
-    ensures { result ≡ range_fault kind value }
+// Is the number in the range of its kind? An enum's others are unlisted (16); a count's are outside its range (17).
+pub fn in_range(kind: Item, value: u64) -> Result<(), Reason>
+    ensures { fault_of result ≡ range_fault kind value }
 {
     match kind {
-        Item::Enum(top) => if value <= top as u64 { 0 } else { 16 },
+        Item::Enum(top) => if value <= u64::from(top) {
+            Ok(())
+        } else {
+            Err(Reason::UnlistedValue)
+        },
         Item::BlendMode => if value <= 16 {
-            0
+            Ok(())
         } else if between(21, value, 26) {
-            0
+            Ok(())
         } else {
-            16
+            Err(Reason::UnlistedValue)
         },
-        Item::Count(least) => if between(least as u64, value, 4096) {
-            0
+        Item::Count(least) => if between(u64::from(least), value, 4096) {
+            Ok(())
         } else {
-            17
+            Err(Reason::CountOutsideItsRange)
         },
-        Item::U32 => 0,
-        Item::I32 => 0,
-        Item::Time => 0,
-        Item::Float => 0,
-        Item::Uint16 => 0,
-        Item::Byte => 0,
+        Item::U32 | Item::I32 | Item::Time | Item::Float | Item::Uint16 | Item::Byte => Ok(()),
     }
 }
 
 // An item: skipped bits (15), its bytes (13), its spelling (14), its range (16, 17).
-pub fn read_item(order: Order, kind: Item, body: &[u8], at: BitPlace) -> Got
+pub fn read_item(order: Order, kind: Item, body: &[u8], at: BitPlace) -> Result<Number, Reason>
     requires { PlaceIn body.now at.0 }
     ensures { show_num (num_of result) ≡ run (order_of order) body.now (format_of kind) at.0 }
 {
-    // The same bytes: sliced again they go from function to function in registers, and not through memory (docs/SPEED.md).
-    let bytes = &body[0..body.len()];
-    let aligned = bits::align(order, bytes, at);
-    let Aligned::Clean(byte, bit) = aligned else {
-        return Got::Fault(15);
-    };
-    let got = read_spelling(kind, bytes, byte, bit);
-    let Got::Value(value, next) = got else {
-        return got;
-    };
-    let why = out_of_range(kind, value);
-    if why == 0 {
-        Got::Value(value, next)
-    } else {
-        Got::Fault(why)
-    }
+    let start = bits::align(order, body, at)?;
+    let number = read_spelling(kind, body, start)?;
+    in_range(kind, number.value)?;
+    Ok(number)
 }
 
 // A Time from a whole byte on, for many of them in turn: nothing asks for its kind. By `read_var`, since `read_u64` with a second caller would not come in line.
-pub fn read_time(body: &[u8], at: Whole) -> Spelled
-    requires { PlaceIn body.now at.bit.0 × (at.bit.0 ≡ 8 * at.byte.0) }
-    ensures { InEither (λ o. show_num (num_of (by_bits result)) ≡ run o body.now (format_of Time) at.bit.0) × Told result }
+pub fn read_time(body: &[u8], at: Whole) -> Result<Spelled, Reason>
+    requires { PlaceIn body.now at.bit.0 }
+    ensures { InEither (λ o. show_num (num_of (by_bits result)) ≡ run o body.now (format_of Time) at.bit.0) }
 {
-    var::read_var(body, at.byte, at.bit, 9, 1)
+    var::read_var(body, at, 9, 1)
 }

@@ -2,7 +2,7 @@
 use Prim.Native.Nat.{ℕ, zero, suc, ◌+◌, ◌-◌, ◌*◌, ◌/◌, ◌≤◌, ◌<◌}
 use mathlib.Core.Bool.{Bool, true, false}
 use mathlib.Core.List.{List, [], ◌∷◌, ◌++◌, append_assoc, append-nil, map}
-use mathlib.Core.Path.{◌≡◌, refl, ap, ap₂, sym, ◌∙◌}
+use mathlib.Core.Path.{◌≡◌, refl, ap, ap₂, sym, subst, ◌∙◌}
 use native.Mathlib.Nat.{add-zero}
 use native.Mathlib.Omega.{arith}
 use lib.ListN.{length, get_or, take, drop, length-append, length-drop}
@@ -19,8 +19,10 @@ use Rattle.format.proofs.PlainLaws.{Shown}
 use Rattle.listing.specs.Decimal.{decimal}
 use Rattle.listing.specs.Listing.{line, first_line, tag_line, tag_lines, listing, refusal}
 use Rattle.listing.specs.declared.Cursor.{Cursor}
-use Rattle.listing.specs.Steps.{Laid, laid, lays, field, tabbed, ender, byte_fields, Step, cursor, start, first_step, head_step, number_step, bytes_step, step, table_listing}
-use Rattle.listing.proofs.TextLaws.{lays_then}
+use Rattle.listing.specs.Steps.{field, tabbed, ender, byte_fields, Step, cursor, start, first_step, head_step, number_step, bytes_step, step, table_listing}
+use Rattle.listing.specs.declared.fields.Text.{Text}
+use Rattle.listing.specs.Texts.{Adds}
+use Rattle.listing.proofs.TextLaws.{adds_then}
 use Rattle.listing.proofs.StepLaws.{step_first, step_head, step_value, more_yes, more_none}
 use Rattle.listing.proofs.Parts.{rest, rest_step, rest_end}
 
@@ -54,13 +56,11 @@ line_values n (v ∷ vs) =
     (ap (λ (x : List ℕ). decimal n ++ 9 ∷ x) (line_values v vs) ∙ before_tabbed (n ∷ []) (values (v ∷ vs)) ∙ rw (append-nil (field n 9)))
 
 -- a refusal, as the code lays it: `refused` and a tab, the reason and a tab, the number and a newline
-pub refusal_laid : (b : List ℕ) (k e n : ℕ) {u v : List ℕ} {i j : ℕ} {z : Laid} → laid u j ≡ lays b k (0x72 ∷ 0x65 ∷ 0x66 ∷ 0x75 ∷ 0x73 ∷ 0x65 ∷ 0x64 ∷ 9 ∷ [])
-    → laid v i ≡ lays u j (field e 9) → z ≡ lays v i (field n 10) → z ≡ lays b k (refusal e n)
+pub refusal_added : {a b c d : Text} (e n : ℕ) {x : ℕ} → x ≡ e → Adds a b (0x72 ∷ 0x65 ∷ 0x66 ∷ 0x75 ∷ 0x73 ∷ 0x65 ∷ 0x64 ∷ 9 ∷ []) → Adds b c (field x 9) → Adds c d (field n 10) → Adds a d (refusal e n)
 unfolding refusal
-refusal_laid b k e n {u} {v} {i} {j} c d f =
-    lays_then b k (0x72 ∷ 0x65 ∷ 0x66 ∷ 0x75 ∷ 0x73 ∷ 0x65 ∷ 0x64 ∷ 9 ∷ []) (before (e ∷ []) (decimal n ++ 10 ∷ [])) c
-    (lays_then u j (field e 9) (field n 10) d f
-    ∙ ap (lays u j) (rw (append-nil (field e 9)) at (sym (before_tabbed (e ∷ []) (field n 10))) ∙ ap (λ (x : List ℕ). before (e ∷ []) x) (sym (line_end n))))
+refusal_added {a} {b} {c} {d} e n i p q r =
+    adds_then (0x72 ∷ 0x65 ∷ 0x66 ∷ 0x75 ∷ 0x73 ∷ 0x65 ∷ 0x64 ∷ 9 ∷ []) (before (e ∷ []) (decimal n ++ 10 ∷ [])) p
+    (subst (Adds b d) (rw (append-nil (field e 9)) at (sym (before_tabbed (e ∷ []) (field n 10))) ∙ ap (λ (x : List ℕ). before (e ∷ []) x) (sym (line_end n))) (adds_then (field e 9) (field n 10) (rw i at q) r))
 
 -- a tag's record: five fields and a tab after each, its state, its values
 tag_line_lem : (t : Tag) → tag_line t

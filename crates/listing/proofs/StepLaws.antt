@@ -1,42 +1,38 @@
 -- The steps of a part, one by one: what the code's branches leave, and that the bound of `fill` does not matter.
-use Prim.Native.Nat.{ℕ, zero, suc, ◌+◌, ◌-◌, ◌%◌, ◌≤◌, ◌<◌}
+use Prim.Native.Nat.{ℕ, zero, suc, ◌+◌, ◌-◌, ◌≤◌, ◌<◌}
 use mathlib.Core.Bool.{Bool, true, false}
 use mathlib.Core.List.{List, [], ◌∷◌, ◌++◌}
-use mathlib.Core.Path.{◌≡◌, refl, ap, ap₂, sym, ◌∙◌}
+use mathlib.Core.Path.{◌≡◌, refl, ap, ap₂, sym, subst, ◌∙◌}
 use native.Mathlib.Nat.{add-zero, add_assoc}
 use native.Mathlib.Omega.{arith}
 use lib.ListN.{length, get_or, length-append}
-use lib.Seq.{sets}
+use Rattle.std.proofs.lemmas.List.Edits.{sets}
 use lib.Dec.{ltb, leb, eqb}
 use borrow.Author.Tests.{eqb-true, ltb-true, lt-ltb, le-ltb, le-leb, lt-leb, eq-eqb, ne_eqb}
 use Rattle.format.specs.Tests.{pick, ◌and◌}
 use Rattle.format.specs.TableOfNumbers.{is_opaque, eight_of}
 use Rattle.format.proofs.Absurd.{clash}
-use Rattle.table.proofs.EngineLaws.{sets_append}
 use Rattle.listing.specs.declared.Cursor.{Cursor}
-use Rattle.listing.specs.Steps.{Laid, laid, lays, field, tabbed, ender, byte_fields, Step, cursor, first_step, after_head, head_step, number_step, bytes_step, value_step, step, more, stay, joined, fill, part_of, AfterPart, after_part, text_over}
-use Rattle.listing.proofs.TextLaws.{lays_then}
+use Rattle.listing.specs.Steps.{field, tabbed, ender, byte_fields, Step, cursor, first_step, after_head, head_step, number_step, bytes_step, value_step, step, more, stay, joined, fill, part_of, AfterPart, after_part, text_over}
+use Rattle.listing.specs.declared.fields.Text.{Text}
+use Rattle.listing.specs.Texts.{Adds, Takes}
+use Rattle.listing.proofs.TextLaws.{adds_then, sets_then}
 
 -- ---- the two texts that several calls write
-pub first_laid : (n : ℕ) (b t : List ℕ) (k x : ℕ) {u v : List ℕ} {i j : ℕ} {z : Laid} → laid u j ≡ lays b k (0x50 ∷ 0x41 ∷ 0x47 ∷ 9 ∷ [])
-    → laid v i ≡ lays u j (tabbed (1 ∷ n ∷ [])) → x ≡ get_or t 0 0 → z ≡ lays v i (field x 10) → z ≡ lays b k (first_step n t).text
-first_laid n b t k x {u} {v} {i} {j} d e f g =
-    lays_then b k (0x50 ∷ 0x41 ∷ 0x47 ∷ 9 ∷ []) (tabbed (1 ∷ n ∷ []) ++ field (get_or t 0 0) 10) d
-    (lays_then u j (tabbed (1 ∷ n ∷ [])) (field (get_or t 0 0) 10) e (g ∙ ap (λ (y : ℕ). lays v i (field y 10)) f))
+pub first_added : {a b c d : Text} (n x : ℕ) (t : List ℕ) → Adds a b (0x50 ∷ 0x41 ∷ 0x47 ∷ 9 ∷ []) → Adds b c (tabbed (1 ∷ n ∷ [])) → x ≡ get_or t 0 0 → Adds c d (field x 10) → Adds a d (first_step n t).text
+first_added n x t p q e r =
+    rw (sym e) (adds_then (0x50 ∷ 0x41 ∷ 0x47 ∷ 9 ∷ []) (tabbed (1 ∷ n ∷ []) ++ field x 10) p (adds_then (tabbed (1 ∷ n ∷ [])) (field x 10) q r))
 
-pub head_laid : (b t g : List ℕ) (k i m a c d e f s q l : ℕ) {u : List ℕ} {j : ℕ} {z : Laid} → a ≡ get_or g m 0 → c ≡ get_or g (m + 2) 0 → d ≡ get_or g (m + 3) 0 → e ≡ get_or g (m + 4) 0
-    → f ≡ get_or t i 0 → laid u j ≡ lays b k (tabbed (a ∷ c ∷ d ∷ e ∷ f ∷ [])) → s ≡ get_or t (i + 1) 0 → l ≡ (after_head t i (m + 5)).left → q ≡ ender l → z ≡ lays u j (field s q)
-    → z ≡ lays b k (head_step t g i m).text
-head_laid b t g k i m a c d e f s q l {u} {j} a' c' d' e' f' h s' l' q' z =
-    lays_then b k (tabbed (get_or g m 0 ∷ get_or g (m + 2) 0 ∷ get_or g (m + 3) 0 ∷ get_or g (m + 4) 0 ∷ get_or t i 0 ∷ [])) (field (get_or t (i + 1) 0) (ender (after_head t i (m + 5)).left))
-    (rw (a', c', d', e', f') at h) (z ∙ ap₂ (λ (x y : ℕ). lays u j (field x y)) s' (q' ∙ ap ender l'))
-
--- ---- a tag's values, or its body: as the code's test says
-pub after_opaque : (t : List ℕ) (k m s l : ℕ) → s ≡ get_or t (k + 1) 0 → s % 2 ≡ 0 → l ≡ get_or t (k + 3) 0 → cursor (k + 4) m l true ≡ after_head t k m
-after_opaque t k m s l d e f = rw (sym d, eq-eqb (s % 2) 0 e, f)
-
-pub after_read : (t : List ℕ) (k m s l : ℕ) → s ≡ get_or t (k + 1) 0 → (s % 2 ≡ 0 → ⊥) → l ≡ get_or t (k + 2) 0 → cursor (k + 3) m l false ≡ after_head t k m
-after_read t k m s l d e f = rw (sym d, ne_eqb (s % 2) 0 e, f)
+pub head_taken : {a b d : Text} (t g : List ℕ) (i m r₀ r₂ r₃ r₄ code state end : ℕ) (to : Cursor) → to ≡ after_head t i (m + 5)
+    → r₀ ≡ get_or g m 0 → r₂ ≡ get_or g (m + 2) 0 → r₃ ≡ get_or g (m + 3) 0 → r₄ ≡ get_or g (m + 4) 0 → code ≡ get_or t i 0 → Adds a b (tabbed (r₀ ∷ r₂ ∷ r₃ ∷ r₄ ∷ code ∷ []))
+    → state ≡ get_or t (i + 1) 0 → end ≡ ender to.left → Adds b d (field state end) → Takes a d to (head_step t g i m)
+head_taken {a} {b} {d} t g i m r₀ r₂ r₃ r₄ code state end to n e₀ e₂ e₃ e₄ e p s f q = record {
+  text =
+      adds_then (tabbed (get_or g m 0 ∷ get_or g (m + 2) 0 ∷ get_or g (m + 3) 0 ∷ get_or g (m + 4) 0 ∷ get_or t i 0 ∷ [])) (field (get_or t (i + 1) 0) (ender (after_head t i (m + 5)).left))
+      (rw (e₀, e₂, e₃, e₄, e) at p)
+      (subst (Adds b d) (ap₂ field s (f ∙ ap (λ (c : Cursor). ender c.left) n)) q);
+  next = n;
+}
 
 -- ---- a cursor's step, by what the code's tests tell
 module _ (n : ℕ) (t g : List ℕ) (c : Cursor) where
@@ -71,28 +67,26 @@ module _ (n : ℕ) (t g : List ℕ) (c : Cursor) where
       go false e false = value c.packed
 
 -- ---- what a step leaves
-pub after_text : (b : List ℕ) (k : ℕ) (s : Step) {u : List ℕ} {j : ℕ} {d : Cursor} → laid u j ≡ lays b k s.text → d ≡ s.to → after_part u j d ≡ text_over b k s
-unfolding text_over lays
-after_text b k s e f = λ i. after_part (e i).lent (e i).next (f i)
+pub taken_over : {a b : Text} {to : Cursor} {s : Step} → Takes a b to s → after_part b.out.now b.used to ≡ text_over a.out.now a.used s
+unfolding text_over
+taken_over p = λ i. after_part (p.text.bytes i) (p.text.used i) (p.next i)
 
-module _ (n : ℕ) (b t g : List ℕ) (k : ℕ) (c : Cursor) where
-  pub first_done : {u : List ℕ} {j : ℕ} → c.number ≡ 0 → laid u j ≡ lays b k (first_step n t).text → after_part u j (cursor 1 0 0 false) ≡ text_over b k (step n t g c)
-  first_done h e = after_text b k (first_step n t) e refl ∙ ap (text_over b k) (sym (step_first n t g c h))
+pub over_taken : {a b : Text} {to : Cursor} (s : Step) → b.out.ghost_name ≡ a.out.ghost_name → length b.out.now ≡ length a.out.now → after_part b.out.now b.used to ≡ text_over a.out.now a.used s → Takes a b to s
+unfolding text_over
+over_taken s l z e = record {
+  text = record { lent = l; size = z; bytes = ap (λ (r : AfterPart). r.lent) e; used = ap (λ (r : AfterPart). r.used) e };
+  next = ap (λ (r : AfterPart). r.to) e;
+}
 
-  pub head_done : {z : AfterPart} → (c.number ≡ 0 → ⊥) → c.left ≡ 0 → z ≡ text_over b k (head_step t g c.number c.row) → z ≡ text_over b k (step n t g c)
-  head_done h i e = e ∙ ap (text_over b k) (sym (step_head n t g c h i))
+pub taken_as : {a b : Text} {to : Cursor} {s r : Step} → r ≡ s → Takes a b to s → Takes a b to r
+taken_as {a} {b} {to} e p = rw e p
 
-  pub value_done : {z : AfterPart} → (c.number ≡ 0 → ⊥) → (c.left ≡ 0 → ⊥) → z ≡ text_over b k (value_step t c) → z ≡ text_over b k (step n t g c)
-  value_done h i e = e ∙ ap (text_over b k) (sym (step_value n t g c h i))
+module _ {a b : Text} (t : List ℕ) (c : Cursor) (x : ℕ) (n : x ≡ get_or t c.number 0) where
+  pub number_taken : (end : ℕ) → c.packed ≡ false → end ≡ ender (c.left - 1) → Adds a b (field x end) → Takes a b (cursor (c.number + 1) c.row (c.left - 1) c.packed) (value_step t c)
+  number_taken end h e p = rw h (record { text = subst (Adds a b) (ap₂ field n e) p; next = refl })
 
-module _ (b t : List ℕ) (k : ℕ) (c : Cursor) where
-  pub number_done : (x y : ℕ) {u : List ℕ} {j : ℕ} → c.packed ≡ false → x ≡ get_or t c.number 0 → y ≡ ender (c.left - 1) → laid u j ≡ lays b k (field x y)
-      → after_part u j (cursor (c.number + 1) c.row (c.left - 1) c.packed) ≡ text_over b k (value_step t c)
-  number_done x y h e f d = rw h (after_text b k (number_step t c.number c.row c.left) (d ∙ rw (e, f)) refl)
-
-  pub bytes_done : (x l : ℕ) {u : List ℕ} {j : ℕ} → c.packed ≡ true → x ≡ get_or t c.number 0 → l ≡ c.left - 8 → laid u j ≡ lays b k (byte_fields (eight_of x) c.left)
-      → after_part u j (cursor (c.number + 1) c.row l c.packed) ≡ text_over b k (value_step t c)
-  bytes_done x l h e f d = rw h (after_text b k (bytes_step t c.number c.row c.left) (d ∙ rw e) (rw f))
+  pub bytes_taken : c.packed ≡ true → Adds a b (byte_fields (eight_of x) c.left) → Takes a b (cursor (c.number + 1) c.row (c.left - 8) c.packed) (value_step t c)
+  bytes_taken h p = rw h (record { text = subst (Adds a b) (ap (λ (w : ℕ). byte_fields (eight_of w) c.left) n) p; next = refl })
 
 -- ---- there is more, or not
 pub more_yes : (t g : List ℕ) (c : Cursor) → c.number < length t → c.row ≤ length g → more t g c ≡ true
@@ -146,11 +140,11 @@ module _ (n : ℕ) (t g : List ℕ) where
 
   after_joined : (b : List ℕ) (k : ℕ) (s r : Step) → text_over b k (joined s r) ≡ text_over (sets b k s.text) (k + length s.text) r
   unfolding text_over
-  after_joined b k s r = λ i. after_part (sets_append b k s.text r.text i) ((ap (λ (m : ℕ). k + m) (length-append s.text r.text) ∙ sym (add_assoc k (length s.text) (length r.text))) i) r.to
+  after_joined b k s r = λ i. after_part (sets_then s.text r.text b k (k + length s.text) refl i) ((ap (λ (m : ℕ). k + m) (length-append s.text r.text) ∙ sym (add_assoc k (length s.text) (length r.text))) i) r.to
 
-  -- for code: a part that starts; that started with most bytes of room, after k of them; and that ends
-  pub part_start : (b : List ℕ) (most : ℕ) (c : Cursor) → text_over b 0 (part_of most n t g c) ≡ text_over b 0 (part_of (most - 0) n t g c)
-  part_start b most c = ap (λ (m : ℕ). text_over b 0 (part_of m n t g c)) (omega arith)
+  -- for code: a part that is all that was lent; that started with most bytes of room, after k of them; and that ends
+  pub part_done : {a b : Text} {x : List ℕ} {to : Cursor} (most : ℕ) (c : Cursor) → x ≡ b.out.now → Takes a b to (part_of (most - 0) n t g c) → after_part x b.used to ≡ text_over a.out.now a.used (part_of most n t g c)
+  part_done {a} {b} {x} {to} most c e p = rw e (taken_over p ∙ ap (λ (m : ℕ). text_over a.out.now a.used (part_of m n t g c)) (omega arith))
 
   pub step_less : (b : List ℕ) (k : ℕ) (c : Cursor) {u : List ℕ} {j : ℕ} {d : Cursor} → c.number < length t → after_part u j d ≡ text_over b k (step n t g c)
       → length t - d.number < length t - c.number

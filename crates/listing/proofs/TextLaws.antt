@@ -1,18 +1,21 @@
 -- Numbers as text, and text laid over lent bytes piece by piece.
 use Prim.Native.Nat.{ℕ, zero, suc, ◌+◌, ◌/◌, ◌%◌, ◌^◌, ◌≤◌, ◌<◌}
 use mathlib.Core.Bool.{Bool, true, false}
-use mathlib.Core.List.{List, [], ◌∷◌, ◌++◌}
+use mathlib.Core.List.{List, [], ◌∷◌, ◌++◌, append_assoc}
 use mathlib.Core.Path.{◌≡◌, refl, ap, sym, ◌∙◌}
-use native.Mathlib.Nat.{suc-add, pow-suc, add-zero, add-suc, add_assoc}
+use native.Mathlib.Nat.{suc-add, pow-suc}
 use native.Mathlib.Numerals.{add-one}
 use native.Mathlib.Omega.{arith}
-use lib.ListN.{length, set, drop, get_or, length-append, drop_of_length-le}
-use lib.Seq.{drop-cons}
+use lib.ListN.{length, set, take, drop, get_or, length-append}
+use lib.Seq.{drop-cons, drop-drop, length-sets}
+use borrow.Rule.Slice.PartMut.{put_mid}
+use Rattle.std.proofs.lemmas.List.Edits.{sets, sets-eq}
 use lib.Dec.{ltb}
 use borrow.Author.Tests.{ltb-false, lt-ltb, le-ltb}
-use Rattle.table.proofs.EngineLaws.{sets_append}
 use Rattle.listing.specs.Decimal.{digits, decimal}
-use Rattle.listing.specs.Steps.{Laid, laid, lays, field, tabbed}
+use Rattle.listing.specs.Steps.{laid, lays, field, tabbed}
+use Rattle.listing.specs.declared.fields.Text.{Text}
+use Rattle.listing.specs.Texts.{Adds}
 
 -- ---- a number's digits
 
@@ -63,56 +66,78 @@ decimal_byte n h = digits_most 2 n n (omega arith)
 pub laid_eq : {b c : List ℕ} {j k : ℕ} → b ≡ c → j ≡ k → laid b j ≡ laid c k
 laid_eq p q = λ i. record { lent = p i; next = q i }
 
-pub lays_none : (b : List ℕ) (k : ℕ) → laid b k ≡ lays b k []
-unfolding lays
-lays_none b k = laid_eq refl (sym (add-zero k))
-
--- one byte
-pub lays_byte : (b : List ℕ) (k x : ℕ) → laid (set b k x) (k + 1) ≡ lays b k (x ∷ [])
-unfolding lays
-lays_byte b k x = refl
-
 -- one text and then another
-pub lays_then : (b : List ℕ) (k : ℕ) (x y : List ℕ) {u : List ℕ} {j : ℕ} {z : Laid} → laid u j ≡ lays b k x → z ≡ lays u j y → z ≡ lays b k (x ++ y)
-unfolding lays
-lays_then b k x y e d = d ∙ ap (λ (l : Laid). lays l.lent l.next y) e ∙ laid_eq (sym (sets_append b k x y)) (add_assoc k (length x) (length y) ∙ ap (λ (n : ℕ). k + n) (sym (length-append x y)))
+pub sets_then : (x y b : List ℕ) (k j : ℕ) → j ≡ k + length x → sets b k (x ++ y) ≡ sets (sets b k x) j y
+sets_then [] y b k j e = let q : j ≡ k = omega arith in rw q
+sets_then (a ∷ x) y b k j e = sets_then x y (set b k a) (suc k) j (omega arith)
 
-pub lays_next : (b : List ℕ) (k : ℕ) (x : List ℕ) {u : List ℕ} {j : ℕ} → laid u j ≡ lays b k x → j ≡ k + length x
-unfolding lays
-lays_next b k x e = ap (λ (l : Laid). l.next) e
+-- a part of the bytes is written
+pub part_written : (b v w : List ℕ) (k n : ℕ) → v ≡ w → n ≡ length w → k + length w ≤ length b → put_mid k n b v ≡ sets b k w
+part_written b v w k n e q h = rw (e, q, drop-drop (length w) k b) (sym (sets-eq w b k h ∙ append_assoc (take k b) w (drop (k + length w) b)))
 
--- ---- the digits of a number, and a field
+pub adds_none : (a : Text) → Adds a a []
+adds_none a = record { lent = refl; size = refl; bytes = refl; used = omega arith }
 
-pub digit_only : (b : List ℕ) (k n : ℕ) → n < 10 → laid (set b k (48 + n % 10)) (k + 1) ≡ lays b k (decimal n)
-digit_only b k n h = lays_byte b k (48 + n % 10) ∙ ap (lays b k) (sym (decimal_one n h))
+pub adds_then : {a b c : Text} (x y : List ℕ) → Adds a b x → Adds b c y → Adds a c (x ++ y)
+adds_then {a} {b} {c} x y p q = record {
+  lent = q.lent ∙ p.lent;
+  size = q.size ∙ p.size;
+  bytes = q.bytes ∙ ap (λ (l : List ℕ). sets l b.used y) p.bytes ∙ sym (sets_then x y a.out.now a.used b.used p.used);
+  used = omega (arith, p.used, q.used, length-append x y);
+}
 
-pub digit_last : (b : List ℕ) (k n : ℕ) {u : List ℕ} {j : ℕ} → 10 ≤ n → laid u j ≡ lays b k (decimal (n / 10)) → laid (set u j (48 + n % 10)) (j + 1) ≡ lays b k (decimal n)
-digit_last b k n {u} {j} h e = lays_then b k (decimal (n / 10)) ((48 + n % 10) ∷ []) e (lays_byte u j (48 + n % 10)) ∙ ap (lays b k) (sym (decimal_more n h))
+pub adds_word : (a b : Text) (v w : List ℕ) (k n : ℕ) → b.out.ghost_name ≡ a.out.ghost_name → k ≡ a.used → v ≡ w → n ≡ length w → a.used + length w ≤ length a.out.now → b.out.now ≡ put_mid k n a.out.now v
+    → b.used ≡ a.used + length w → Adds a b w
+adds_word a b v w k n l d e q h f g =
+    let z : b.out.now ≡ sets a.out.now a.used w = f ∙ ap (λ (i : ℕ). put_mid i n a.out.now v) d ∙ part_written a.out.now v w a.used n e q h in
+    record { lent = l; size = ap length z ∙ length-sets a.out.now a.used w; bytes = z; used = g }
+
+-- ---- what is still to come of a text while it is laid
+pub record Left (old new : Text) (text rest : List ℕ) : Type 0 where
+  pub lent : new.out.ghost_name ≡ old.out.ghost_name
+  pub size : length new.out.now ≡ length old.out.now
+  pub bytes : sets new.out.now new.used rest ≡ sets old.out.now old.used text
+  pub used : new.used + length rest ≡ old.used + length text
+
+pub left_next : {a b c : Text} {t : List ℕ} (x y : List ℕ) → Left a b t (x ++ y) → Adds b c x → Left a c t y
+left_next {a} {b} {c} x y p q = record {
+  lent = q.lent ∙ p.lent;
+  size = q.size ∙ p.size;
+  bytes = ap (λ (l : List ℕ). sets l c.used y) q.bytes ∙ sym (sets_then x y b.out.now b.used c.used q.used) ∙ p.bytes;
+  used = omega (arith, p.used, q.used, length-append x y);
+}
+
+pub left_none : {a b : Text} {t : List ℕ} → Left a b t [] → Adds a b t
+left_none {a} {b} {t} p = record { lent = p.lent; size = p.size; bytes = p.bytes; used = omega (arith, p.used) }
+
+-- ---- a number's digits, and a field
+module _ (n : ℕ) {a b : Text} where
+  pub digits_only : n < 10 → Adds a b ((48 + n % 10) ∷ []) → Adds a b (decimal n)
+  digits_only h p = rw (decimal_one n h) p
+
+  pub digits_last : {c : Text} → 10 ≤ n → Adds a b (decimal (n / 10)) → Adds b c ((48 + n % 10) ∷ []) → Adds a c (decimal n)
+  digits_last h p q = rw (decimal_more n h) (adds_then (decimal (n / 10)) ((48 + n % 10) ∷ []) p q)
 
 pub decimal_length : (n : ℕ) → 10 ≤ n → length (decimal n) ≡ length (decimal (n / 10)) + 1
 decimal_length n h = ap length (decimal_more n h) ∙ length-append (decimal (n / 10)) ((48 + n % 10) ∷ [])
 
-pub field_ended : (b : List ℕ) (k n end : ℕ) {u : List ℕ} {j : ℕ} → laid u j ≡ lays b k (decimal n) → laid (set u j end) (j + 1) ≡ lays b k (field n end)
-unfolding field
-field_ended b k n end {u} {j} e = lays_then b k (decimal n) (end ∷ []) e (lays_byte u j end)
-
 -- a byte's field has 4 bytes at most
-pub byte_next : (b : List ℕ) (k r n end : ℕ) {u : List ℕ} {j : ℕ} → laid u j ≡ lays b k (field n end) → n ≡ r % 256 → j ≤ k + 4
+pub byte_field : (n end : ℕ) → n < 256 → length (field n end) ≤ 4
 unfolding field
-byte_next b k r n end e h = omega (arith, lays_next b k (decimal n ++ end ∷ []) e, length-append (decimal n) (end ∷ []), decimal_byte n (omega (arith, h)))
+byte_field n end h = omega (arith, decimal_byte n h, length-append (decimal n) (end ∷ []))
 
--- ---- what is still to come, from index i on: numbers that a tab ends each, or bytes as they are
-pub tabbed_next : (b ns : List ℕ) (k i : ℕ) {u : List ℕ} {j : ℕ} {z : Laid} → i < length ns
-    → laid u j ≡ lays b k (field (get_or ns i 0) 9) → z ≡ lays b k (tabbed (drop i ns)) → z ≡ lays u j (tabbed (drop (i + 1) ns))
-tabbed_next b ns k i {u} {j} h e d =
-    d ∙ rw (add-one i, drop-cons ns i 0 h) (sym (lays_then b k (field (get_or ns i 0) 9) (tabbed (drop (suc i) ns)) {z = lays u j (tabbed (drop (suc i) ns))} e refl))
+-- numbers that a tab ends each, from index i on
+pub tabbed_at : (ns : List ℕ) (i : ℕ) → i < length ns → tabbed (drop i ns) ≡ field (get_or ns i 0) 9 ++ tabbed (drop (i + 1) ns)
+tabbed_at ns i h = rw (add-one i, drop-cons ns i 0 h)
 
-pub tabbed_done : (b ns : List ℕ) (k i : ℕ) {z : Laid} → length ns ≤ i → z ≡ lays b k (tabbed (drop i ns)) → laid b k ≡ z
-tabbed_done b ns k i h d = lays_none b k ∙ rw (drop_of_length-le ns h) at (sym d)
+pub tabbed_next : {a b c : Text} (ns : List ℕ) (i : ℕ) → i < length ns → Left a b (tabbed ns) (tabbed (drop i ns)) → Adds b c (field (get_or ns i 0) 9) → Left a c (tabbed ns) (tabbed (drop (i + 1) ns))
+tabbed_next ns i h p q = left_next (field (get_or ns i 0) 9) (tabbed (drop (i + 1) ns)) (rw (tabbed_at ns i h) at p) q
 
-pub word_next : (b w : List ℕ) (k i x : ℕ) {z : Laid} → i < length w → z ≡ lays b (k + i) (drop i w) → x ≡ get_or w i 0 → z ≡ lays (set b (k + i) x) (k + (i + 1)) (drop (i + 1) w)
+pub field_added : {a b c : Text} (n end : ℕ) → n < 2 ^ 64 → Adds a b (decimal n) → Adds b c (end ∷ []) → Adds a c (field n end) × (c.used ≤ a.used + 21)
+unfolding field
+field_added n end h p q = let r = adds_then (decimal n) (end ∷ []) p q in (r, omega (arith, r.used, decimal_most n h, length-append (decimal n) (end ∷ [])))
+
+-- the promise of the public functions, of text laid from the start
+pub laid_so : {a b : Text} {t : List ℕ} → Adds a b t → laid b.out.now b.used ≡ lays a.out.now a.used t
 unfolding lays
-word_next b w k i x h d e = d ∙ rw (e, drop-cons w i 0 h, add-one i) (laid_eq (rw (add-suc k i)) (omega arith))
-
-pub word_done : (b w : List ℕ) (k i : ℕ) {z : Laid} → i ≡ length w → z ≡ lays b (k + i) (drop i w) → laid b (k + length w) ≡ z
-word_done b w k i h d = let l : length w ≤ i = omega arith in rw (sym h) (lays_none b (k + i) ∙ rw (drop_of_length-le w l) at (sym d))
+laid_so p = laid_eq p.bytes p.used

@@ -1,57 +1,66 @@
-// Fields: decimal numbers and words, stored into lent bytes.
-ghost use Rattle.std.specs.Prelude.{◌≡◌, ◌+◌, ◌*◌, ◌≤◌, length};
+// Text: decimal numbers and words, each laid behind the one before into lent bytes.
+ghost use Rattle.std.specs.Prelude.{◌≡◌, ◌+◌, ◌*◌, ◌<◌, ◌≤◌, [], ◌∷◌, length};
 ghost use Rattle.listing.specs.Decimal.{decimal};
-ghost use Rattle.listing.specs.Steps.{laid, lays, field, tabbed};
+ghost use Rattle.listing.specs.Steps.{field, tabbed};
+ghost use Rattle.listing.specs.Texts.{Adds};
 
-// The digits of a value, from an index on: those before the last, and the last. The answer is the index after them.
-fn put_decimal(out: &mut [u8], from: usize, value: u64) -> usize
-    requires { from + length (decimal value) ≤ length out.old }
-    ensures { laid out.new result ≡ lays out.old from (decimal value) }
-{
-    let digit = 48 + (value % 10) as u8;
-    if value < 10 {
-        out[from] = digit;
-        return from + 1;
-    }
-    let last = put_decimal(out, from, value / 10);
-    out[last] = digit;
-    last + 1
+// The largest number of one digit.
+const LAST_DIGIT: u64 = 9;
+
+// Lent bytes, and how many of them are used.
+#[derive(Drop)]
+pub struct Text<'a> {
+    pub out: &'a mut [u8],
+    pub used: usize,
 }
 
-// A number, and the byte that ends its field.
-pub fn put_field(out: &mut [u8], from: usize, value: u64, end: u8) -> usize
-    requires { from + 21 ≤ length out.old }
-    ensures { (laid out.new result ≡ lays out.old from (field value end)) × (result ≤ from + 21) }
-{
-    let last = put_decimal(out, from, value);
-    out[last] = end;
-    last + 1
-}
-
-// Numbers, each ended by a tab.
-pub(crate) fn put_tabbed(out: &mut [u8], from: usize, values: &[u64]) -> usize
-    requires { from + 21 * length values.now ≤ length out.old }
-    ensures { (laid out.new result ≡ lays out.old from (tabbed values.now)) × (result ≤ from + 21 * length values.now) }
-{
-    let mut index = from;
-    let mut i = 0;
-    while i < values.len() {
-        index = put_field(out, index, values[i], 9);
-        i += 1;
+impl Text<'_> {
+    // One byte.
+    fn byte(&mut self, byte: u8)
+        requires { self.old.used < length self.old.out.now }
+        ensures { Adds self.old self.new (byte ∷ []) }
+    {
+        self.out[self.used] = byte;
+        self.used += 1;
     }
-    index
-}
 
-// Bytes as they are.
-pub fn put_word(out: &mut [u8], from: usize, word: &[u8]) -> usize
-    requires { from + length word.now ≤ length out.old }
-    ensures { (laid out.new result ≡ lays out.old from word.now) × (result ≡ from + length word.now) }
-{
-    let len = word.len();
-    let mut i = 0;
-    while i < len {
-        out[from + i] = word[i];
-        i += 1;
+    // The digits of a value: those before the last, and the last.
+    fn digits(&mut self, value: u64)
+        requires { self.old.used + length (decimal value) ≤ length self.old.out.now }
+        ensures { Adds self.old self.new (decimal value) }
+    {
+        if LAST_DIGIT < value {
+            self.digits(value / 10);
+        }
+        self.byte(b'0' + (value % 10) as u8);
     }
-    from + len
+
+    // A number, and the byte that ends its field.
+    pub fn field(&mut self, value: u64, end: u8)
+        requires { self.old.used + 21 ≤ length self.old.out.now }
+        ensures { Adds self.old self.new (field value end) × (self.new.used ≤ self.old.used + 21) }
+    {
+        self.digits(value);
+        self.byte(end);
+    }
+
+    // Numbers, each ended by a tab.
+    pub(crate) fn tabbed(&mut self, values: &[u64])
+        requires { self.old.used + 21 * length values.now ≤ length self.old.out.now }
+        ensures { Adds self.old self.new (tabbed values.now) × (self.new.used ≤ self.old.used + 21 * length values.now) }
+    {
+        for value in values {
+            self.field(*value, b'\t');
+        }
+    }
+
+    // Bytes as they are.
+    pub fn word(&mut self, word: &[u8])
+        requires { self.old.used + length word.now ≤ length self.old.out.now }
+        ensures { Adds self.old self.new word.now }
+    {
+        let end = self.used + word.len();
+        self.out[self.used..end].copy_from_slice(word);
+        self.used = end;
+    }
 }

@@ -6,9 +6,10 @@ use mathlib.Core.Bool.{Bool, true, false}
 use native.Mathlib.Nat.{add-zero, add_assoc}
 use native.Mathlib.Omega.{arith}
 use lib.ListN.{length, take, drop, length-append, length-drop}
-use lib.Seq.{sets, length-sets, length-take-le, drop-drop, drop-length, take_all, take-nil}
+use lib.Seq.{sets, length-take-le, drop-drop, drop-length, take_all, take-nil}
 use lib.Dec.{eqb}
 use borrow.Author.Tests.{eqb-true, eqb-false}
+use Rattle.std.proofs.Common.{Option}
 use Rattle.format.specs.Tests.{pick}
 use Rattle.format.specs.Bits.{Order}
 use Rattle.format.specs.Reading.{Ending, At, Fault, Reading}
@@ -37,12 +38,10 @@ use Rattle.tags.proofs.TagLaws.{values_le}
 use Rattle.tags.proofs.LentLaws.{fair_in, with_named}
 use Rattle.bits.specs.declared.BytePlace.{BytePlace}
 use Rattle.lists.specs.Lists.{owner_of, byte_at, tag_shown, step_of, Stepped, stepped, tag_at, last_of, Listed, listed, walked_of, walk_over, Bounds}
-use Rattle.lists.specs.declared.Owner.{Owner}
-use Rattle.lists.specs.declared.Opened.{Opened}
-use Rattle.lists.specs.declared.Step.{Step}
-use Rattle.lists.specs.declared.Step.TheVariants as step
-use Rattle.lists.specs.declared.Walked.{Walked}
-use Rattle.lists.specs.declared.Walked.TheVariants as walked
+use Rattle.lists.specs.Steps.{Opened, Step}
+use Rattle.lists.specs.Steps as step
+use Rattle.lists.specs.Walks.{Walked}
+use Rattle.lists.specs.Walks as walked
 
 -- ---- parts of a list
 -- from f up to t, as the code takes it
@@ -80,7 +79,7 @@ abbrev pub inside_of : Order → (paper.Owner → ℕ → List ℕ → Walk) →
 inside_of o R c code a s body =
     record { values = (values_of o c code body).shown; walk = walk_of R (list_of o c code body) a s body (values_of o c code body).ended }
 
-pub within_is : (o : Order) (R : paper.Owner → ℕ → List ℕ → Walk) (ns : List ℕ) (code a s : ℕ) (body : List ℕ)
+pub within_is : (o : Order) (R : paper.Owner → ℕ → List ℕ → Walk) (ns : List Class) (code a s : ℕ) (body : List ℕ)
     → within o R (classes_in ns code) a s body ≡ inside_of o R (class_in ns code) code a s body
 within_is o R ns code a s body = go (class_in ns code)
   where
@@ -143,7 +142,7 @@ listed_eq : {t t' g g' : List ℕ} {x x' : Walked} → t ≡ t' → g ≡ g' →
 listed_eq p q r = λ i. record { table = p i; rows = q i; answer = r i }
 
 -- the list of the owner at place a, whose room is r, over the tables t₀ from k on and g₀ from m on
-module _ (o : Order) (ns : List ℕ) (depths : ℕ) (own : paper.Owner) (a : ℕ) (r t₀ : List ℕ) (k : ℕ) (g₀ : List ℕ) (m : ℕ) where
+module _ (o : Order) (ns : List Class) (depths : ℕ) (own : paper.Owner) (a : ℕ) (r t₀ : List ℕ) (k : ℕ) (g₀ : List ℕ) (m : ℕ) where
   abbrev from : ℕ → Walk
   from i = walk_list o (classes_in ns) depths own (a + i) (drop i r)
 
@@ -168,12 +167,6 @@ module _ (o : Order) (ns : List ℕ) (depths : ℕ) (own : paper.Owner) (a : ℕ
     inside = omega arith;
     passed = record { tags = []; split = rw (add-zero a); table = refl; rows = refl; index = sym (add-zero k); row = sym (add-zero m) };
   }
-
-  pub passed_table : {t g : List ℕ} {j w : ℕ} (rest : Walk) → Passed t g j w rest → length t ≡ length t₀
-  passed_table rest s = ap length s.table ∙ length-sets t₀ k (numbers s.tags)
-
-  pub passed_rows : {t g : List ℕ} {j w : ℕ} (rest : Walk) → Passed t g j w rest → length g ≡ length g₀
-  passed_rows rest s = ap length s.rows ∙ length-sets g₀ m (tag_table s.tags)
 
   -- the indexes stay in the list's room
   pub passed_room : Tabled ns → {t g : List ℕ} {j w : ℕ} (rest : Walk) → Passed t g j w rest → (j ≤ k + 8 * length r) × (w ≤ m + 5 * length r)
@@ -354,14 +347,14 @@ module _ (o : Order) (ns : List ℕ) (depths : ℕ) (own : paper.Owner) (a : ℕ
         nothing_inside {b} e f = ap (λ (v : Walk). chain v.tags v.ended (later (ends c))) f ∙ ap (λ (x : Bool). chain [] whole (later x)) e
 
         -- End
-        stood_last : {p : BytePlace} {n : ℕ} {x : Walked} (own' : Owner) → own ≡ owner_of own' → S ≡ step.Last p n → x ≡ last_of own' a p.0 (length r) n (w + 5) → listed t' g' x ≡ walk_over t₀ k g₀ m all
+        stood_last : {p : BytePlace} {n : ℕ} {x : Walked} (own' : Option BytePlace) → own ≡ owner_of own' → S ≡ step.Last p n → x ≡ walked_of n (w + 5) (last_of own' a p.0 (length r)) → listed t' g' x ≡ walk_over t₀ k g₀ m all
         stood_last {p} {n} {x} own' is z e =
             let f : (p.0 ≡ stop) × (n ≡ j') × (ends c ≡ true) × (inner ≡ no_tags whole) = subst (Follows R a (a + i) start stop body c inner j') z tag_follows in
             ap (listed t' g') (e ∙ rw (f.0, f.1)) ∙ go (eqb stop (length r)) refl (drop stop r) refl
             (passed_as (chain inner.tags inner.ended (later (ends c))) (later true) (nothing_inside f.2 f.3) tag_passed)
           where
             go : (y : Bool) → eqb stop (length r) ≡ y → (q : List ℕ) → drop stop r ≡ q → Passed t' g' j' (w + 5) (at_end own (a + stop) (drop stop r))
-                → listed t' g' (pick y (walked.Next j' (w + 5)) (walked.Fault 11 (byte_at (blame (owner_of own') (a + stop))))) ≡ walk_over t₀ k g₀ m all
+                → listed t' g' (walked_of j' (w + 5) (pick y whole (fault 11 (blame (owner_of own') (a + stop))))) ≡ walk_over t₀ k g₀ m all
             go true u [] v s = passed_whole (at_end own (a + stop) (drop stop r)) s (ap (at_end own (a + stop)) v)
             go true u (y ∷ q) v s = absurd (omega (arith, eqb-true stop (length r) u, ap length v, length-drop stop r))
             go false u [] v s = absurd (eqb-false stop (length r) u (omega (arith, ap length v, length-drop stop r, stop_fits.1)))
@@ -416,11 +409,6 @@ module _ (o : Order) (ns : List ℕ) (depths : ℕ) (own : paper.Owner) (a : ℕ
           go (head code len size) q =
               subst (λ (n : ℕ). P (tag_at o (class_in ns n) depths a r i t j g w (head code len size))) (fits q).4 (h code len size q)
 
-      -- the lent tables keep their lengths
-      pub tag_sizes : (length t' ≡ length t₀) × (length g' ≡ length g₀)
-      tag_sizes = by_head (λ (s : Stepped). (length s.table ≡ length t₀) × (length s.rows ≡ length g₀)) (λ e q. (passed_table (from i) going.passed, passed_rows (from i) going.passed))
-          (λ code len size q. (passed_table _ (tag_passed q), passed_rows _ (tag_passed q)))
-
       pub tag_fault : {e : ℕ} → x ≡ step.Fault e → listed t' g' (walked.Fault e (byte_at (a + i))) ≡ walk_over t₀ k g₀ m all
       tag_fault {e} =
           by_head (λ (s : Stepped). s.step ≡ step.Fault e → listed s.table s.rows (walked.Fault e (byte_at (a + i))) ≡ walk_over t₀ k g₀ m all)
@@ -431,9 +419,9 @@ module _ (o : Order) (ns : List ℕ) (depths : ℕ) (own : paper.Owner) (a : ℕ
       tag_stops {p} {n} =
           by_head (λ (s : Stepped). s.step ≡ step.Last p n → p.0 ≤ length r) (λ e q z. clash cc) (λ code len size q z. stood_stops q _ refl z)
 
-      pub tag_last : {p : BytePlace} {n : ℕ} {y : Walked} (own' : Owner) → own ≡ owner_of own' → x ≡ step.Last p n → y ≡ last_of own' a p.0 (length r) n (w + 5) → listed t' g' y ≡ walk_over t₀ k g₀ m all
+      pub tag_last : {p : BytePlace} {n : ℕ} {y : Walked} (own' : Option BytePlace) → own ≡ owner_of own' → x ≡ step.Last p n → y ≡ walked_of n (w + 5) (last_of own' a p.0 (length r)) → listed t' g' y ≡ walk_over t₀ k g₀ m all
       tag_last {p} {n} {y} own' is =
-          by_head (λ (s : Stepped). s.step ≡ step.Last p n → y ≡ last_of own' a p.0 (length r) n (w + 5) → listed s.table s.rows y ≡ walk_over t₀ k g₀ m all)
+          by_head (λ (s : Stepped). s.step ≡ step.Last p n → y ≡ walked_of n (w + 5) (last_of own' a p.0 (length r)) → listed s.table s.rows y ≡ walk_over t₀ k g₀ m all)
           (λ e q z v. clash cc) (λ code len size q z v. stood_last q _ refl own' is z v)
 
       pub tag_next : {p : BytePlace} {n : ℕ} → x ≡ step.Next p n → (i < p.0) × Going t' g' p.0 n (w + 5)
@@ -475,12 +463,6 @@ module _ (o : Order) (ns : List ℕ) (depths : ℕ) (own : paper.Owner) (a : ℕ
         module _ {t'' g'' : List ℕ} (y : Walked) (done : listed t'' g'' y ≡ walk_over t' n g' (w + 5) (walk_list o (classes_in ns) (depths - 1) (paper.inside (a + i)) (a + l) (piece l p r))) where
           read_inner : listed t'' g'' y ≡ walk_over t' n g' (w + 5) R'
           read_inner = rw (pred_is depths) done
-
-          pub open_sizes : (length t'' ≡ length t₀) × (length g'' ≡ length g₀)
-          open_sizes = (
-            ap (λ (l : Listed). length l.table) read_inner ∙ length-sets t' n (numbers R'.tags) ∙ tag_sizes.0,
-            ap (λ (l : Listed). length l.rows) read_inner ∙ length-sets g' (w + 5) (tag_table R'.tags) ∙ tag_sizes.1,
-          )
 
           pub open_next : {j' w' : ℕ} → y ≡ walked.Next j' w' → (i < p) × Going t'' g'' p j' w'
           open_next e = ((tag_open op z).ahead, record { inside = (tag_open op z).inside; passed = inner_next R' (from p) (tag_open op z).passed (ap (listed t'' g'') (sym e) ∙ read_inner) })

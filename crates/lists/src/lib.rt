@@ -3,215 +3,167 @@
 
 ghost use Rattle.std.specs.Prelude.{◌≡◌, ◌+◌, ◌<◌, ◌≤◌, ◌^◌, length};
 ghost use Rattle.format.specs.FileAndTags.{blame as blame_of, head, walk_list};
-ghost use Rattle.lists.specs.Lists.{owner_of, listed, walk_over, next_by, stepped, tag_at, tag_in, last_of, Bounds};
+ghost use Rattle.lists.specs.Lists.{owner_of, walk_over, next_by, tag_at, tag_in, last_of, Bounds, Steps, Walks, ended_by};
 ghost use Rattle.tags.specs.Lent.{classes_in, Tabled};
 ghost use Rattle.bits.specs.Places.{order_of};
 
-use bits::{BytePlace, Order};
-use bodies::Shown;
+mod tag_list;
+mod walk;
+
+use bits::{BitPlace, BytePlace};
 use classes::Class;
-use headers::{Head, Header};
+use headers::Header;
+use reasons::Reason;
+use table::Reader;
+pub use tag_list::TagList;
+pub use walk::Walk;
 
-// Whose list it is: the file's own, or that of the container at this place in the file.
-#[derive(Clone, Copy)]
-pub enum Owner {
-    File,
-    Container(BytePlace),
+// Why a list is refused: a reason, and its second number, a place in the file.
+#[derive(Clone, Copy, Debug, PartialEq, Eq)]
+pub struct Fault {
+    pub why: Reason,
+    pub place: BytePlace,
 }
 
-// After a list: the next index of the table and of the tag table; or a reason and its second number, a place in the file.
-#[derive(Clone, Copy)]
-pub enum Walked {
-    Next(usize, usize),
-    Fault(u32, BytePlace),
+// The lent table and the lent tag table, each with its next index.
+#[derive(Drop)]
+pub struct Lent<'a> {
+    pub table: &'a mut [u64],
+    pub index: usize,
+    pub rows: &'a mut [u32],
+    pub row: usize,
 }
 
-// A container whose own numbers are stored: its list has the room from `list` up to `stop`, and `behind` is the next index of the table.
-#[derive(Clone, Copy)]
-pub struct Opened {
-    pub list: BytePlace,
-    pub stop: BytePlace,
-    pub behind: usize,
+// After a tag that ends at this place of the room: another tag may follow; it was End. Or it is a container, whose list has the room from the first place up to the second.
+#[derive(Clone, Copy, Debug, PartialEq, Eq)]
+enum Step {
+    Next(BytePlace),
+    Last(BytePlace),
+    Open(BytePlace, BytePlace),
 }
 
-// After a tag that ends at this place of the room, with the next index of the table: another tag may follow; it was End. Or it is a container,
-// whose list is still to be read; or a reason.
-#[derive(Clone, Copy)]
-pub enum Step {
-    Next(BytePlace, usize),
-    Last(BytePlace, usize),
-    Open(Opened),
-    Fault(u32),
-}
-
-// The second number of 7 and 11: the container's place; at depth 0 the place where it happened.
-pub fn blame(owner: Owner, place: BytePlace) -> BytePlace
-    ensures { result.0 ≡ blame_of (owner_of owner) place.0 }
-{
-    match owner {
-        Owner::File => place,
-        Owner::Container(container) => container,
+impl TagList<'_> {
+    // 7 and 11, at a place of the room: their second number is the container's place; at depth 0 the place where it happened.
+    pub fn refuses(&self, why: Reason, place: usize) -> Fault
+        requires { place ≤ length self.now.room.now }
+        ensures { (result.why ≡ why) × (result.place.0 ≡ blame_of (owner_of self.now.owner) (self.now.at.0 + place)) }
+    {
+        Fault {
+            why,
+            place: self.owner.unwrap_or(BytePlace(self.at.0 + place)),
+        }
     }
-}
 
-// After End the room is used up, else 11. The list stands at place `at`, its room has this size, and End ends at `stop` of it.
-fn last(
-    owner: Owner,
-    at: BytePlace,
-    stop: BytePlace,
-    size: usize,
-    behind: usize,
-    row: usize,
-) -> Walked
-    requires { at.0 + stop.0 < 2 ^ 60 }
-    ensures { result ≡ last_of owner at.0 stop.0 size behind row }
-{
-    if stop.0 == size {
-        Walked::Next(behind, row)
-    } else {
-        let over = at.0 + stop.0;
-        Walked::Fault(11, blame(owner, BytePlace(over)))
+    // After End the room is used up, else 11.
+    pub fn ends_at(&self, stop: BytePlace) -> Result<(), Fault>
+        requires { stop.0 ≤ length self.now.room.now }
+        ensures { ended_by result ≡ last_of self.now.owner self.now.at.0 stop.0 (length self.now.room.now) }
+    {
+        if stop.0 == self.room.len() {
+            Ok(())
+        } else {
+            Err(self.refuses(Reason::BytesAfterEnd, stop.0))
+        }
     }
 }
 
 // What comes after the numbers of a tag without a list, by its class.
-fn next_step(class: Class, stop: BytePlace, behind: usize) -> Step
-    ensures { result ≡ next_by class stop behind }
+fn next_step(class: Class, stop: BytePlace) -> Step
+    ensures { result ≡ next_by class stop }
 {
-    match class {
-        Class::Opaque => Step::Next(stop, behind),
-        Class::End => Step::Last(stop, behind),
-        Class::Container => Step::Next(stop, behind),
-        Class::Fixed => Step::Next(stop, behind),
-        Class::Attributes => Step::Next(stop, behind),
+    if class == Class::End {
+        Step::Last(stop)
+    } else {
+        Step::Next(stop)
     }
 }
 
-// The tag of this class and header at a place of the room, in the list at place `at`: its row, and its own numbers.
-fn show_tag(
-    order: Order,
-    class: Class,
-    depths: u32,
-    at: BytePlace,
-    room: &[u8],
-    place: BytePlace,
-    header: Header,
-    table: &mut [u64],
-    from: usize,
-    rows: &mut [u32],
-    row: usize,
-) -> Step
-    requires { (depths ≤ 8) × (place.0 + header.size + header.length ≤ length room.now) × (at.0 + length room.now ≤ 16777216) × (from < 2 ^ 60) × (row < 2 ^ 60) }
-    ensures { stepped table.new rows.new result ≡ tag_at (order_of order) class depths at.0 room.now place.0 table.old from rows.old row (head header.code header.length header.size) }
-{
-    let code = header.code;
-    let size = header.size;
-    let len = header.length;
-    let start = place.0 + size as usize;
-    let stop = start + len as usize;
-    let tag = at.0 + place.0;
-    tags::show_row(8 - depths, code, BytePlace(tag), size, len, rows, row);
-    match tags::show_tag(order, class, code, size, &room[start..stop], table, from) {
-        Shown::Stop(why, _) => Step::Fault(why),
-        Shown::Done(_, behind) => next_step(class, BytePlace(stop), behind),
-        Shown::Open(next, behind) => {
-            let list = start + next.0;
-            Step::Open(Opened {
-                list: BytePlace(list),
-                stop: BytePlace(stop),
-                behind: behind,
-            })
+impl Walk<'_> {
+    // The tag of this class and header at a place of a list: its row, and its own numbers.
+    fn show_tag(
+        &self,
+        list: &TagList<'_>,
+        class: Class,
+        place: BytePlace,
+        header: Header,
+        lent: &mut Lent<'_>,
+    ) -> Result<Step, Reason>
+        requires { (place.0 + header.size + header.length ≤ length list.now.room.now) × (lent.old.index < 2 ^ 60) × (lent.old.row < 2 ^ 60) }
+        ensures { Steps lent.old lent.new result (tag_at (order_of self.now.order) class list.now.depths list.now.at.0 list.now.room.now place.0 lent.old.table.now lent.old.index lent.old.rows.now lent.old.row (head header.code header.length header.size)) }
+    {
+        let start = place.0 + header.size as usize;
+        let stop = start + header.length as usize;
+        let tag = BytePlace(list.at.0 + place.0);
+        tags::show_row(
+            8 - list.depths,
+            header.code,
+            tag,
+            header.size,
+            header.length,
+            lent.rows,
+            lent.row,
+        );
+        let mut reader = Reader {
+            order: self.order,
+            body: &list.room[start..stop],
+            place: BitPlace(0),
+            table: &mut *lent.table,
+            index: lent.index,
+        };
+        let inner = tags::show_tag(&mut reader, class, header.code, header.size)?;
+        lent.index = reader.index;
+        match inner {
+            Some(first) => Ok(Step::Open(BytePlace(start + first.0), BytePlace(stop))),
+            None => Ok(next_step(class, BytePlace(stop))),
         }
     }
-}
 
-// The tag at a place of the room, in the list at place `at`: its header, once; the class of its code; and what it shows, if the header passes.
-fn read_tag(
-    classes: &[u8],
-    order: Order,
-    depths: u32,
-    at: BytePlace,
-    room: &[u8],
-    place: BytePlace,
-    table: &mut [u64],
-    from: usize,
-    rows: &mut [u32],
-    row: usize,
-) -> Step
-    requires { (length classes.now ≡ 1024) × (depths ≤ 8) × (place.0 ≤ length room.now) × (at.0 + length room.now ≤ 16777216) × (from < 2 ^ 60) × (row < 2 ^ 60) }
-    ensures { stepped table.new rows.new result ≡ tag_in (order_of order) classes.now depths at.0 room.now place.0 table.old from rows.old row }
-{
-    match headers::raw_head(room, place) {
-        Head::Fault(why) => Step::Fault(why),
-        Head::Tag(header) => {
-            let code = header.code as usize;
-            let class = classes::class_numbered(classes[code]);
-            let start = place.0 + header.size as usize;
-            let why = headers::head_fault(class, depths, room.len() - start, header.length);
-            if why != 0 {
-                return Step::Fault(why);
-            }
-            show_tag(
-                order, class, depths, at, room, place, header, table, from, rows, row,
-            )
-        }
+    // The tag at a place of a list: its header, once; the class of its code; and what it shows, if the header passes.
+    fn read_tag(
+        &self,
+        list: &TagList<'_>,
+        place: BytePlace,
+        lent: &mut Lent<'_>,
+    ) -> Result<Step, Reason>
+        requires { (place.0 ≤ length list.now.room.now) × (lent.old.index < 2 ^ 60) × (lent.old.row < 2 ^ 60) }
+        ensures { Steps lent.old lent.new result (tag_in (order_of self.now.order) self.now.classes.now list.now.depths list.now.at.0 list.now.room.now place.0 lent.old.table.now lent.old.index lent.old.rows.now lent.old.row) }
+    {
+        let header = headers::raw_head(list.room, place)?;
+        let class = self.classes[header.code as usize];
+        let start = place.0 + header.size as usize;
+        headers::passes(class, list.depths, list.room.len() - start, header.length)?;
+        self.show_tag(list, class, place, header, lent)
     }
-}
 
-// The list at place `at` of the file, with its room; `depths` may lie below it. Its numbers go to the table from index `from` on, its rows to the
-// tag table from index `row` on, where there is room. The classes of the 1,024 codes are lent as numbers: they were made once, for all lists.
-pub fn read_list(
-    classes: &[u8],
-    order: Order,
-    depths: u32,
-    owner: Owner,
-    at: BytePlace,
-    room: &[u8],
-    table: &mut [u64],
-    from: usize,
-    rows: &mut [u32],
-    row: usize,
-) -> Walked
-    requires { Tabled classes.now × Bounds depths at.0 (length room.now) from row }
-    ensures { listed table.new rows.new result ≡ walk_over table.old from rows.old row (walk_list (order_of order) (classes_in classes.now) depths (owner_of owner) at.0 room.now) }
-{
-    let mut place = BytePlace(0);
-    let mut index = from;
-    let mut line = row;
-    while place.0 < room.len() {
-        let tag = at.0 + place.0;
-        let mine = line;
-        line += 5;
-        match read_tag(
-            classes, order, depths, at, room, place, table, index, rows, mine,
-        ) {
-            Step::Fault(why) => return Walked::Fault(why, BytePlace(tag)),
-            Step::Last(stop, behind) => return last(owner, at, stop, room.len(), behind, line),
-            Step::Next(stop, behind) => {
-                place = stop;
-                index = behind;
-            }
-            Step::Open(opened) => {
-                let own = Owner::Container(BytePlace(tag));
-                let less = depths - 1;
-                let first = opened.list.0;
-                let stop = opened.stop.0;
-                let start = at.0 + first;
-                let home = BytePlace(start);
-                let part = &room[first..stop];
-                let next = opened.behind;
-                let walked = read_list(
-                    classes, order, less, own, home, part, table, next, rows, line,
-                );
-                let Walked::Next(behind, after) = walked else {
-                    return walked;
-                };
-                place = opened.stop;
-                index = behind;
-                line = after;
+    // A list. Its numbers go to the table from its next index on, its rows to the tag table, where there is room.
+    pub fn read_list(&self, list: &TagList<'_>, lent: &mut Lent<'_>) -> Result<(), Fault>
+        requires tabled { Tabled self.now.classes.now }
+        requires bounds { Bounds list.now.depths list.now.at.0 (length list.now.room.now) lent.old.index lent.old.row }
+        ensures { Walks lent.old lent.new result (walk_over lent.old.table.now lent.old.index lent.old.rows.now lent.old.row (walk_list (order_of self.now.order) (classes_in self.now.classes.now) list.now.depths (owner_of list.now.owner) list.now.at.0 list.now.room.now)) }
+    {
+        let mut place = BytePlace(0);
+        while place.0 < list.room.len() {
+            let tag = BytePlace(list.at.0 + place.0);
+            let step = match self.read_tag(list, place, lent) {
+                Ok(step) => step,
+                Err(why) => return Err(Fault { why, place: tag }),
+            };
+            lent.row += 5;
+            match step {
+                Step::Last(stop) => return list.ends_at(stop),
+                Step::Next(stop) => place = stop,
+                Step::Open(first, stop) => {
+                    let inner = TagList {
+                        owner: Some(tag),
+                        depths: list.depths - 1,
+                        at: BytePlace(list.at.0 + first.0),
+                        room: &list.room[first.0..stop.0],
+                    };
+                    self.read_list(&inner, lent)?;
+                    place = stop;
+                }
             }
         }
+        Err(list.refuses(Reason::ListWithoutEnd, list.room.len()))
     }
-    let over = at.0 + room.len();
-    Walked::Fault(7, blame(owner, BytePlace(over)))
 }

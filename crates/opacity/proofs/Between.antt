@@ -2,7 +2,7 @@
 use Prim.Native.Nat.{ℕ, zero, suc, ◌+◌, ◌-◌, ◌*◌, ◌^◌, ◌≤◌, ◌<◌, min, max}
 use mathlib.Core.List.{List}
 use mathlib.Core.Bool.{Bool, true, false}
-use mathlib.Core.Path.{◌≡◌, refl, subst}
+use mathlib.Core.Path.{◌≡◌, refl, ap, sym, subst, ◌∙◌}
 use native.Mathlib.Nat.{mul-add, mul-le-mul_right}
 use native.Mathlib.Omega.{arith}
 use lib.ListN.{length, get_or}
@@ -17,9 +17,13 @@ use Rattle.opacity.specs.Opacity.{Opacity, fraction, over1, refused_by, from_opa
 use Rattle.opacity.specs.Range.{smallest, largest, smallest_of, largest_of, Lies}
 use Rattle.opacity.specs.Answers.{opacity_of}
 use Rattle.opacity.specs.Inner.{seen_of}
-use Rattle.opacity.specs.declared.Exact.{Exact}
-use Rattle.opacity.specs.declared.Exact.TheVariants.{Fraction, Refused}
-use Rattle.opacity.proofs.FrameLaws.{seen_frame, Covered, seen_covered}
+use Rattle.opacity.specs.declared.Fraction.{Fraction}
+use Rattle.opacity.specs.declared.frames.Span.{Span}
+use Rattle.reasons.specs.Numbers.{number_of}
+use Rattle.reasons.specs.declared.Reason.{Reason}
+use Rattle.reasons.proofs.NumberLaws.{number_one}
+use Rattle.std.proofs.Common.{Some, Result, Ok, Err}
+use Rattle.opacity.proofs.FrameLaws.{frame_of, seen_frame, Covered, seen_covered}
 
 -- ---- the smallest and the largest are bounds
 pub smallest_le : (v : ℕ → ℕ) (n k : ℕ) → k ≤ n → smallest v n ≤ v k
@@ -77,10 +81,11 @@ module _ (K : Keyframes) (t lo hi : ℕ) (down : (k : ℕ) → k ≤ K.count →
 
   lies_covering : K.time 0 ≤ t → t < K.time K.count → Lies lo hi (in_frame K t (covering K t K.count))
   lies_covering h l =
-      let c : Covered K t K.count (seen_of K t K.count) = seen_covered K t K.count h l in
-      let e : (seen_of K t K.count).frame ≡ covering K t K.count = seen_frame K t K.count in
+      let w : (s : Span) × ((seen_of K t K.count).covering ≡ Some s) × Covered K t K.count s = seen_covered K t K.count h l in
+      let c : Covered K t K.count w.0 = w.2 in
+      let e : w.0.frame ≡ covering K t K.count = ap frame_of (sym w.1) ∙ seen_frame K t K.count in
       subst (λ (k : ℕ). Lies lo hi (in_frame K t k)) e
-      (lies_in (seen_of K t K.count).frame c.inside (omega (arith, c.start, c.from)) (omega (arith, c.end, c.before)))
+      (lies_in w.0.frame c.inside (omega (arith, c.start, c.from)) (omega (arith, c.end, c.before)))
 
   lies_frame : Lies lo hi (at_frame K t)
   unfolding at_frame
@@ -117,17 +122,16 @@ between order b t =
     lies_call (smallest_of ns) (largest_of ns) (ltb 1 order) (leb (2 ^ 60) (length b)) (read_body (order_named order) (attributes mask_block) b).ended (shown_at ns t) (lies_shown ns t)
 
 -- ---- no second answer fits the promise of `opacity`
-pub opacity_one : (a b : Exact) → opacity_of a ≡ opacity_of b → a ≡ b
-opacity_one (Fraction p q) (Fraction r s) e =
-    let c : p ≡ r = cc in
-    let d : q ≡ s = cc in
-    λ i. Fraction (c i) (d i)
-opacity_one (Fraction p q) (Refused r n) e = clash cc
-opacity_one (Refused r n) (Fraction p q) e = clash cc
-opacity_one (Refused r n) (Refused s m) e =
-    let c : r ≡ s = cc in
-    let d : n ≡ m = cc in
-    λ i. Refused (c i) (d i)
+pub opacity_one : (a b : Result Fraction Reason) → opacity_of a ≡ opacity_of b → a ≡ b
+opacity_one (Ok f) (Ok g) e =
+    let c : f.above ≡ g.above = cc in
+    let d : f.below ≡ g.below = cc in
+    λ i. Ok (record { above = c i; below = d i })
+opacity_one (Ok f) (Err r) e = clash cc
+opacity_one (Err r) (Ok f) e = clash cc
+opacity_one (Err r) (Err s) e =
+    let c : number_of r ≡ number_of s = cc in
+    ap Err (number_one r s c)
 
 -- ---- where times rise, the keyframe that covers t is the one that is taken
 module _ (K : Keyframes) (t : ℕ) where

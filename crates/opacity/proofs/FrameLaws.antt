@@ -1,19 +1,23 @@
 -- Keyframes: what a walk over their times has seen, and the frame that covers t.
-use Prim.Native.Nat.{ℕ, zero, suc, ◌+◌, ◌-◌, ◌*◌, ◌≤◌, ◌<◌}
+use Prim.Native.Nat.{ℕ, zero, suc, ◌≤◌, ◌<◌}
 use mathlib.Core.Bool.{Bool, true, false}
-use mathlib.Core.Path.{◌≡◌, refl, ap, sym, ◌∙◌}
-use native.Mathlib.Nat.{mul-suc, mul-le-mul, mul-le-mul_left}
+use mathlib.Core.Path.{◌≡◌, refl, ap, sym, subst, ◌∙◌}
 use native.Mathlib.Omega.{arith}
+use Rattle.std.proofs.Common.{Option, Some, None}
+use Rattle.std.specs.Option.{is_some}
 use lib.Dec.{ltb, leb}
-use lib.ListN.{length}
-use mathlib.Core.List.{List}
-use Rattle.format.specs.Bits.{Order, ub}
-use borrow.Author.Tests.{lt-ltb, le-ltb, le-leb, lt-leb, ltb-true, ltb-false, leb-true, leb-false, eq-eqb, ne_eqb}
+use borrow.Author.Tests.{lt-ltb, le-ltb, le-leb, lt-leb, ltb-true, ltb-false, leb-true, leb-false}
 use Rattle.format.specs.Tests.{pick, ◌or◌}
 use Rattle.format.proofs.Absurd.{clash}
-use Rattle.opacity.specs.Opacity.{fraction, Keyframes, over1, refused_by, covers, covering, in_frame, at_frame, any, late, falls, keyframed_at}
-use Rattle.opacity.specs.Inner.{ValuesAt, seen_of, Within}
+use Rattle.opacity.specs.Opacity.{Keyframes, over1, refused_by, covers, covering, in_frame, at_frame, any, late, falls, keyframed_at}
+use Rattle.opacity.specs.Inner.{span_of, seen_of, Within}
 use Rattle.opacity.specs.declared.frames.Seen.{Seen}
+use Rattle.opacity.specs.declared.frames.Span.{Span}
+
+-- the number of the keyframe that was seen, 0 where none was
+abbrev pub frame_of : Option Span → ℕ
+frame_of None = 0
+frame_of (Some s) = s.frame
 
 module _ (K : Keyframes) (t : ℕ) where
   pub seen_late : (n : ℕ) → (seen_of K t n).late ≡ any (suc n) (λ k. late (K.time k))
@@ -26,10 +30,14 @@ module _ (K : Keyframes) (t : ℕ) where
   seen_falls zero = refl
   seen_falls (suc n) = ap (λ (s : Bool). s or falls K n) (seen_falls n)
 
-  pub seen_frame : (n : ℕ) → (seen_of K t n).frame ≡ covering K t n
+  pub seen_frame : (n : ℕ) → frame_of (seen_of K t n).covering ≡ covering K t n
   unfolding seen_of covering
   seen_frame zero = refl
-  seen_frame (suc n) = ap (λ (f : ℕ). pick (covers K t n) n f) (seen_frame n)
+  seen_frame (suc n) = by (covers K t n) ∙ ap (λ (f : ℕ). pick (covers K t n) n f) (seen_frame n)
+    where
+      by : (b : Bool) → frame_of (pick b (Some (span_of K n)) (seen_of K t n).covering) ≡ pick b n (frame_of (seen_of K t n).covering)
+      by true = refl
+      by false = refl
 
   -- no time is above the limit
   none_more : (n : ℕ) (s : Bool) → s or late (K.time n) ≡ false → (s ≡ false) × (K.time n ≤ 4294967295)
@@ -48,24 +56,27 @@ module _ (K : Keyframes) (t : ℕ) where
       by false e h i = let z : k ≡ suc n = omega (arith, leb-false k n e) in rw z h
 
   -- from the first start up to the last end a keyframe was seen that covers t
-  pub record Covered (n : ℕ) (s : Seen) : Type 0 where
+  pub record Covered (n : ℕ) (s : Span) : Type 0 where
     pub inside : s.frame < n
     pub start : s.start ≡ K.time s.frame
     pub end : s.end ≡ K.time (suc s.frame)
     pub from : s.start ≤ t
     pub before : t < s.end
 
-  pub seen_covered : (n : ℕ) → K.time 0 ≤ t → t < K.time n → Covered n (seen_of K t n)
+  pub seen_covered : (n : ℕ) → K.time 0 ≤ t → t < K.time n → (s : Span) × ((seen_of K t n).covering ≡ Some s) × Covered n s
   unfolding seen_of
   seen_covered zero h l = absurd (omega arith)
   seen_covered (suc n) h l = by (leb (K.time n) t) (ltb t (K.time (suc n))) refl refl (seen_covered n h)
     where
-      by : (a z : Bool) → leb (K.time n) t ≡ a → ltb t (K.time (suc n)) ≡ z → (t < K.time n → Covered n (seen_of K t n)) → Covered (suc n) (seen_of K t (suc n))
-      by true true a z i = rw (a, z) (record { inside = omega arith; start = refl; end = refl; from = leb-true (K.time n) t a; before = ltb-true t (K.time (suc n)) z })
+      by : (a z : Bool) → leb (K.time n) t ≡ a → ltb t (K.time (suc n)) ≡ z → (t < K.time n → (s : Span) × ((seen_of K t n).covering ≡ Some s) × Covered n s)
+          → (s : Span) × ((seen_of K t (suc n)).covering ≡ Some s) × Covered (suc n) s
+      by true true a z i =
+          (span_of K n, rw (a, z) refl, record { inside = omega arith; start = refl; end = refl; from = leb-true (K.time n) t a; before = ltb-true t (K.time (suc n)) z })
       by true false a z i = absurd (omega (arith, ltb-false t (K.time (suc n)) z))
       by false z a e i =
-          let c : Covered n (seen_of K t n) = i (leb-false (K.time n) t a) in
-          rw a (record { inside = omega (arith, c.inside); start = c.start; end = c.end; from = c.from; before = c.before })
+          let c : (s : Span) × ((seen_of K t n).covering ≡ Some s) × Covered n s = i (leb-false (K.time n) t a) in
+          let d : Covered n c.0 = c.2 in
+          (c.0, rw a c.1, record { inside = omega (arith, d.inside); start = d.start; end = d.end; from = d.from; before = d.before })
 
 -- ---- what the tests of the code tell
 module _ (K : Keyframes) (n t : ℕ) (count : K.count ≡ n) where
@@ -77,7 +88,7 @@ module _ (K : Keyframes) (n t : ℕ) (count : K.count ≡ n) where
   unfolding at_frame
   frame_behind h l = rw (le-ltb t (K.time 0) h, count, le-leb (K.time n) t l)
 
-  pub frame_inside : {s : Seen} → Within K n t s → K.time 0 ≤ t → t < K.time n → in_frame K t s.frame ≡ at_frame K t
+  pub frame_inside : {s : Span} → Within K n t s → K.time 0 ≤ t → t < K.time n → in_frame K t s.frame ≡ at_frame K t
   unfolding at_frame
   frame_inside {s} w h l =
       let z : K.time K.count ≡ K.time n = ap K.time count in
@@ -113,45 +124,25 @@ module _ (K : Keyframes) (n t : ℕ) (count : K.count ≡ n) where
           rw (le-ltb 4294967295 t small, count, none, e)
 
   -- t is inside
-  pub seen_within : {s : Seen} → s ≡ seen_of K t n → s.late ≡ false → K.time 0 ≤ t → t < K.time n → Within K n t s
-  seen_within {s} saw early h l =
-      let none : any (suc n) (λ k. late (K.time k)) ≡ false = sym (seen_late K t n) ∙ ap (λ (x : Seen). x.late) (sym saw) ∙ early in
-      let c : Covered K t n s = rw saw (seen_covered K t n h l) in
-      record {
-        which = sym (seen_frame K t n) ∙ ap (λ (x : Seen). x.frame) (sym saw);
-        inside = c.inside;
-        start = c.start;
-        end = c.end;
-        from = c.from;
-        before = c.before;
-        small = omega (arith, c.end, none_late K t n none (suc s.frame) (omega (arith, c.inside)));
-      }
+  module _ {s : Seen} (saw : s ≡ seen_of K t n) (h : K.time 0 ≤ t) (l : t < K.time n) where
+    covered : (k : Span) × ((seen_of K t n).covering ≡ Some k) × Covered K t n k
+    covered = seen_covered K t n h l
 
--- by the keyframe's interpolation
-module _ (K : Keyframes) (t k : ℕ) {kind : ℕ} (is : kind ≡ K.kind k) where
-  pub kind_hold : {v : ℕ} → v ≡ K.value k → kind ≡ 3 → over1 v ≡ in_frame K t k
-  kind_hold d e = rw (eq-eqb (K.kind k) 3 (sym is ∙ e)) (ap over1 d)
+    pub some_covers : is_some s.covering ≡ true
+    some_covers = rw saw (ap is_some covered.1)
 
-  pub kind_linear : {u v start end : ℕ} → u ≡ K.value k → v ≡ K.value (suc k) → start ≡ K.time k → end ≡ K.time (suc k) → (kind ≡ 3 → ⊥) → kind ≡ 1
-      → fraction (u * (end - t) + v * (t - start)) (end - start) ≡ in_frame K t k
-  kind_linear p q r s n e = rw (ne_eqb (K.kind k) 3 (λ z. n (is ∙ z)), eq-eqb (K.kind k) 1 (sym is ∙ e), p, q, r, s)
-
-  pub kind_bezier : (kind ≡ 3 → ⊥) → (kind ≡ 1 → ⊥) → refused_by 28 ≡ in_frame K t k
-  kind_bezier n m = rw (ne_eqb (K.kind k) 3 (λ z. n (is ∙ z)), ne_eqb (K.kind k) 1 (λ z. m (is ∙ z)))
-
--- ---- numbers that fit
-pub share_small : (u d : ℕ) → u ≤ 255 → d ≤ 4294967295 → u * d ≤ 1095216660225
-share_small u d h l = mul-le-mul h l
-
-pub part_small : (w k n : ℕ) → k ≤ n → w * k + w ≤ w * suc n
-part_small w k n h = omega (arith, mul-suc w k, mul-le-mul_left {m = suc k} {n = suc n} w (omega arith))
-
--- ---- value k, cut out: its width is f + 1
-module _ (o : Order) (b : List ℕ) (K : Keyframes) {n p : ℕ} (X : ValuesAt o b K n p) (f k : ℕ) (width : f ≡ ub o b p 5) (h : k ≤ n) where
-  pub value_room : p + 5 + ((f + 1) * k + (f + 1)) ≤ 8 * length b
-  value_room = rw width (omega (arith, X.within, part_small (ub o b p 5 + 1) k n h))
-
-  pub value_is : {v : ℕ} → v ≡ ub o b (p + 5 + (f + 1) * k) (f + 1) → (v ≡ K.value k) × (v ≤ 255)
-  value_is {v} e =
-      let d : v ≡ K.value k = e ∙ ap (λ (x : ℕ). ub o b (p + 5 + (x + 1) * k) (x + 1)) width ∙ sym (X.each k h) in
-      (d, omega (arith, d, X.small k h))
+    pub seen_within : {k : Span} → s.late ≡ false → s.covering ≡ Some k → Within K n t k
+    seen_within {k} early e =
+        let none : any (suc n) (λ k. late (K.time k)) ≡ false = sym (seen_late K t n) ∙ ap (λ (x : Seen). x.late) (sym saw) ∙ early in
+        let w : Some covered.0 ≡ Some k = sym covered.1 ∙ ap (λ (x : Seen). x.covering) (sym saw) ∙ e in
+        let z : covered.0 ≡ k = cc in
+        let c : Covered K t n k = subst (Covered K t n) z covered.2 in
+        record {
+          which = sym (seen_frame K t n) ∙ ap (λ (x : Seen). frame_of x.covering) (sym saw) ∙ ap frame_of e;
+          inside = c.inside;
+          start = c.start;
+          end = c.end;
+          from = c.from;
+          before = c.before;
+          small = omega (arith, c.end, none_late K t n none (suc k.frame) (omega (arith, c.inside)));
+        }

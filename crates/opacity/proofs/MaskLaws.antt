@@ -19,7 +19,7 @@ use Rattle.format.proofs.BlockLaws.{as_many}
 use Rattle.format.proofs.WalkLaws.{run_le}
 use Rattle.table.proofs.EngineLaws.{Alike, alike_assoc, alike_after}
 use Rattle.opacity.specs.Opacity.{over1, earlier, from_opacity, keyframed_at, shown_at}
-use Rattle.opacity.specs.Inner.{place_in, IsAt, Judged, opacity_row, Finds, Framed, mask_frames}
+use Rattle.opacity.specs.Inner.{place_in, is_at, IsAt, Judged, opacity_row, Finds, Framed, mask_frames}
 use Rattle.opacity.proofs.ReadLaws.{ended_at, Parts, parts, ub_one}
 
 -- ---- a block that was judged: its flags, and then its rows
@@ -166,6 +166,9 @@ module _ (o : Order) (b : List ℕ) (J : Judged o b) where
         echoed : (run o b (content opacity_row φ ▸ more) P.mid).ended ≡ (run o b (item (Item.echo φ) ▸ content opacity_row φ ▸ more) P.mid).ended
         echoed = sym (ap (λ (r : Reading). r.ended) (echo_then o b φ (content opacity_row φ ▸ more) P.mid))
 
+    pub four_there : IsAt (run o b (rows four φs) p).ended
+    four_there = ap (λ (r : Reading). is_at r.ended) P.first
+
     -- the place m where the first four rows ended
     pub finds : {m : ℕ} → m ≡ place_in (run o b (rows four φs) p).ended → Finds o b φ m
     finds {m} e =
@@ -175,7 +178,7 @@ module _ (o : Order) (b : List ℕ) (J : Judged o b) where
         let s : from_opacity o b ≡ (φ ∷ (run o b (content opacity_row φ) P.mid).shown) ++ (run o b more Q.mid).shown =
         from_is ∙ ap (λ (f : Format). (run o b f P.mid).shown) tail_is ∙ ap (λ (r : Reading). r.shown) (echo_then o b φ (content opacity_row φ ▸ more) P.mid)
         ∙ ap (λ (l : List ℕ). φ ∷ l) (Q.shown ∙ ap (λ (r : Reading). r.shown ++ (run o b more Q.mid).shown) (sym Q.first)) in
-        rw z (record { few = J.few; place = l.1; reads = subst IsAt (sym c) tt; after = (run o b more Q.mid).shown; shown = s })
+        rw z (record { few = J.few; place = l.1; reads = ap is_at c; after = (run o b more Q.mid).shown; shown = s })
 
 -- a byte that was read is one number
 byte_number : (o : Order) (b : List ℕ) (p : ℕ) → IsAt (run o b byte p).ended → (v : ℕ) × ((run o b byte p).shown ≡ v ∷ [])
@@ -193,10 +196,16 @@ module _ (o : Order) (b : List ℕ) (t : ℕ) {φ p : ℕ} (F : Finds o b φ p) 
   unfolding shown_at
   none_shown e = rw (first_is, eq-eqb φ 0 e)
 
+  byte_content : (φ ≡ 0 → ⊥) → φ ≡ 1 → content opacity_row φ ≡ byte
+  byte_content n e = rw (ne_eqb φ 0 n, eq-eqb φ 1 e)
+
+  pub one_there : (φ ≡ 0 → ⊥) → φ ≡ 1 → IsAt (run o b byte p).ended
+  one_there n e = subst (λ (f : Format). IsAt (run o b f p).ended) (byte_content n e) F.reads
+
   pub one_shown : {v : ℕ} → (φ ≡ 0 → ⊥) → φ ≡ 1 → v ≡ the (run o b byte p).shown → over1 v ≡ shown_at (from_opacity o b) t
   unfolding shown_at
   one_shown {v} n e d =
-      let c : content opacity_row φ ≡ byte = rw (ne_eqb φ 0 n, eq-eqb φ 1 e) in
+      let c : content opacity_row φ ≡ byte = byte_content n e in
       let s : from_opacity o b ≡ (φ ∷ (run o b byte p).shown) ++ F.after = F.shown ∙ ap (λ (f : Format). (φ ∷ (run o b f p).shown) ++ F.after) c in
       rw (first_is, ne_eqb φ 0 n, eq-eqb φ 1 e) (ap over1 (d ∙ sym (ap (λ (l : List ℕ). get_or l 1 0) s ∙ second c)))
     where

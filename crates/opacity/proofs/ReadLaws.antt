@@ -20,7 +20,7 @@ use Rattle.opacity.specs.Inner.{IsAt, whole}
 -- a reading that ended, and where
 pub ended_at : (z : Ending) → IsAt z → (q : ℕ) × (z ≡ At q)
 ended_at (At q) h = (q, refl)
-ended_at (Fault e) h = absurd h
+ended_at (Fault e) h = clash cc
 
 pub at_one : {p q : ℕ} → At p ≡ At q → p ≡ q
 at_one e = cc

@@ -18,7 +18,7 @@ use Rattle.format.specs.Bodies.{content, how_many, aligned, spatial, has_spatial
 use Rattle.format.proofs.Absurd.{clash}
 use Rattle.format.proofs.WalkLaws.{run_le}
 use Rattle.opacity.specs.Opacity.{Keyframes, from_opacity, keyframes_of}
-use Rattle.opacity.specs.Inner.{place_in, opacity_row, Finds, Framed, mask_frames, whole, width_at, PartsAt, Stands}
+use Rattle.opacity.specs.Inner.{place_in, is_at, IsAt, opacity_row, Finds, Framed, mask_frames, whole, width_at, PartsAt, Stands}
 use Rattle.opacity.proofs.ReadLaws.{ended_at, Parts, parts, known_then, align_at, align_then, width_one, count_one, Fields, fields, times_many}
 
 -- ---- the content's format: what follows the values is left open
@@ -232,14 +232,22 @@ module _ (o : Order) (b : List ℕ) (few : length b < 2 ^ 60) (E : ℕ → List 
   }
 
 -- ---- for code: the count was read as v, the place after it is m, and the next whole byte k
+framed_content : (o : Order) (b : List ℕ) {p : ℕ} (f : Framed o b p) → Content o b (eased f.flag) p
+framed_content o b {p} f =
+    let g : content opacity_row f.flag ≡ frames_by (eased f.flag) = frames_content f.flag f.more in
+    let e : (q : ℕ) × ((run o b (content opacity_row f.flag) p).ended ≡ At q) = ended_at (run o b (content opacity_row f.flag) p).ended f.finds.reads in
+    content_parts o b (eased f.flag) p f.finds.place (ap (λ (x : Format). (run o b x p).ended) (sym g) ∙ e.1)
+
+pub count_there : (o : Order) (b : List ℕ) {p : ℕ} → Framed o b p → IsAt (run o b (count 1 4096) p).ended
+count_there o b {p} f = ap (λ (r : Reading). is_at r.ended) (framed_content o b f).count_read
+
 pub framed_stands : (o : Order) (b : List ℕ) {p v m k : ℕ} → Framed o b p → v ≡ the (run o b (count 1 4096) p).shown → m ≡ place_in (run o b (count 1 4096) p).ended → k ≡ whole m
     → Stands o b (mask_frames o b) v k
 unfolding mask_frames
 framed_stands o b {p} {v} {m} {k} f number next byte =
     let F : Finds o b f.flag p = f.finds in
     let g : content opacity_row f.flag ≡ frames_by (eased f.flag) = frames_content f.flag f.more in
-    let e : (q : ℕ) × ((run o b (content opacity_row f.flag) p).ended ≡ At q) = ended_at (run o b (content opacity_row f.flag) p).ended F.reads in
-    let C : Content o b (eased f.flag) p = content_parts o b (eased f.flag) p F.place (ap (λ (x : Format). (run o b x p).ended) (sym g) ∙ e.1) in
+    let C : Content o b (eased f.flag) p = framed_content o b f in
     let x : v ≡ C.n = number ∙ ap (λ (r : Reading). the r.shown) C.count_read in
     let y : m ≡ C.counted = next ∙ ap (λ (r : Reading). place_in r.ended) C.count_read in
     rw (byte, x, y) (stand o b F.few (eased f.flag) f.flag p C F.after (from_opacity o b) (F.shown ∙ ap (λ (z : Format). (f.flag ∷ (run o b z p).shown) ++ F.after) g))

@@ -1,7 +1,8 @@
 -- A walk over the times of n keyframes, one time after the other.
 use Prim.Native.Nat.{ℕ, suc, ◌+◌, ◌-◌, ◌*◌, ◌^◌, ◌≤◌, ◌<◌}
-use mathlib.Core.List.{List, ◌∷◌}
+use mathlib.Core.List.{List, [], ◌∷◌}
 use mathlib.Core.Bool.{false}
+use Rattle.std.proofs.Common.{None}
 use mathlib.Core.Path.{◌≡◌, ap, sym, ◌∙◌}
 use native.Mathlib.Numerals.{add-one}
 use native.Mathlib.Omega.{arith}
@@ -13,7 +14,7 @@ use Rattle.format.specs.Formats.{times, the}
 use Rattle.format.specs.Items.{run, time}
 use Rattle.format.proofs.WalkLaws.{run_le}
 use Rattle.opacity.specs.Opacity.{Keyframes, late}
-use Rattle.opacity.specs.Inner.{place_in, TimesAt, noted, seen_of, Walked}
+use Rattle.opacity.specs.Inner.{place_in, is_at, IsAt, TimesAt, noted, seen_of, Walked}
 use Rattle.opacity.specs.declared.frames.Seen.{Seen}
 use Rattle.opacity.proofs.ReadLaws.{Timed, timed, times_many, at_one}
 
@@ -35,7 +36,19 @@ nothing_read : (o : Order) (b : List ℕ) (i : ℕ) → i ≡ 0 → (q : ℕ) {x
 unfolding run times
 nothing_read o b i z q h = at_one (ap (λ (r : Reading). r.ended) (rw z at h))
 
+-- a time that was read is there
+timed_there : (o : Order) (b : List ℕ) (p : ℕ) {v q : ℕ} → run o b time p ≡ shows (v ∷ []) q → IsAt (run o b time p).ended
+timed_there o b p e = ap (λ (r : Reading). is_at r.ended) e
+
+pub first_there : (o : Order) (b : List ℕ) (K : Keyframes) (n : ℕ) {p : ℕ} → TimesAt o b K n p → IsAt (run o b time p).ended
+first_there o b K n {p} T = timed_there o b p (timed o b n p T.end T.ts T.reads).one
+
 module _ (o : Order) (b : List ℕ) (K : Keyframes) (n t : ℕ) where
+  pub next_there : {p₀ start p : ℕ} {seen : Seen} {frame : ℕ} → Going o b K n t p₀ start p seen frame → frame < n → IsAt (run o b time p).ended
+  next_there {p = p} {frame = frame} g h =
+      let i : n - frame ≡ suc (n - suc frame) = omega arith in
+      timed_there o b p (timed o b (n - suc frame) p g.end (drop frame g.ts) (rw i at g.rest)).one
+
   -- the first time was read
   module _ {p : ℕ} (T : TimesAt o b K n p) {v m : ℕ} (number : v ≡ the (run o b time p).shown) (next : m ≡ place_in (run o b time p).ended) where
     abbrev D : Timed o b n p T.end T.ts
@@ -50,7 +63,7 @@ module _ (o : Order) (b : List ℕ) (K : Keyframes) (n t : ℕ) where
     m_is : m ≡ D.mid
     m_is = next ∙ ap (λ (r : Reading). place_in r.ended) D.one
 
-    pub going_start : {seen : Seen} → seen ≡ record { late = late v; falls = false; frame = 0; start = 0; end = 0 } → Going o b K n t m v m seen 0
+    pub going_start : {seen : Seen} → seen ≡ record { late = late v; falls = false; covering = None } → Going o b K n t m v m seen 0
     unfolding seen_of
     going_start e =
         let l : (p ≤ D.mid) × (D.mid ≤ 8 * length b) = run_le o b time p D.mid T.place (ap (λ (r : Reading). r.ended) D.one) in
@@ -67,7 +80,7 @@ module _ (o : Order) (b : List ℕ) (K : Keyframes) (n t : ℕ) where
           each = λ k h. T.each (suc k) (omega arith) ∙ ap (λ (l : List ℕ). get_or l (suc k) 0) D.all;
           rest = rw z r;
           starts = first_is;
-          saw = e ∙ ap (λ (x : ℕ). record { late = late x; falls = false; frame = 0; start = 0; end = 0 }) first_is;
+          saw = e ∙ ap (λ (x : ℕ). record { late = late x; falls = false; covering = None }) first_is;
         }
 
     -- all were read
@@ -84,7 +97,7 @@ module _ (o : Order) (b : List ℕ) (K : Keyframes) (n t : ℕ) where
 
   -- one more
   pub going_next : {p₀ start p v m : ℕ} {seen s : Seen} {frame : ℕ} → Going o b K n t p₀ start p seen frame → frame < n
-      → v ≡ the (run o b time p).shown → m ≡ place_in (run o b time p).ended → s ≡ noted seen frame start v t → Going o b K n t p₀ v m s (frame + 1)
+      → v ≡ the (run o b time p).shown → m ≡ place_in (run o b time p).ended → s ≡ noted seen (record { frame = frame; start = start; end = v }) t → Going o b K n t p₀ v m s (frame + 1)
   unfolding seen_of
   going_next {p₀} {start} {p} {v} {m} {seen} {s} {frame} g h number next saw =
       let i : n - frame ≡ suc (n - suc frame) = omega arith in

@@ -1,6 +1,6 @@
 -- What the functions below `opacity` suppose and answer: where the parts of a judged body stand, and what a walk over the times has seen. Not to be believed,
 -- only used.
-use Rattle.std.specs.Prelude.{ℕ, zero, suc, ◌+◌, ◌*◌, ◌^◌, ◌≤◌, ◌<◌, List, ◌∷◌, ◌++◌, false, ◌≡◌, length, get_or, ltb, leb}
+use Rattle.std.specs.Prelude.{ℕ, zero, suc, ◌+◌, ◌*◌, ◌^◌, ◌≤◌, ◌<◌, List, ◌∷◌, ◌++◌, Bool, true, false, ◌≡◌, length, get_or, ltb, leb, Some, None}
 use Rattle.format.specs.Tests.{pick, ◌and◌, ◌or◌}
 use Rattle.format.specs.Bits.{Order, ub}
 use Rattle.format.specs.Reading.{Ending, At, Fault, shows}
@@ -8,26 +8,21 @@ use Rattle.format.specs.Formats.{times}
 use Rattle.format.specs.Items.{run, time, skipped}
 use Rattle.format.specs.Bodies.{Attribute, Simple, Bytes, ◌of◌, content, mask_block, attributes, read_body}
 use Rattle.opacity.specs.Opacity.{Keyframes, from_opacity, keyframes_of, covering, late}
-use Rattle.bits.specs.declared.Got.{Got}
-use Rattle.bits.specs.declared.Got.TheVariants as bits
-use Rattle.bits.specs.declared.Got.TheVariants.{Value}
 use Rattle.opacity.specs.declared.frames.Seen.{Seen}
-use Rattle.opacity.specs.declared.places.Taken.{Taken}
+use Rattle.opacity.specs.declared.frames.Span.{Span}
 
 -- the place where a reading ended; 0 where it did not
 abbrev pub place_in : Ending → ℕ
 place_in (At p) = p
 place_in (Fault e) = 0
 
--- what was read; zeros where that is a reason
-abbrev pub taken_of : Got → Taken
-taken_of (Value v q) = record { number = v; next = q }
-taken_of (bits.Fault e) = record { number = 0; next = record { 0 = 0 } }
-
 -- it was read
+abbrev pub is_at : Ending → Bool
+is_at (At p) = true
+is_at (Fault e) = false
+
 abbrev pub IsAt : Ending → Type 0
-IsAt (At p) = Unit {0}
-IsAt (Fault e) = ⊥
+IsAt z = is_at z ≡ true
 
 -- the body was judged, and is a mask's
 pub record Judged (o : Order) (b : List ℕ) : Type 0 where
@@ -100,19 +95,21 @@ pub record Stands (o : Order) (b : List ℕ) (K : Keyframes) (n p : ℕ) : Type 
 
 -- ---- a walk over the times: what the first n keyframes say
 
--- keyframe k, which starts and ends at these times, is seen too
-abbrev pub noted : Seen → ℕ → ℕ → ℕ → ℕ → Seen
-noted s k start end t = record {
-  late = s.late or late end;
-  falls = s.falls or leb end start;
-  frame = pick (leb start t and ltb t end) k s.frame;
-  start = pick (leb start t and ltb t end) start s.start;
-  end = pick (leb start t and ltb t end) end s.end;
+-- one keyframe more is seen
+abbrev pub noted : Seen → Span → ℕ → Seen
+noted s k t = record {
+  late = s.late or late k.end;
+  falls = s.falls or leb k.end k.start;
+  covering = pick (leb k.start t and ltb t k.end) (Some k) s.covering;
 }
 
+-- keyframe k, with its start and its end
+abbrev pub span_of : Keyframes → ℕ → Span
+span_of K k = record { frame = k; start = K.time k; end = K.time (suc k) }
+
 unfoldable pub seen_of : Keyframes → ℕ → ℕ → Seen
-seen_of K t zero = record { late = late (K.time 0); falls = false; frame = 0; start = 0; end = 0 }
-seen_of K t (suc n) = noted (seen_of K t n) n (K.time n) (K.time (suc n)) t
+seen_of K t zero = record { late = late (K.time 0); falls = false; covering = None }
+seen_of K t (suc n) = noted (seen_of K t n) (span_of K n) t
 
 -- the walk saw them all; its first time is a, and its last z
 pub record Walked (K : Keyframes) (n t : ℕ) (seen : Seen) (a z : ℕ) : Type 0 where
@@ -120,12 +117,12 @@ pub record Walked (K : Keyframes) (n t : ℕ) (seen : Seen) (a z : ℕ) : Type 0
   pub first : a ≡ K.time 0
   pub last : z ≡ K.time n
 
--- one keyframe was seen that covers t
-pub record Within (K : Keyframes) (n t : ℕ) (seen : Seen) : Type 0 where
-  pub which : covering K t n ≡ seen.frame
-  pub inside : seen.frame < n
-  pub start : seen.start ≡ K.time seen.frame
-  pub end : seen.end ≡ K.time (suc seen.frame)
-  pub from : seen.start ≤ t
-  pub before : t < seen.end
-  pub small : seen.end ≤ 4294967295
+-- a keyframe of K covers t
+pub record Within (K : Keyframes) (n t : ℕ) (span : Span) : Type 0 where
+  pub which : covering K t n ≡ span.frame
+  pub inside : span.frame < n
+  pub start : span.start ≡ K.time span.frame
+  pub end : span.end ≡ K.time (suc span.frame)
+  pub from : span.start ≤ t
+  pub before : t < span.end
+  pub small : span.end ≤ 4294967295

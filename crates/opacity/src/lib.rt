@@ -2,59 +2,39 @@
 #![tactic(auto)]
 
 ghost use Rattle.std.specs.Prelude.{◌≡◌};
-ghost use Rattle.bits.specs.Places.{order_of};
-ghost use Rattle.opacity.specs.Opacity.{from_opacity, shown_at, opacity_at};
+ghost use Rattle.opacity.specs.Opacity.{opacity_at};
 ghost use Rattle.opacity.specs.Answers.{opacity_of};
-ghost use Rattle.opacity.specs.Inner.{Judged};
 
 mod frames;
 mod places;
 
-use bits::Order;
-use bodies::Shown;
-use items::Item;
+use crate::places::Mask;
+use bits::{BitPlace, Order};
+use reasons::Reason;
+use table::Reader;
 
-// An exact fraction of two whole numbers; or a reason, and number 0.
-#[derive(Clone, Copy)]
-pub enum Exact {
-    Fraction(u64, u64),
-    Refused(u32, u64),
-}
-
-// By the opacity's flag number: the default, one value, or keyframes.
-fn of_mask(order: Order, body: &[u8], t: u64) -> Exact
-    requires { Judged (order_of order) body.now }
-    ensures { opacity_of result ≡ shown_at (from_opacity (order_of order) body.now) t }
-{
-    let found = places::find(order, body);
-    let flag = found.flag;
-    let content = found.content;
-    if flag == 0 {
-        return Exact::Fraction(255, 1);
-    }
-    if flag == 1 {
-        let one = places::item_at(order, Item::Byte, body, content);
-        return Exact::Fraction(one.number, 1);
-    }
-    frames::keyframed(order, body, content, t)
+// An exact fraction of two whole numbers.
+#[derive(Clone, Copy, Debug, PartialEq, Eq)]
+pub struct Fraction {
+    pub above: u64,
+    pub below: u64,
 }
 
 // The opacity of a mask's body at the frame t.
-pub fn opacity(order: u32, body: &[u8], t: u64) -> Exact
+pub fn opacity(order: u32, body: &[u8], t: u64) -> Result<Fraction, Reason>
     ensures { opacity_of result ≡ opacity_at order body.now t }
 {
-    if 1 < order {
-        return Exact::Refused(24, 0);
-    }
+    let order = Order::try_from(order)?;
     if 1152921504606846976 <= body.len() {
-        return Exact::Refused(18, 0);
+        return Err(Reason::BodyNotUsedUp);
     }
-    let named = bits::order_named(order);
-    let mut none = [0u64; 1];
-    let read = bodies::read_body(named, 14, body, &mut none[..0], 0);
-    match read {
-        Shown::Stop(why, _) => Exact::Refused(why, 0),
-        Shown::Done(_, _) => of_mask(named, body, t),
-        Shown::Open(_, _) => of_mask(named, body, t),
-    }
+    let mut reader = Reader {
+        order,
+        body,
+        place: BitPlace(0),
+        table: &mut [],
+        index: 0,
+    };
+    bodies::read_body(&mut reader, 14)?;
+    Mask { order, body }.opacity(t)
 }

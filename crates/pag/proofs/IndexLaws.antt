@@ -12,19 +12,12 @@ use Rattle.format.specs.Reasons.{Result, gives, refuses, read_tags}
 use Rattle.format.proofs.ReasonLaws.{tags_reason, reason_pos}
 use mathlib.Core.Logic.{inl}
 use Rattle.format.proofs.Absurd.{clash}
-use Rattle.answers.specs.Answers.{answer_of}
 use Rattle.answers.specs.declared.Answer.{Answer}
-use Rattle.tag_index.specs.Index.{how_many, where_is, index, Built, builds, fills, fills_neither, building, is_index, count_answer, place_answer}
+use Rattle.tag_index.specs.Index.{how_many, where_is, index, Built, fills, fills_neither, building, is_index, count_answer, place_answer}
 use Rattle.pag.specs.declared.PagAnswer.{PagAnswer}
 use Rattle.pag.specs.Plain.{plain, plain_of}
 use Rattle.pag.specs.PlainIndex.{leaves_both}
-use Rattle.pag.proofs.PlainLaws.{plain_is, accepted_by}
-
-pub asked_plainly : (y : paper.Answer) (a : Answer) {r : PagAnswer} → answer_of a ≡ y → r ≡ plain a → r ≡ plain_of y
-asked_plainly y a e d = d ∙ plain_is a ∙ ap plain_of e
-
-pub built_plainly : (b : Built) {m x : List ℕ} (a : Answer) {r : PagAnswer} → builds m x a ≡ b → r ≡ plain a → leaves_both m x r b
-built_plainly b a e d = (d ∙ plain_is a ∙ ap (λ (b : Built). plain_of b.answer) e, ap (λ (b : Built). b.tags) e, ap (λ (b : Built). b.index) e)
+use Rattle.pag.proofs.PlainLaws.{accepted_by}
 
 -- no second answer fits
 pub both_one : (b : Built) {m m' x x' : List ℕ} {r r' : PagAnswer} → leaves_both m x r b → leaves_both m' x' r' b → (r ≡ r') × (m ≡ m') × (x ≡ x')

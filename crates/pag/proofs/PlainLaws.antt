@@ -8,31 +8,13 @@ use Rattle.format.specs.Reasons.{Writes, read_file, read_tags, into}
 use Rattle.format.proofs.Promises.{writes_one}
 use Rattle.format.proofs.ReasonLaws.{read_reason, tags_reason, answer_reason, reason_pos}
 use Rattle.format.proofs.Absurd.{clash}
-use Rattle.answers.specs.Answers.{answer_of, leaves}
 use Rattle.answers.specs.declared.Answer.{Answer}
-use Rattle.answers.specs.declared.Answer.TheVariants.{Accepted, Refused}
 use Rattle.pag.specs.declared.PagAnswer.{PagAnswer}
 use Rattle.pag.specs.Plain.{plain, plain_of, leaves_plain, WritesPlain}
-
--- the answer that a `match` tells
-pub plain_of_lem : {a : Answer} (told : Answer) → a ≡ told → plain told ≡ plain a
-plain_of_lem told e = ap plain (sym e)
-
-pub plain_is : (a : Answer) → plain a ≡ plain_of (answer_of a)
-plain_is (Accepted n) = refl
-plain_is (Refused e n) = refl
-
--- a call's promise, with its answer made plain
-pub plainly : (x : paper.Left) {m : List ℕ} (a : Answer) {r : PagAnswer} → leaves m a ≡ x → r ≡ plain a → leaves_plain m r x
-plainly x a e d = (d ∙ plain_is a ∙ ap (λ (l : paper.Left). plain_of l.answer) e, ap (λ (l : paper.Left). l.lent) e)
 
 -- no second answer fits
 pub plain_one : (x : paper.Left) {m m' : List ℕ} {r r' : PagAnswer} → leaves_plain m r x → leaves_plain m' r' x → (r ≡ r') × (m ≡ m')
 plain_one x p q = (p.0 ∙ sym q.0, p.1 ∙ sym q.1)
-
--- `write`'s promise, with its answer made plain, and that no second answer fits it
-pub writes_plainly : (order level : ℕ) (t m : List ℕ) {m' : List ℕ} (a : Answer) {r : PagAnswer} → Writes order level t m (leaves m' a) → r ≡ plain a → WritesPlain order level t m m' r
-writes_plainly order level t m {m'} a w e = (leaves m' a, w, plainly (leaves m' a) a refl e)
 
 pub writes_plain_one : (order level : ℕ) (t m : List ℕ) {m' m'' : List ℕ} {r s : PagAnswer} → WritesPlain order level t m m' r → WritesPlain order level t m m'' s → (r ≡ s) × (m' ≡ m'')
 writes_plain_one order level t m {m'' = m''} {s = s} p q =

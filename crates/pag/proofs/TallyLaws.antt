@@ -1,18 +1,11 @@
 -- The tally's answer as a plain struct: nothing is lost.
 use Prim.Native.Nat.{ℕ}
 use mathlib.Core.List.{List}
-use mathlib.Core.Path.{◌≡◌, ap, sym, ◌∙◌}
-use Rattle.tally.specs.Adding.{Left, leaves}
-use Rattle.tally.specs.declared.Added.{Added}
+use mathlib.Core.Path.{◌≡◌, sym, ◌∙◌}
+use Rattle.tally.specs.Adding.{Left}
 use Rattle.pag.specs.declared.PagAnswer.{PagAnswer}
-use Rattle.pag.specs.Plain.{plain, plain_of}
+use Rattle.pag.specs.Plain.{plain}
 use Rattle.pag.specs.PlainTally.{leaves_tally}
-use Rattle.pag.proofs.PlainLaws.{plain_is}
-
--- the call's promise, with its answer made plain
-pub tally_plainly : (x : Left) (a : Added) {r : PagAnswer} → leaves a ≡ x → r ≡ plain a.answer → leaves_tally a.tally.counts a.tally.headers r x
-tally_plainly x a e d =
-    (d ∙ plain_is a.answer ∙ ap (λ (l : Left). plain_of l.answer) e, ap (λ (l : Left). l.tally.counts) e, ap (λ (l : Left). l.tally.headers) e)
 
 -- no second answer, and no second tally, fits
 pub tally_one : (x : Left) (counts counts' : List ℕ) (headers headers' : ℕ) (r r' : PagAnswer) → leaves_tally counts headers r x → leaves_tally counts' headers' r' x

@@ -4,11 +4,12 @@ use Rattle.format.specs.Reasons as paper
 use Rattle.format.specs.Reasons.{Writes}
 use Rattle.answers.specs.declared.Answer.{Answer}
 use Rattle.answers.specs.declared.Answer.TheVariants.{Accepted, Refused}
+use Rattle.reasons.specs.Numbers.{number_of}
 use Rattle.pag.specs.declared.PagAnswer.{PagAnswer}
 
 abbrev pub plain : Answer → PagAnswer
 plain (Accepted n) = record { reason = 0; number = n }
-plain (Refused e n) = record { reason = e; number = n }
+plain (Refused e n) = record { reason = number_of e; number = n }
 
 -- the paper's answer as a plain struct
 abbrev pub plain_of : paper.Answer → PagAnswer

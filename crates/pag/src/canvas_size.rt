@@ -3,7 +3,7 @@ ghost use Rattle.std.specs.Prelude.{◌≡◌};
 ghost use Rattle.canvas.specs.Canvas.{canvas_file};
 ghost use Rattle.pag.specs.PlainCanvas.{plain_size, plain_canvas};
 
-use canvas::{CanvasSize, Seen};
+use canvas::{CanvasSize, Refusal};
 
 // `found` is 1 where there is such a tag, and then the values are its own; else they are zeros. A reason that is not 0 refuses, with its number.
 #[repr(C)]
@@ -16,34 +16,30 @@ pub struct PagCanvasAnswer {
     pub values: [u64; 7],
 }
 
-fn plain_canvas(size: CanvasSize) -> PagCanvasAnswer
-    ensures { result ≡ plain_size size }
-{
-    let seen = size.seen;
-    let values = size.values;
-    let headers = size.headers;
-    match seen {
-        Seen::Found => PagCanvasAnswer {
-            found: 1,
-            reason: 0,
-            number: 0,
-            headers: headers,
-            values: values,
-        },
-        Seen::None => PagCanvasAnswer {
+impl From<CanvasSize> for PagCanvasAnswer {
+    ghost from_gives = { λ size given. given ≡ plain_size size };
+
+    fn from(answer: CanvasSize) -> PagCanvasAnswer {
+        let none = PagCanvasAnswer {
             found: 0,
             reason: 0,
             number: 0,
-            headers: headers,
-            values: values,
-        },
-        Seen::Refused(reason, number) => PagCanvasAnswer {
-            found: 0,
-            reason: reason,
-            number: number,
-            headers: headers,
-            values: values,
-        },
+            headers: answer.headers,
+            values: [0u64; 7],
+        };
+        match answer.size {
+            Ok(Some(values)) => PagCanvasAnswer {
+                found: 1,
+                values,
+                ..none
+            },
+            Ok(None) => none,
+            Err(Refusal { reason, number }) => PagCanvasAnswer {
+                reason: u32::from(reason),
+                number,
+                ..none
+            },
+        }
     }
 }
 
@@ -51,5 +47,5 @@ fn plain_canvas(size: CanvasSize) -> PagCanvasAnswer
 pub extern "C" fn pag_canvas(level: u32, order: u32, file: &[u8]) -> PagCanvasAnswer
     ensures { result ≡ plain_canvas (canvas_file order level file.now) }
 {
-    plain_canvas(canvas::canvas(level, order, file))
+    PagCanvasAnswer::from(canvas::canvas(level, order, file))
 }

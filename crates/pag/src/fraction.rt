@@ -1,10 +1,9 @@
 // The opacity of a mask at a frame, for hosts (C-22).
 ghost use Rattle.std.specs.Prelude.{◌≡◌};
 ghost use Rattle.opacity.specs.Opacity.{opacity_at};
-ghost use Rattle.opacity.specs.Answers.{opacity_of};
 ghost use Rattle.pag.specs.PlainFraction.{plain_fraction};
 
-use opacity::Exact;
+use opacity::Fraction;
 
 // Reason 0: an exact fraction; after a refusal both its numbers are 0.
 #[repr(C)]
@@ -15,26 +14,20 @@ pub struct PagFraction {
     pub denominator: u64,
 }
 
-fn plain_fraction(answer: Exact) -> PagFraction
-    ensures { result ≡ plain_fraction (opacity_of answer) }
-{
-    match answer {
-        Exact::Fraction(above, below) => PagFraction {
-            reason: 0,
-            numerator: above,
-            denominator: below,
-        },
-        Exact::Refused(reason, _) => PagFraction {
-            reason: reason,
-            numerator: 0,
-            denominator: 0,
-        },
-    }
-}
-
 #[unsafe(no_mangle)]
 pub extern "C" fn pag_opacity(order: u32, body: &[u8], t: u64) -> PagFraction
     ensures { result ≡ plain_fraction (opacity_at order body.now t) }
 {
-    plain_fraction(opacity::opacity(order, body, t))
+    match opacity::opacity(order, body, t) {
+        Ok(Fraction { above, below }) => PagFraction {
+            reason: 0,
+            numerator: above,
+            denominator: below,
+        },
+        Err(reason) => PagFraction {
+            reason: u32::from(reason),
+            numerator: 0,
+            denominator: 0,
+        },
+    }
 }

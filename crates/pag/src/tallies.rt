@@ -3,7 +3,7 @@ ghost use Rattle.std.specs.Prelude.{◌≡◌};
 ghost use Rattle.tally.specs.Adding.{adding};
 ghost use Rattle.pag.specs.PlainTally.{tally_of, leaves_tally};
 
-use crate::{PagAnswer, plain};
+use crate::PagAnswer;
 use tally::Tally;
 
 // Adds a file to a host's tally: its 1,024 counts and its header count are lent.
@@ -27,6 +27,5 @@ pub extern "C" fn pag_tally(
     let numbers = after.counts;
     *counts = numbers;
     *headers = after.headers;
-    let answer = added.answer;
-    plain(answer)
+    PagAnswer::from(added.answer)
 }

@@ -1,7 +1,6 @@
 // The listing of the file on standard input; with the argument --singles, path coordinates are printed as the bits of singles. What it prints is made by proved functions; this program only reads and writes.
 #![tactic(auto)]
 
-use printing::Input;
 use std::env::Env;
 use std::io::Read;
 
@@ -24,15 +23,10 @@ fn print_file(rt: &(impl Print + Eprint), file: &[u8], singles: bool) {
 
 fn print_input(rt: &(impl Print + Eprint), source: &mut impl Read, file: &mut [u8], singles: bool) {
     match printing::read_input(source, file) {
-        Input::Failed(_) => {
+        Ok(count) if count <= MOST => print_file(rt, &file[..count], singles),
+        Ok(_) => printing::print_too_long(rt),
+        Err(_) => {
             let _ = eprintln!(rt; "pag_list: standard input cannot be read");
-        }
-        Input::Bytes(count) => {
-            if MOST < count {
-                printing::print_too_long(rt);
-            } else {
-                print_file(rt, &file[0..count], singles);
-            }
         }
     }
 }

@@ -2,35 +2,30 @@
 // program only reads and writes.
 #![tactic(auto)]
 
-ghost use Rattle.std.specs.Prelude.{◌≡◌, ◌≤◌, length};
+ghost use Rattle.std.specs.Prelude.{◌≡◌, ◌≤◌, length, IfOk, IfSome};
 ghost use Rattle.pag_tally.specs.Sizes.{size_of};
 
 use answers::Answer;
-use printing::Input;
+use std::io;
 use std::io::Read;
-use tally::{Added, Tally};
+use tally::Tally;
 
 // Every code is below the level: all tags that can be read are.
 const LEVEL: u32 = 1023;
 
 const HIGH_FIRST: u32 = 0;
 
-// The most bytes of a file.
-const MOST: usize = 32768;
-
-// What comes next on the input: nothing more; a read failed; a file that is too long; a file of so many bytes.
-#[derive(Clone, Copy)]
-enum Next {
-    Over,
+// Why no file could be read: a read failed, or the next file is too long.
+#[derive(Clone, Copy, Debug, PartialEq, Eq)]
+enum Unread {
     Failed,
     TooLong,
-    File(usize),
 }
 
-fn at_most(count: usize, most: usize) -> usize
-    ensures { result ≤ most }
-{
-    if count < most { count } else { most }
+impl From<io::Error> for Unread {
+    fn from(_: io::Error) -> Unread {
+        Unread::Failed
+    }
 }
 
 // How many bytes a file takes that starts so: as many as its length field says, 9 if that is less.
@@ -38,66 +33,33 @@ fn size_of(start: &[u8]) -> usize
     requires { 8 ≤ length start.now }
     ensures { (result ≡ size_of start.now) × (9 ≤ result) }
 {
-    let length = headers::le32_at(start, 4) as usize;
-    if length < 9 { 9 } else { length }
+    (headers::le32_at(start, 4) as usize).max(9)
 }
 
-// Behind its first eight bytes, the rest of a file of this size; the input may end before that.
-fn read_rest(source: &mut impl Read, file: &mut [u8], size: usize) -> Next
-    requires { (8 ≤ size) × (size ≤ length file.old) }
+// Reads the next file into the room for the longest one, and answers how many bytes it has; none if the input is over. Fewer than eight bytes have no
+// length field, and are a file as they are; the input may end before a file does.
+fn next_file(source: &mut impl Read, file: &mut [u8; 32768]) -> Result<Option<usize>, Unread>
+    ensures { IfOk result (λ next. IfSome next (λ count. count ≤ 32768)) }
 {
-    let rest = &mut file[8..size];
-    match printing::read_input(source, rest) {
-        Input::Failed(_) => Next::Failed,
-        Input::Bytes(count) => Next::File(8 + at_most(count, MOST)),
+    let count = printing::read_input(source, &mut file[..8])?;
+    if count == 0 {
+        return Ok(None);
     }
-}
-
-// Reads the next file into the room for the longest one; fewer than eight bytes have no length field, and are a file as they are.
-fn next_file(source: &mut impl Read, file: &mut [u8]) -> Next
-    requires { 8 ≤ length file.old }
-{
-    match printing::read_input(source, &mut file[0..8]) {
-        Input::Failed(_) => Next::Failed,
-        Input::Bytes(count) => {
-            if count == 0 {
-                return Next::Over;
-            }
-            if count < 8 {
-                return Next::File(count);
-            }
-            let size = size_of(file);
-            if file.len() < size {
-                return Next::TooLong;
-            }
-            read_rest(source, file, size)
-        }
+    if count < 8 {
+        return Ok(Some(count));
     }
-}
-
-// The room is an array here: its length is known in every turn.
-fn read_next(source: &mut impl Read, file: &mut [u8; 32768]) -> Next {
-    next_file(source, file)
-}
-
-// Adds the file that stands in the room.
-fn add_file(tally: Tally, room: &[u8; 32768], count: usize) -> Added {
-    let end = at_most(count, MOST);
-    let all = &room[..];
-    tally::add(tally, LEVEL, HIGH_FIRST, &all[0..end])
-}
-
-fn write_text(rt: &(impl Print + Eprint), text: &[u8; 43036], count: usize)
-    requires { count ≤ 43036 }
-{
-    let all = &text[..];
-    printing::write(rt, &all[0..count]);
+    let size = size_of(file);
+    if file.len() < size {
+        return Err(Unread::TooLong);
+    }
+    let rest = printing::read_input(source, &mut file[8..size])?;
+    Ok(Some(8 + rest))
 }
 
 fn print_tally(rt: &(impl Print + Eprint), tally: Tally) {
     let mut text = [0u8; 43036];
     let count = tally_text::put_tally(tally, &mut text);
-    write_text(rt, &text, count);
+    let _ = printing::write(rt, &text[..count]);
 }
 
 // Each file is a turn, and so is the end of the input. The tally refuses a file beyond its limit, so there is no turn after these.
@@ -106,28 +68,26 @@ fn main(rt: HostRuntime) {
     let mut file = [0u8; 32768];
     let mut tally = Tally::new();
     for _ in 0..=1000000 {
-        let next = read_next(&mut source, &mut file);
-        match next {
-            Next::Over => {
+        match next_file(&mut source, &mut file) {
+            Ok(None) => {
                 print_tally(&rt, tally);
                 return;
             }
-            Next::Failed => {
-                let _ = eprintln!(rt; "pag_tally: standard input cannot be read");
-                return;
-            }
-            Next::TooLong => {
-                printing::print_too_long(&rt);
-                return;
-            }
-            Next::File(count) => {
-                let added = add_file(tally, &file, count);
-                let answer = added.answer;
-                if let Answer::Refused(why, number) = answer {
+            Ok(Some(count)) => {
+                let added = tally::add(tally, LEVEL, HIGH_FIRST, &file[..count]);
+                if let Answer::Refused(why, number) = added.answer {
                     printing::print_refusal(&rt, why, number);
                     return;
                 }
                 tally = added.tally;
+            }
+            Err(Unread::Failed) => {
+                let _ = eprintln!(rt; "pag_tally: standard input cannot be read");
+                return;
+            }
+            Err(Unread::TooLong) => {
+                printing::print_too_long(&rt);
+                return;
             }
         }
     }

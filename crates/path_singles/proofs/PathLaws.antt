@@ -126,8 +126,8 @@ module _ (v : List ℕ) (k : ℕ) (h : k < length v) where
 
 -- the path, by the indexes that the code finds
 pub path_over : (v : List ℕ) (k : ℕ) {w c i j : ℕ} {x : Singled} → k < length v → w ≡ min (k + 1 + get_or v k 0) (length v) → c ≡ coordinates (take (w - (k + 1)) (drop (k + 1) v))
-    → x ≡ over v i j → i ≡ min (w + 1) (length v) → j ≡ min (i + c) (length v) → (x ≡ over v (first_of v k) (behind_of v k)) × (j ≡ behind_of v k)
-path_over v k {w} {c} {i} {j} h e d p f g =
+    → i ≡ min (w + 1) (length v) → j ≡ min (i + c) (length v) → x ≡ over v i j → (x ≡ over v (first_of v k) (behind_of v k)) × (j ≡ behind_of v k)
+path_over v k {w} {c} {i} {j} h e d f g p =
     let a : c ≡ coordinates (verbs_of v k) = d ∙ ap (λ (x : ℕ). coordinates (take (x - (k + 1)) (drop (k + 1) v))) e ∙ ap coordinates (take_up_to (k + 1) (get_or v k 0) v (omega arith) ∙ ap (λ (x : ℕ). take (get_or v k 0) (drop x v)) (add-one k)) in
     let b : i ≡ first_of v k = omega arith in
     let l : j ≡ behind_of v k = omega arith in
@@ -142,16 +142,15 @@ pub record Turning (v₀ : List ℕ) (k₀ m₀ : ℕ) (v : List ℕ) (k m : ℕ
 pub turns_from : (v : List ℕ) {k m : ℕ} → k ≤ length v → Turning v k m v k m false
 turns_from v h = record { size = refl; inside = h; same = refl }
 
-pub turns : (v₀ : List ℕ) {k₀ m₀ : ℕ} {v u : List ℕ} {k m j : ℕ} {b c d : Bool} → Turning v₀ k₀ m₀ v k m b → 0 < m → k < length v
-    → left u c ≡ over v (first_of v k) (behind_of v k) → j ≡ behind_of v k → d ≡ b or c → Turning v₀ k₀ m₀ u j (m - 1) d
-turns v₀ {k₀} {m₀} {v} {u} {k} {m} {j} {b} {c} {d} g h l e f x = record {
+pub turns : (v₀ : List ℕ) {k₀ m₀ : ℕ} {v u : List ℕ} {k m n j : ℕ} {b c d : Bool} → Turning v₀ k₀ m₀ v k m b → m ≡ suc n → k < length v
+    → left u c ≡ over v (first_of v k) (behind_of v k) → j ≡ behind_of v k → d ≡ b or c → Turning v₀ k₀ m₀ u j n d
+turns v₀ {k₀} {m₀} {v} {u} {k} {m} {n} {j} {b} {c} {d} g h l e f x = record {
   size = path_length v k l e ∙ g.size;
   inside = omega (arith, path_length v k l e, f);
   same =
-      let n : m ≡ suc (m - 1) = omega arith in
-      g.same ∙ ap (λ (z : ℕ). beside b (from v k (paths z (drop k v)))) n ∙ ap (beside b) (path_step v k l e (m - 1))
-      ∙ ap (left (from u (behind_of v k) (paths (m - 1) (drop (behind_of v k) u))).shown) (or_assoc b c (from u (behind_of v k) (paths (m - 1) (drop (behind_of v k) u))).beyond)
-      ∙ ap₂ (λ (z : Bool) (i : ℕ). beside z (from u i (paths (m - 1) (drop i u)))) (sym x) (sym f);
+      g.same ∙ ap (λ (z : ℕ). beside b (from v k (paths z (drop k v)))) h ∙ ap (beside b) (path_step v k l e n)
+      ∙ ap (left (from u (behind_of v k) (paths n (drop (behind_of v k) u))).shown) (or_assoc b c (from u (behind_of v k) (paths n (drop (behind_of v k) u))).beyond)
+      ∙ ap₂ (λ (z : Bool) (i : ℕ). beside z (from u i (paths n (drop i u)))) (sym x) (sym f);
 }
 
 pub turned : (v₀ : List ℕ) {k₀ m₀ : ℕ} {v : List ℕ} {k m : ℕ} {b : Bool} → Turning v₀ k₀ m₀ v k m b → from v k (paths m (drop k v)) ≡ left v false

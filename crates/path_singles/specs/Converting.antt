@@ -1,12 +1,7 @@
 -- What the functions leave: the lent numbers, and whether a coordinate is beyond. And where the coordinates of a path stand.
 use Rattle.std.specs.Prelude.{ℕ, suc, ◌+◌, ◌-◌, min, Bool, List, ◌++◌, map, length, get_or, take, drop}
-use Rattle.format.specs.Tests.{pick}
-use Rattle.format.specs.Bits.{high}
-use Rattle.format.specs.Bodies.{Attribute}
-use Rattle.format.specs.Reasons.{Answer, refused}
 use Rattle.format.specs.Items.{coordinates}
-use Rattle.path_singles.specs.declared.tags.First.{First}
-use Rattle.path_singles.specs.Coordinates.{Singled, as_single, any_beyond, plain, is_path, earlier, behind_flag}
+use Rattle.path_singles.specs.Coordinates.{Singled, as_single, any_beyond}
 
 abbrev pub left : List ℕ → Bool → Singled
 left v b = record { shown = v; beyond = b }
@@ -29,22 +24,6 @@ first_of v k = min (suc k + suc (get_or v k 0)) (length v)
 abbrev pub behind_of : List ℕ → ℕ → ℕ
 behind_of v k = min (first_of v k + coordinates (verbs_of v k)) (length v)
 
--- the attribute a of the block attrs, of number i: its coordinates, if it is a path
-unfoldable pub row_of : List ℕ → List Attribute → Attribute → ℕ → List ℕ → Singled
-row_of b attrs a i v = pick (is_path a) (behind_flag (length (earlier high b attrs i)) v) (plain v)
-
--- the numbers v, of which those from index i up to j become s
-unfoldable pub between : List ℕ → ℕ → ℕ → Singled → Singled
-between v i j s = left (take i v ++ (s.shown ++ drop j v)) s.beyond
-
 -- the bytes of a body, which stand n from place p on
 abbrev pub body_at : List ℕ → ℕ → ℕ → List ℕ
 body_at f p n = take n (drop p f)
-
--- the first that was noted stays
-abbrev pub noted : First → Bool → ℕ → First
-noted a b place = pick a.beyond a (record { beyond = b; place = place })
-
--- and refuses the file, whatever the rest would answer
-abbrev pub carried : First → Answer → Answer
-carried a x = pick a.beyond (refused 29 a.place) x

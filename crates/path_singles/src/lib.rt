@@ -1,10 +1,9 @@
 // Path coordinates as the bits of singles, in place of their steps (C-23): among the values of a tag that is read.
 #![tactic(auto)]
 
-ghost use Rattle.std.specs.Prelude.{◌≡◌, suc, ◌+◌, ◌-◌, ◌≤◌, ◌<◌, ◌^◌, min, length, get_or, set, take, drop};
-ghost use Rattle.format.specs.Tests.{◌or◌};
+ghost use Rattle.std.specs.Prelude.{◌≡◌, suc, ◌+◌, ◌≤◌, ◌<◌, ◌^◌, min, map, length, get_or, drop};
 ghost use Rattle.format.specs.Items.{coordinates as coordinates_in};
-ghost use Rattle.path_singles.specs.Coordinates.{as_single, is_beyond, paths, frames, content, behind_flag};
+ghost use Rattle.path_singles.specs.Coordinates.{as_single, is_beyond, any_beyond, paths, frames, behind_flag};
 ghost use Rattle.path_singles.specs.Converting.{left, from as from_index, over, first_of, behind_of};
 
 pub mod blocks;
@@ -19,68 +18,51 @@ pub(crate) fn up_to(index: usize, count: u64, len: usize) -> usize
     ensures { result ≡ min (index + count) len }
 {
     let room = (len - index) as u64;
-    if count < room {
-        index + count as usize
-    } else {
-        len
-    }
+    index + count.min(room) as usize
 }
 
-// One of the two, or both.
-pub(crate) fn either(one: bool, other: bool) -> bool
-    ensures { result ≡ one or other }
+// A coordinate, its bits; one beyond the range of singles stays. Is it beyond?
+fn convert_step(step: &mut u64) -> bool
+    ensures { (step.new ≡ as_single step.old) × (result ≡ is_beyond step.old) }
 {
-    if one { true } else { other }
-}
-
-// The coordinate at an index, its bits; one beyond the range of singles stays. Is it beyond?
-fn convert_step(values: &mut [u64], at: usize) -> bool
-    requires { at < length values.old }
-    ensures { (values.new ≡ set values.old at (as_single (get_or values.old at 0))) × (result ≡ is_beyond (get_or values.old at 0)) }
-{
-    match singles::of_number(values[at]) {
+    match singles::of_number(*step) {
         Answer::Accepted(bits) => {
-            values[at] = bits;
+            *step = bits;
             false
         }
         Answer::Refused(_, _) => true,
     }
 }
 
-// The coordinates from an index up to another. Is one beyond?
-fn convert_steps(values: &mut [u64], start: usize, end: usize) -> bool
-    requires { (start ≤ end) × (end ≤ length values.old) }
-    ensures { left values.new result ≡ over values.old start end }
+// The coordinates of a path. Is one beyond?
+fn convert_steps(steps: &mut [u64]) -> bool
+    ensures { left steps.new result ≡ left (map as_single steps.old) (any_beyond steps.old) }
 {
     let mut beyond = false;
-    let mut i = start;
-    while i < end {
-        beyond = either(beyond, convert_step(values, i));
-        i += 1;
+    for step in steps.iter_mut() {
+        beyond |= convert_step(step);
     }
     beyond
 }
 
-// How many coordinates the verbs from an index up to another have.
-fn count_coordinates(values: &[u64], start: usize, end: usize) -> u64
-    requires { (start ≤ end) × (end ≤ length values.now) × (length values.now < 2 ^ 32) }
-    ensures { result ≡ coordinates_in (take (end - start) (drop start values.now)) }
+// How many coordinates verbs have.
+fn count_coordinates(verbs: &[u64]) -> u64
+    requires { length verbs.now < 2 ^ 32 }
+    ensures { result ≡ coordinates_in verbs.now }
 {
     let weights = table::fields::weights_of(Field::Verb);
     let mut count = 0;
-    let mut i = start;
-    while i < end {
-        count += table::fields::weight(&weights, values[i]) as u64;
-        i += 1;
+    for &verb in verbs {
+        count += table::fields::weight(&weights, verb) as u64;
     }
     count
 }
 
 // After a path: the index behind it, and whether one of its coordinates is beyond.
-#[derive(Clone, Copy)]
-pub struct Path {
-    pub behind: usize,
-    pub beyond: bool,
+#[derive(Clone, Copy, Debug, PartialEq, Eq)]
+struct Path {
+    behind: usize,
+    beyond: bool,
 }
 
 // The path at an index: verb count, verbs, width, coordinates.
@@ -92,10 +74,10 @@ fn convert_path(values: &mut [u64], at: usize) -> Path
     let len = values.len();
     let verbs = at + 1;
     let verb_end = up_to(verbs, values[at], len);
-    let count = count_coordinates(values, verbs, verb_end);
+    let count = count_coordinates(&values[verbs..verb_end]);
     let start = up_to(verb_end, 1, len);
     let behind = up_to(start, count, len);
-    let beyond = convert_steps(values, start, behind);
+    let beyond = convert_steps(&mut values[start..behind]);
     Path { behind, beyond }
 }
 
@@ -106,12 +88,13 @@ fn convert_paths(values: &mut [u64], at: usize, count: u64) -> bool
 {
     let mut beyond = false;
     let mut index = at;
-    let mut left = count;
-    while 0 < left && index < values.len() {
+    for _ in 0..count {
+        if values.len() <= index {
+            break;
+        }
         let path = convert_path(values, index);
-        beyond = either(beyond, path.beyond);
+        beyond |= path.beyond;
         index = path.behind;
-        left -= 1;
     }
     beyond
 }
@@ -133,20 +116,21 @@ fn convert_frames(values: &mut [u64], at: usize) -> bool
     convert_paths(values, first, count + 1)
 }
 
+// The number at an index, 0 past the end.
+fn number_at(values: &[u64], index: usize) -> u64
+    ensures { result ≡ get_or values.now index 0 }
+{
+    values.get(index).copied().unwrap_or(0)
+}
+
 // A path attribute, whose flag number stands at an index: no content, one path, or keyframes.
 pub(crate) fn convert_attribute(values: &mut [u64], at: usize) -> bool
     requires { length values.old < 2 ^ 32 }
     ensures { left values.new result ≡ behind_flag at values.old }
 {
-    if values.len() <= at {
-        return false;
+    match number_at(values, at) {
+        0 => false,
+        1 => convert_paths(values, at + 1, 1),
+        _ => convert_frames(values, at + 1),
     }
-    let flag = values[at];
-    if flag == 0 {
-        return false;
-    }
-    if flag == 1 {
-        return convert_paths(values, at + 1, 1);
-    }
-    convert_frames(values, at + 1)
 }

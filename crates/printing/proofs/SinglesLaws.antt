@@ -2,7 +2,7 @@
 use Prim.Native.Nat.{ℕ, ◌-◌, ◌≤◌, ◌<◌}
 use mathlib.Core.Bool.{Bool, true, false}
 use mathlib.Core.List.{List, [], ◌∷◌, ◌++◌, map}
-use mathlib.Core.Path.{◌≡◌, refl, ap, ap₂, sym, ◌∙◌}
+use mathlib.Core.Path.{◌≡◌, refl, ap, sym, ◌∙◌}
 use native.Mathlib.Omega.{arith}
 use lib.ListN.{length, take, drop}
 use lib.Dec.{leb}
@@ -15,6 +15,8 @@ use Rattle.format.proofs.PlainLaws.{Shown, shown_file}
 use Rattle.format.proofs.StartLaws.{good_start, whole_start}
 use Rattle.format.proofs.CallLaws.{filled}
 use Rattle.format.proofs.Absurd.{clash}
+use Rattle.reasons.specs.declared.Reason.{Reason}
+use Rattle.reasons.specs.Numbers.{number_of}
 use Rattle.answers.specs.Answers.{answer_of, leaves}
 use Rattle.answers.specs.declared.Answer as answers
 use Rattle.answers.specs.declared.Answer.TheVariants.{Accepted, Refused}
@@ -55,7 +57,7 @@ module _ (m P T : List ℕ) (same : length T ≡ length P) where
           rw (same, c) (ap (λ (w : List ℕ). T ++ w) ((filled m (gives P) p a).rest ∙ ap (λ (i : ℕ). drop i m) k))
 
 module _ (f m g : List ℕ) where
-  kept_file : {l : List ℕ} {r : answers.Answer} {e n : ℕ} → leaves l r ≡ into m (read_file 0 1023 f) → r ≡ Refused e n → l ≡ (into m (read_singles f)).lent
+  kept_file : {l : List ℕ} {r : answers.Answer} {e : Reason} {n : ℕ} → leaves l r ≡ into m (read_file 0 1023 f) → r ≡ Refused e n → l ≡ (into m (read_singles f)).lent
   unfolding read_file
   kept_file a d = let W : Walk = walk_file 0 1023 f in kept_too m (table f W) (table f (in_singles f W)) (table_long f W) W.ended a (ap answer_of d)
 
@@ -67,7 +69,7 @@ module _ (f m g : List ℕ) where
   by_tags s y b e = ap (λ (y : Answer). (into m (singles_by f y)).lent) (sym e ∙ ap (λ (x : Left). x.answer) b)
 
   -- `read` refuses
-  pub left_refused : {l : List ℕ} {r : answers.Answer} {e n : ℕ} → leaves l r ≡ into m (read_file 0 1023 f) → r ≡ Refused e n → l ≡ singles_left f m g
+  pub left_refused : {l : List ℕ} {r : answers.Answer} {e : Reason} {n : ℕ} → leaves l r ≡ into m (read_file 0 1023 f) → r ≡ Refused e n → l ≡ singles_left f m g
   left_refused {l} a d = go (into g (read_tags 0 1023 f)).answer
     where
       go : (y : Answer) → l ≡ (into m (singles_by f y)).lent
@@ -75,15 +77,14 @@ module _ (f m g : List ℕ) where
       go (refused e n) = ap (λ (x : Left). x.lent) a
 
   -- `tags` does: what `read` left stays
-  pub left_steps : {l h : List ℕ} {s : answers.Answer} {e n : ℕ} → l ≡ (into m (read_file 0 1023 f)).lent → leaves h s ≡ into g (read_tags 0 1023 f) → s ≡ Refused e n → l ≡ singles_left f m g
-  left_steps {s = s} {e} {n} a b d = a ∙ by_tags s (refused e n) b (ap answer_of d)
+  pub left_steps : {l h : List ℕ} {s : answers.Answer} {e : Reason} {n : ℕ} → l ≡ (into m (read_file 0 1023 f)).lent → leaves h s ≡ into g (read_tags 0 1023 f) → s ≡ Refused e n → l ≡ singles_left f m g
+  left_steps {s = s} {e} {n} a b d = a ∙ by_tags s (refused (number_of e) n) b (ap answer_of d)
 
   -- none does: the part that was lent on, x, is the table with singles then
   pub left_singles : {l h x u : List ℕ} {r s : answers.Answer} {k j : ℕ} → leaves l r ≡ into m (read_file 0 1023 f) → r ≡ Accepted k → leaves h s ≡ into g (read_tags 0 1023 f) → s ≡ Accepted j
-      → x ≡ table f (in_singles f (walk_file 0 1023 f)) → u ≡ x ++ drop (k - 0) (drop 0 l) → u ≡ singles_left f m g
+      → x ≡ table f (in_singles f (walk_file 0 1023 f)) → u ≡ x ++ drop k l → u ≡ singles_left f m g
   left_singles {l} {s = s} {k} {j} a c b d e p =
-      let n : k - 0 ≡ k = omega arith in
-      p ∙ ap₂ (λ (w : List ℕ) (i : ℕ). w ++ drop i l) e n ∙ laid_file a c ∙ by_tags s (accepted j) b (ap answer_of d)
+      p ∙ ap (λ (w : List ℕ). w ++ drop k l) e ∙ laid_file a c ∙ by_tags s (accepted j) b (ap answer_of d)
 
 -- ---- the tags with singles: opaque ones are as they were, and the tag table is the same
 shown_singles : (f : List ℕ) (ts : List Tag) → Shown f ts → Shown f (map (with_singles f) ts)

@@ -1,112 +1,87 @@
 // What the programs share: reading a whole input, and printing a file's listing or refusal. What is printed is made by proved functions.
 #![tactic(auto)]
 
-ghost use Rattle.std.specs.Prelude.{◌≡◌, ◌≤◌, length};
+ghost use Rattle.std.specs.Prelude.{◌≡◌, ◌≤◌, length, IfOk};
 ghost use Rattle.format.specs.TableOfNumbers.{table as table_of};
 ghost use Rattle.format.specs.Reasons.{walk_file, read_file, read_tags, into};
 ghost use Rattle.path_singles.specs.Tables.{in_singles, TablesOf};
-ghost use Rattle.printing.specs.Input.{Within};
 ghost use Rattle.printing.specs.Singles.{singles_left};
 
 use answers::Answer;
-use listing::Cursor;
+use listing::{Cursor, Tables};
+use reasons::Reason;
 use std::io;
 use std::io::{ErrorKind, Read};
 
 // The programs are high first.
 const HIGH_FIRST: u32 = 0;
 
-// What was read: so many bytes up to the end of the input or of the room for it; or a read failed.
-#[derive(Drop)]
-pub enum Input {
-    Bytes(usize),
-    Failed(io::Error),
-}
-
-// One read, behind the first `count` bytes: how many bytes there are then.
-fn read_more(source: &mut impl Read, file: &mut [u8], count: usize) -> Input
-    requires { count ≤ length file.old }
-    ensures { Within result (length file.old) }
-{
-    match source.read(&mut file[count..]) {
-        Ok(got) => Input::Bytes(count + got),
-        Err(error) => Input::Failed(error),
-    }
-}
-
-// Reads to the end of the input, which may arrive in pieces, or until the room is full.
-pub fn read_input(source: &mut impl Read, file: &mut [u8]) -> Input
-    ensures { Within result (length file.old) }
+// Reads to the end of the input, which may arrive in pieces, or until the room is full; answers how many bytes there are.
+pub fn read_input(source: &mut impl Read, file: &mut [u8]) -> io::Result<usize>
+    ensures { IfOk result (λ count. count ≤ length file.old) }
 {
     let mut count = 0;
     while count < file.len() {
-        let input = read_more(source, file, count);
-        let Input::Bytes(total) = input else {
-            return input;
-        };
-        if total <= count {
-            return input;
+        let got = source.read(&mut file[count..])?;
+        if got == 0 {
+            break;
         }
-        count = total;
+        count += got;
     }
-    Input::Bytes(count)
+    Ok(count)
 }
 
-// Writes all of a text; if that fails it says so, and answers false. Nothing is said if nobody reads the output any more.
-pub fn write(rt: &(impl Print + Eprint), text: &[u8]) -> bool {
+// Writes all of a text; if that fails it says so. Nothing is said if nobody reads the output any more.
+pub fn write(rt: &(impl Print + Eprint), text: &[u8]) -> io::Result<()> {
     let Err(error) = rt.write_all(text) else {
-        return true;
+        return Ok(());
     };
     if error.kind() != ErrorKind::BrokenPipe {
         let _ = eprintln!(rt; "standard output cannot be written");
     }
-    false
+    Err(error)
 }
 
-// Writes the first `count` bytes of a line.
-fn write_line(rt: &(impl Print + Eprint), line: &[u8; 64], count: usize)
-    requires { count ≤ 64 }
-{
-    let text = &line[..];
-    write(rt, &text[0..count]);
-}
-
-pub fn print_refusal(rt: &(impl Print + Eprint), reason: u32, number: u64) {
+// The line of a refusal. What cannot be written was said, and nothing follows.
+pub fn print_refusal(rt: &(impl Print + Eprint), reason: Reason, number: u64) {
     let mut line = [0u8; 64];
     let count = listing::put_refusal(reason, number, &mut line);
-    write_line(rt, &line, count);
+    let _ = write(rt, &line[..count]);
 }
 
 pub fn print_too_long(rt: &(impl Print + Eprint)) {
     let mut line = [0u8; 64];
     let count = listing::put_too_long(&mut line);
-    write_line(rt, &line, count);
+    let _ = write(rt, &line[..count]);
 }
 
-// The listing of a file of `len` bytes with these two tables, in parts through the lent buffer: a write for each.
-fn print_parts(rt: &(impl Print + Eprint), len: u64, table: &[u64], rows: &[u32], out: &mut [u8]) {
+// The listing of a file with these two tables, in parts through the lent buffer: a write for each.
+fn print_parts(rt: &(impl Print + Eprint), tables: &Tables<'_>, out: &mut [u8]) -> io::Result<()> {
     let mut cursor = Cursor {
         number: 0,
         row: 0,
         left: 0,
         packed: false,
     };
-    while cursor.number < table.len() {
-        let part = listing::put_part(len, table, rows, cursor, out);
-        let used = part.used;
-        if used == 0 {
-            return;
+    while cursor.number < tables.table.len() {
+        let part = tables.put_part(cursor, out);
+        if part.used == 0 {
+            break;
         }
-        if !write(rt, &out[0..used]) {
-            return;
-        }
+        write(rt, &out[..part.used])?;
         cursor = part.to;
     }
+    Ok(())
 }
 
-fn print_listing(rt: &(impl Print + Eprint), len: u64, table: &[u64], rows: &[u32]) {
+fn print_listing(rt: &(impl Print + Eprint), file: &[u8], table: &[u64], rows: &[u32]) {
     let mut out = [0u8; 65536];
-    print_parts(rt, len, table, rows, &mut out);
+    let tables = Tables {
+        len: file.len() as u64,
+        table,
+        rows,
+    };
+    let _ = print_parts(rt, &tables, &mut out);
 }
 
 // A file: its listing at a level, or the reason why it is refused. `tags` does not refuse what `read` accepts, if it is lent five numbers for
@@ -122,19 +97,15 @@ pub fn print_tables(
     ensures rows_after { rows.new ≡ (into rows.old (read_tags 0 level file.now)).lent }
 {
     let tagged = reader::tags(level, HIGH_FIRST, file, rows);
-    match reader::read(level, HIGH_FIRST, file, table) {
-        Answer::Refused(reason, number) => print_refusal(rt, reason, number),
-        Answer::Accepted(count) => match tagged {
-            Answer::Refused(reason, number) => print_refusal(rt, reason, number),
-            Answer::Accepted(row_count) => {
-                print_listing(
-                    rt,
-                    file.len() as u64,
-                    &table[0..count as usize],
-                    &rows[0..row_count as usize],
-                );
-            }
-        },
+    let read = reader::read(level, HIGH_FIRST, file, table);
+    match (read, tagged) {
+        (Answer::Accepted(count), Answer::Accepted(row_count)) => {
+            let table = &table[..count as usize];
+            print_listing(rt, file, table, &rows[..row_count as usize]);
+        }
+        (Answer::Refused(reason, number), _) | (_, Answer::Refused(reason, number)) => {
+            print_refusal(rt, reason, number);
+        }
     }
 }
 
@@ -145,28 +116,25 @@ fn print_converted(rt: &(impl Print + Eprint), file: &[u8], table: &mut [u64], r
 {
     match path_singles::tags::convert(file, rows, table) {
         Answer::Refused(reason, number) => print_refusal(rt, reason, number),
-        Answer::Accepted(_) => print_listing(rt, file.len() as u64, table, rows),
+        Answer::Accepted(_) => print_listing(rt, file, table, rows),
     }
 }
 
+// Stays: beside `print_tables`, since each promises what it leaves in the table, and one of both would promise less of either.
 // A file with singles for path coordinates (C-23), at level 1023: its listing, or the reason why it is refused. The table lent holds the bits then.
 pub fn print_singles(rt: &(impl Print + Eprint), file: &[u8], table: &mut [u64], rows: &mut [u32])
     ensures table_after { table.new ≡ singles_left file.now table.old rows.old }
     ensures rows_after { rows.new ≡ (into rows.old (read_tags 0 1023 file.now)).lent }
 {
     let tagged = reader::tags(1023, HIGH_FIRST, file, rows);
-    match reader::read(1023, HIGH_FIRST, file, table) {
-        Answer::Refused(reason, number) => print_refusal(rt, reason, number),
-        Answer::Accepted(count) => match tagged {
-            Answer::Refused(reason, number) => print_refusal(rt, reason, number),
-            Answer::Accepted(row_count) => {
-                print_converted(
-                    rt,
-                    file,
-                    &mut table[0..count as usize],
-                    &rows[0..row_count as usize],
-                );
-            }
-        },
+    let read = reader::read(1023, HIGH_FIRST, file, table);
+    match (read, tagged) {
+        (Answer::Accepted(count), Answer::Accepted(row_count)) => {
+            let table = &mut table[..count as usize];
+            print_converted(rt, file, table, &rows[..row_count as usize]);
+        }
+        (Answer::Refused(reason, number), _) | (_, Answer::Refused(reason, number)) => {
+            print_refusal(rt, reason, number);
+        }
     }
 }

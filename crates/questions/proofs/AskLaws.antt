@@ -6,10 +6,8 @@ use mathlib.Core.Bool.{Bool, true, false}
 use native.Mathlib.Omega.{arith}
 use lib.ListN.{length, get_or}
 use lib.Dec.{ltb}
-use borrow.Author.Tests.{lt-ltb, le-ltb, ltb-true, ltb-false, eqb-true}
-use Rattle.answers.specs.Answers.{answer_of}
-use Rattle.answers.specs.declared.Answer.TheVariants.{Accepted, Refused}
-use Rattle.tag_index.specs.Index.{tag_count, code_of, place_of, with_code, how_many, where_is, is_index, count_answer, place_answer}
+use borrow.Author.Tests.{ltb-true, ltb-false, eqb-true}
+use Rattle.tag_index.specs.Index.{tag_count, code_of, place_of, with_code, how_many, where_is, is_index}
 use Rattle.tag_index.specs.Steps.{lower, slot}
 use Rattle.tag_index.proofs.WalkLaws.{just, chosen_at, chosen_found, Found, lower_more, lower_mono, lower_le}
 use Rattle.tag_index.proofs.SlotLaws.{slot_is, slot_lt}
@@ -50,19 +48,9 @@ module _ (g x : List ℕ) (h : is_index g x ≡ true) where
           go true e = absurd (omega (arith, count_none c (ltb-true 1023 c e)))
           go false e = omega (arith, ltb-false 1023 c e)
 
--- ---- the answers
-module _ (g x : List ℕ) where
-  pub not_index : false ≡ is_index g x → (c : ℕ) → answer_of (Refused 30 0) ≡ count_answer g x c
-  not_index h c = rw (sym h)
+-- so the k-th place of the code is inside, and is that of the k-th tag
+pub pair_inside : (g x : List ℕ) (c k s : ℕ) → s ≡ start_of g x c → is_index g x ≡ true → k < how_many g c → 1025 + 2 * (s + k) < length x
+pair_inside g x c k s e h l = (place_is g x h c k (1025 + 2 * (s + k)) l (ap (λ (i : ℕ). 1025 + 2 * (i + k)) e)).0
 
-  pub counted : is_index g x ≡ true → (c n : ℕ) → n ≡ how_many g c → answer_of (Accepted n) ≡ count_answer g x c
-  counted h c n e = rw (h, e)
-
-  pub not_index_place : false ≡ is_index g x → (c k : ℕ) → answer_of (Refused 30 0) ≡ place_answer g x c k
-  not_index_place h c k = rw (sym h)
-
-  pub none_there : is_index g x ≡ true → (c k : ℕ) → how_many g c ≤ k → answer_of (Refused 22 0) ≡ place_answer g x c k
-  none_there h c k l = rw (h, le-ltb k (how_many g c) l)
-
-  pub placed : is_index g x ≡ true → (c k n : ℕ) → k < how_many g c → n ≡ where_is g c k → answer_of (Accepted n) ≡ place_answer g x c k
-  placed h c k n l e = rw (h, lt-ltb k (how_many g c) l, e)
+pub pair_place : (g x : List ℕ) (c k s : ℕ) → s ≡ start_of g x c → is_index g x ≡ true → k < how_many g c → get_or x (1025 + 2 * (s + k)) 0 ≡ where_is g c k
+pair_place g x c k s e h l = (place_is g x h c k (1025 + 2 * (s + k)) l (ap (λ (i : ℕ). 1025 + 2 * (i + k)) e)).1

@@ -53,10 +53,10 @@ unfolding is_index
 true_is g x u = rw (eq-eqb (length g) (5 * tag_count g) u.fives, eq-eqb (lower g 1024 (tag_count g)) (tag_count g) u.all, u.index_is) (same_self (index g))
 
 -- where something that each index has is not there, it is none
-is_false : (g x : List ℕ) → (Is g x → ⊥) → false ≡ is_index g x
+is_false : (g x : List ℕ) → (Is g x → ⊥) → is_index g x ≡ false
 is_false g x n = go (is_index g x) refl
   where
-    go : (b : Bool) → is_index g x ≡ b → false ≡ b
+    go : (b : Bool) → is_index g x ≡ b → b ≡ false
     go true e = absurd (n (is_true g x e))
     go false e = refl
 
@@ -153,24 +153,24 @@ module _ (g x : List ℕ) (fives : length g ≡ 5 * tag_count g) (size : length 
       tag : (t : ℕ) → t < m → tag_at x (slot g t) ≡ t
       tag t h = let l : slot g t < m = slot_lt g t h in slot_one g (tag_at x (slot g t)) t (rising.pairs (slot g t) l).known h (slots (slot g t) l)
 
-  passes : true ≡ is_index g x
-  passes = sym (true_is g x (record { fives = fives; all = all_coded; index_is = laid_index g all_coded x size numbers }))
+  pub passes : is_index g x ≡ true
+  passes = true_is g x (record { fives = fives; all = all_coded; index_is = laid_index g all_coded x size numbers })
+
+-- ---- a test that answers false says so
+pub no : {A : Type 0} (r : Bool) → r ≡ false → Says r A → A → ⊥
+no true e h = clash cc
+no false e h = h
 
 -- ---- what does not pass is none
 module _ (g x : List ℕ) where
-  pub no_fives : (length g ≡ 5 * tag_count g → ⊥) → false ≡ is_index g x
+  pub no_fives : (length g ≡ 5 * tag_count g → ⊥) → is_index g x ≡ false
   no_fives h = is_false g x (λ u. h u.fives)
 
-  pub no_length : (length x ≡ 1024 + 2 * tag_count g → ⊥) → false ≡ is_index g x
+  pub no_length : (length x ≡ 1024 + 2 * tag_count g → ⊥) → is_index g x ≡ false
   no_length h = is_false g x (λ u. h (its_length g x u))
 
-  pub no_rising : (Rising g x (tag_count g) → ⊥) → false ≡ is_index g x
+  pub no_rising : (Rising g x (tag_count g) → ⊥) → is_index g x ≡ false
   no_rising h = is_false g x (λ u. h (its_rising g x u))
 
-  no_starts : (Started g x 1025 → ⊥) → false ≡ is_index g x
+  pub no_starts : (Started g x 1025 → ⊥) → is_index g x ≡ false
   no_starts h = is_false g x (λ u. h (its_starts g x u))
-
-  -- the last test decides
-  pub judged_by_lem : length g ≡ 5 * tag_count g → length x ≡ 1024 + 2 * tag_count g → Rising g x (tag_count g) → (r : Bool) → Says r (Started g x 1025) → r ≡ is_index g x
-  judged_by_lem a b d true u = passes g x a b d u
-  judged_by_lem a b d false u = no_starts u

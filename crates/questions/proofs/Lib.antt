@@ -1,5 +1,4 @@
 -- What the proofs of this crate, and of those above it, cite.
 pub mod JudgeLaws
 pub mod AskLaws
-pub mod TestLaws
 pub mod Demands

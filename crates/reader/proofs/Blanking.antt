@@ -8,6 +8,7 @@ use Rattle.format.specs.Reasons.{walk_file, Result, read_file, Left, into}
 use Rattle.format.specs.Blanking.{Blanked, SameBut, SameResult}
 use Rattle.format.proofs.BlankLaws.{same_tags, same_read, same_answer, same_given}
 use Rattle.format.proofs.CallLaws.{filled, kept}
+use Rattle.reasons.specs.declared.Reason.{Reason}
 use Rattle.answers.specs.Answers.{answer_of}
 use Rattle.answers.specs.declared.Answer.{Answer}
 use Rattle.answers.specs.declared.Answer.TheVariants.{Accepted, Refused}
@@ -22,7 +23,7 @@ pub record SameCall (ts : List Tag) (left left' : List ℕ) (r r' : Answer) : Ty
   pub tables : {n : ℕ} → r ≡ Accepted n → SameBut ts (take n left) (take n left')
   -- the memory past them does not differ, and none of it after a refusal
   pub past : {n : ℕ} → r ≡ Accepted n → drop n left' ≡ drop n left
-  pub refused : {e n : ℕ} → r ≡ Refused e n → left' ≡ left
+  pub refused : {e : Reason} {n : ℕ} → r ≡ Refused e n → left' ≡ left
 
 -- ---- Take a file, a level and a room, and change bytes only inside the bodies of opaque tags that the reading passed before it ended: f is the file, g
 -- the changed one, m the room.

@@ -5,12 +5,14 @@ use mathlib.Core.Path.{◌≡◌, refl, ap, sym, ◌∙◌}
 use lib.ListN.{take}
 use Rattle.format.specs.FileAndTags.{compression, Tag, Outcome, whole, fault, Walk}
 use Rattle.format.specs.TableOfNumbers.{numbers, tag_table}
-use Rattle.format.specs.Reasons.{walk_file, Result, gives, refuses, result, read_file, read_tags, into}
+use Rattle.format.specs.Reasons.{walk_file, refused, Left, Result, gives, refuses, result, read_file, read_tags, into}
 use Rattle.format.specs.Levels.{Levels, Refuses, InHidden, alike, apart, hide}
 use Rattle.format.proofs.LevelLaws.{levels}
 use Rattle.format.proofs.ReasonLaws.{IsReason, read_reason, tags_reason, not_19}
 use Rattle.format.proofs.CallLaws.{Filled, filled, Why, faulty, full, kept}
 use Rattle.format.proofs.Absurd.{clash}
+use Rattle.reasons.specs.declared.Reason.{Reason}
+use Rattle.reasons.specs.Numbers.{number_of}
 use Rattle.answers.specs.Answers.{answer_of, leaves}
 use Rattle.answers.specs.declared.Answer.{Answer}
 use Rattle.answers.specs.declared.Answer.TheVariants.{Accepted, Refused}
@@ -34,8 +36,8 @@ module _ (x : Call) (order level : ℕ) (f m m' : List ℕ) where
   call_one m'' r s p q = leaves_one m' m'' r s (p ∙ sym q)
 
   -- ---- demand 1: a refusal writes nothing
-  pub refusal_keeps : {e n : ℕ} → Promise x order level f m m' (Refused e n) → m' ≡ m
-  refusal_keeps p = (kept m (reading x order level f) p refl).keeps
+  pub refusal_keeps : (e : Reason) {n : ℕ} → Promise x order level f m m' (Refused e n) → m' ≡ m
+  refusal_keeps e p = (kept m (reading x order level f) p refl).keeps
 
   -- ---- demand 2: an acceptance gives exactly the numbers that are defined, and the memory past them stays
   pub acceptance_fills : {n : ℕ} → Promise x order level f m m' (Accepted n) → Filled m m' (reading x order level f) n
@@ -55,11 +57,11 @@ pub record Called (order level : ℕ) (f : List ℕ) : Type 0 where
 -- it read the file: it accepted, or had no room
 abbrev pub WasRead : Answer → Type 0
 WasRead (Accepted n) = Unit {0}
-WasRead (Refused e n) = e ≡ 19
+WasRead (Refused e n) = number_of e ≡ 19
 
 -- it refused the file, with this reason and number
 pub record WasRefused (e n : ℕ) (r : Answer) : Type 0 where
-  pub refused : r ≡ Refused e n
+  pub refused : answer_of r ≡ refused e n
   pub not_room : e ≡ 19 → ⊥
 
 -- what it shows of tags: `read` the table of numbers, `tags` the tag table
@@ -114,7 +116,7 @@ module _ {order level : ℕ} {f : List ℕ} (C : Called order level f) where
       go (Refused e n) h p = why h R refl (kept C.before R p refl).why
 
   pub was_refused : {e n : ℕ} → WasRefused e n C.answer → w.ended ≡ fault e n
-  was_refused {e} {n} h = why R refl (kept C.before R C.promise (ap answer_of h.refused)).why
+  was_refused {e} {n} h = why R refl (kept C.before R C.promise h.refused).why
     where
       out : (z : Outcome) → result (shown C.call f w.tags) z ≡ refuses e n → z ≡ fault e n
       out whole q = clash cc
@@ -127,7 +129,7 @@ module _ {order level : ℕ} {f : List ℕ} (C : Called order level f) where
   refuses_so : {e n : ℕ} → w.ended ≡ fault e n → WasRefused e n C.answer
   refuses_so {e} {n} q =
       let d : R ≡ refuses e n = reading_is ∙ ap (result (shown C.call f w.tags)) q in
-      record { refused = (leaves_one C.after C.before C.answer (Refused e n) (C.promise ∙ ap (into C.before) d)).1; not_room = not_19 (reason_is d) }
+      record { refused = ap (λ (l : Left). l.answer) (C.promise ∙ ap (into C.before) d); not_room = not_19 (reason_is d) }
 
   tags_of : TagsOf C w.tags
   tags_of = record { walked = refl; in_front = λ n e. (gives_whole (filled C.before R C.promise (ap answer_of e)).shows).1 }

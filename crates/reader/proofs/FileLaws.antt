@@ -1,17 +1,19 @@
 -- Whole files: the reasons 1 to 5 and 24, the run that counts, and what the two public calls leave.
 use Prim.Native.Nat.{ℕ, ◌+◌, ◌≤◌, ◌<◌}
-use mathlib.Core.List.{List, ◌++◌}
+use mathlib.Core.List.{List, [], ◌∷◌, ◌++◌}
+use mathlib.Core.Bool.{Bool, true, false, ◌&&◌}
 use mathlib.Core.Path.{◌≡◌, refl, ap, sym, ◌∙◌}
 use native.Mathlib.Nat.{zero-add}
 use native.Mathlib.Omega.{arith}
-use lib.ListN.{length, get_or, drop, set, length-set}
-use lib.Seq.{sets, sets-eq, length-sets}
+use lib.ListN.{length, get_or, drop, set}
+use lib.Seq.{sets, sets-eq}
 use lib.Dec.{leb, eqb}
-use borrow.Author.Tests.{lt-ltb, le-ltb, lt-leb, le-leb, eq-eqb, ne_eqb}
+use borrow.Author.Tests.{lt-ltb, le-ltb, lt-leb, le-leb, eq-eqb, ne_eqb, eqb-true, eqb-false}
+use Rattle.std.specs.List.{starts_with}
 use Rattle.format.specs.Tests.{pick, ◌and◌}
 use Rattle.format.specs.Bits.{Order, order_named}
 use Rattle.format.specs.FileAndTags as paper
-use Rattle.format.specs.FileAndTags.{le32, version_right, length_right, class_of, Outcome, whole, fault, Walk, file, walk_list}
+use Rattle.format.specs.FileAndTags.{le32, signature_right, version_right, length_right, class_of, Outcome, whole, fault, Walk, file, walk_list}
 use Rattle.format.specs.TableOfNumbers.{numbers, table, tag_table}
 use Rattle.format.specs.Reasons.{start_fault, walk_file, gives, refuses, result, read_file, read_tags, into}
 use Rattle.format.proofs.StartLaws.{good_start, whole_start}
@@ -24,12 +26,35 @@ use Rattle.classes.specs.declared.Scope.TheVariants.{Lists}
 use Rattle.bits.specs.declared.BytePlace.{BytePlace}
 use Rattle.lists.specs.Lists.{byte_at, Listed, listed, walked_of, walk_over, Bounds}
 use Rattle.tags.specs.Lent.{classes_in}
-use Rattle.lists.specs.declared.Walked.{Walked}
-use Rattle.lists.specs.declared.Walked.TheVariants.{Next, Fault}
+use Rattle.reasons.specs.declared.Reason.{Reason}
+use Rattle.reasons.specs.declared.Reason.TheVariants.{TableTooShort}
+use Rattle.reasons.specs.Numbers.{number_of}
+use Rattle.classes.specs.declared.Class.{Class}
+use Rattle.lists.specs.Walks.{Walked, Next, Fault}
 use Rattle.lists.proofs.ListLaws.{piece, piece_rest, length_piece}
 use Rattle.tags.proofs.LentLaws.{class_level}
 use Rattle.reader.specs.Survey.{surveyed}
 use Rattle.reader.proofs.SkimLaws.{skim_rows}
+
+-- the signature, as the code asks for it
+turned : (a b : ℕ) → eqb a b ≡ eqb b a
+turned a b = go (eqb b a) refl
+  where
+    go : (c : Bool) → eqb b a ≡ c → eqb a b ≡ c
+    go true e = eq-eqb a b (sym (eqb-true b a e))
+    go false e = ne_eqb a b (λ z. eqb-false b a e (sym z))
+
+pub signature_is : (f : List ℕ) → 9 ≤ length f → starts_with eqb f (0x50 ∷ 0x41 ∷ 0x47 ∷ []) ≡ signature_right f
+signature_is [] h = absurd (omega arith)
+signature_is (a ∷ []) h = absurd (omega arith)
+signature_is (a ∷ b ∷ []) h = absurd (omega arith)
+signature_is (a ∷ b ∷ c ∷ f) h = rw (turned 0x50 a, turned 0x41 b, turned 0x47 c) (go (eqb a 0x50) (eqb b 0x41) (eqb c 0x47))
+  where
+    go : (x y z : Bool) → x && (y && (z && true)) ≡ x and y and z
+    go true true true = refl
+    go true true false = refl
+    go true false z = refl
+    go false y z = refl
 
 -- ---- 1 to 5, in this order, and 24 after 1
 module _ (order level : ℕ) (f : List ℕ) where
@@ -46,42 +71,34 @@ module _ (order level : ℕ) (f : List ℕ) where
     unfolding start_fault
     start_2 h = rw (le-ltb 1023 level known, le-ltb 1 order ordered, lt-ltb (length f) 9 h)
 
-    -- the numbers that the code looks at, one after the other
-    module _ (long : 9 ≤ length f) {a : ℕ} (a-is : a ≡ get_or f 0 0) where
-      pub start_3_first : (a ≡ 0x50 → ⊥) → 3 ≡ start_fault order level f
+    module _ (long : 9 ≤ length f) where
+      pub start_3 : signature_right f ≡ false → 3 ≡ start_fault order level f
       unfolding start_fault
-      start_3_first h = rw (le-ltb 1023 level known, le-ltb 1 order ordered, le-ltb (length f) 9 long, ← a-is, ne_eqb a 0x50 h)
+      start_3 h = rw (le-ltb 1023 level known, le-ltb 1 order ordered, le-ltb (length f) 9 long, h)
 
-      module _ (p-is : a ≡ 0x50) {b : ℕ} (b-is : b ≡ get_or f 1 0) where
-        pub start_3_second : (b ≡ 0x41 → ⊥) → 3 ≡ start_fault order level f
+      module _ (named : signature_right f ≡ true) where
+        -- the signature is judged
+        signed : pick (version_right f) (pick (length_right f) 0 5) 4 ≡ start_fault order level f
         unfolding start_fault
-        start_3_second h = rw (le-ltb 1023 level known, le-ltb 1 order ordered, le-ltb (length f) 9 long, ← a-is, eq-eqb a 0x50 p-is, ← b-is, ne_eqb b 0x41 h)
+        signed = rw (le-ltb 1023 level known, le-ltb 1 order ordered, le-ltb (length f) 9 long, named)
 
-        module _ (q-is : b ≡ 0x41) {c : ℕ} (c_is : c ≡ get_or f 2 0) where
-          -- the signature is judged
-          signed : pick (eqb c 0x47) (pick (version_right f) (pick (length_right f) 0 5) 4) 3 ≡ start_fault order level f
-          unfolding start_fault
-          signed = rw (le-ltb 1023 level known, le-ltb 1 order ordered, le-ltb (length f) 9 long, ← a-is, eq-eqb a 0x50 p-is, ← b-is, eq-eqb b 0x41 q-is, ← c_is)
+        -- the numbers that the code looks at, one after the other
+        module _ {v : ℕ} (v_is : v ≡ get_or f 3 0) where
+          pub start_4 : (v ≡ 1 → ⊥) → 4 ≡ start_fault order level f
+          start_4 h = rw (← v_is, ne_eqb v 1 h) at signed
 
-          pub start_3 : (c ≡ 0x47 → ⊥) → 3 ≡ start_fault order level f
-          start_3 h = rw (ne_eqb c 0x47 h) at signed
+          module _ (first : v ≡ 1) {n : ℕ} (n_is : n ≡ le32 (drop 4 f)) where
+            start_5_or_0 : pick (eqb n (length f) and leb (length f) 16777216) 0 5 ≡ start_fault order level f
+            start_5_or_0 = rw (← v_is, eq-eqb v 1 first, ← n_is) at signed
 
-          module _ (g-is : c ≡ 0x47) {v : ℕ} (v_is : v ≡ get_or f 3 0) where
-            pub start_4 : (v ≡ 1 → ⊥) → 4 ≡ start_fault order level f
-            start_4 h = rw (eq-eqb c 0x47 g-is, ← v_is, ne_eqb v 1 h) at signed
+            pub start_5 : (n ≡ length f → ⊥) → 5 ≡ start_fault order level f
+            start_5 h = rw (ne_eqb n (length f) h) at start_5_or_0
 
-            module _ (first : v ≡ 1) {n : ℕ} (n_is : n ≡ le32 (drop 4 f)) where
-              start_5_or_0 : pick (eqb n (length f) and leb (length f) 16777216) 0 5 ≡ start_fault order level f
-              start_5_or_0 = rw (eq-eqb c 0x47 g-is, ← v_is, eq-eqb v 1 first, ← n_is) at signed
+            pub start_5_long : n ≡ length f → 16777216 < length f → 5 ≡ start_fault order level f
+            start_5_long e h = rw (eq-eqb n (length f) e, lt-leb (length f) 16777216 h) at start_5_or_0
 
-              pub start_5 : (n ≡ length f → ⊥) → 5 ≡ start_fault order level f
-              start_5 h = rw (ne_eqb n (length f) h) at start_5_or_0
-
-              pub start_5_long : n ≡ length f → 16777216 < length f → 5 ≡ start_fault order level f
-              start_5_long e h = rw (eq-eqb n (length f) e, lt-leb (length f) 16777216 h) at start_5_or_0
-
-              pub start_0 : n ≡ length f → length f ≤ 16777216 → 0 ≡ start_fault order level f
-              start_0 e h = rw (eq-eqb n (length f) e, le-leb (length f) 16777216 h) at start_5_or_0
+            pub start_0 : n ≡ length f → length f ≤ 16777216 → 0 ≡ start_fault order level f
+            start_0 e h = rw (eq-eqb n (length f) e, le-leb (length f) 16777216 h) at start_5_or_0
 
   -- a file that passes them: what `read_tags` requires of it
   pub fair_file : start_fault order level f ≡ 0 → (9 ≤ length f) × (length f ≤ 16777216)
@@ -99,9 +116,13 @@ module _ (order level : ℕ) (f : List ℕ) where
   pub tags_bounds : 9 ≤ length f → length f ≤ 16777216 → Bounds 8 9 (length (piece 9 (length f) f)) 1 0
   tags_bounds l h = record { depth = omega arith; place = omega (arith, length_piece 9 (length f) f (omega arith)); index = omega arith; row = omega arith }
 
+  -- what was left, field by field
+  pub left_is : {t t' g g' : List ℕ} {x x' : Walked} {l : Listed} → t ≡ t' → g ≡ g' → x ≡ x' → listed t' g' x' ≡ l → listed t g x ≡ l
+  left_is p q r h = (λ i. record { table = p i; rows = q i; answer = r i }) ∙ h
+
   -- by the classes that were lent
-  pub tags_read : (o : Order) (scope : Scope) (t g : List ℕ) (ns : List ℕ) → Classed scope level ns → {x : Listed} → x ≡ walk_over t 1 g 0 (walk_list o (classes_in ns) 8 file 9 (piece 9 (length f) f)) → x ≡ walk_over t 1 g 0 (walk_list o (class_by scope level) 8 file 9 (drop 9 f))
-  tags_read o scope t g ns k e = e ∙ ap (λ (class : ℕ → paper.Class). walk_over t 1 g 0 (walk_list o class 8 file 9 (piece 9 (length f) f))) (λ i. λ code. class_level ns scope level k code i) ∙ ap (λ (r : List ℕ). walk_over t 1 g 0 (walk_list o (class_by scope level) 8 file 9 r)) (piece_rest 9 f)
+  pub tags_read : (o : Order) (scope : Scope) (t g : List ℕ) (cs : List Class) → Classed scope level cs → {x : Listed} → x ≡ walk_over t 1 g 0 (walk_list o (classes_in cs) 8 file 9 (piece 9 (length f) f)) → x ≡ walk_over t 1 g 0 (walk_list o (class_by scope level) 8 file 9 (drop 9 f))
+  tags_read o scope t g cs k e = e ∙ ap (λ (class : ℕ → paper.Class). walk_over t 1 g 0 (walk_list o class 8 file 9 (piece 9 (length f) f))) (λ i. λ code. class_level cs scope level k code i) ∙ ap (λ (r : List ℕ). walk_over t 1 g 0 (walk_list o (class_by scope level) 8 file 9 r)) (piece_rest 9 f)
 
   pub survey_walk : (o : Order) (t g : List ℕ) {t' g' : List ℕ} {x : Walked} → o ≡ order_named order → start_fault order level f ≡ 0 → listed t' g' x ≡ walk_over t 1 g 0 (walk_list o (class_of level) 8 file 9 (drop 9 f)) → x ≡ surveyed (walk_file order level f)
   survey_walk o t g q z e = ap (λ (l : Listed). l.answer) e ∙ rw (zero-add, q, walk_is z)
@@ -137,7 +158,7 @@ module _ (order level : ℕ) (f : List ℕ) where
 -- ---- what a call leaves: the lent memory m, and the numbers ns for it
 module _ (m ns : List ℕ) where
   -- it has no room for them
-  short_of : {k : ℕ} → k ≡ length ns → length m < k → leaves m (Refused 19 k) ≡ into m (gives ns)
+  short_of : {k : ℕ} → k ≡ length ns → length m < k → leaves m (Refused TableTooShort k) ≡ into m (gives ns)
   short_of {k} e h = rw (e, lt-leb (length ns) (length m) (omega arith))
 
   -- they are laid over its start
@@ -148,15 +169,15 @@ module _ (m ns : List ℕ) where
 
 module _ (order level : ℕ) (f m : List ℕ) where
   -- ---- `read`
-  pub read_refused : {e : ℕ} {n : BytePlace} → Fault e n ≡ surveyed (walk_file order level f) → leaves m (Refused e n.0) ≡ into m (read_file order level f)
+  pub read_refused : (e : Reason) {n : BytePlace} → Fault (number_of e) n ≡ surveyed (walk_file order level f) → leaves m (Refused e n.0) ≡ into m (read_file order level f)
   unfolding read_file
-  read_refused q = ap (into m) (survey_refused order level f q (table f (walk_file order level f)))
+  read_refused e q = ap (into m) (survey_refused order level f q (table f (walk_file order level f)))
 
   read_is : {k j : ℕ} → Found order level f k j → read_file order level f ≡ gives (table f (walk_file order level f))
   unfolding read_file
   read_is u = ap (result (table f (walk_file order level f))) u.ended
 
-  pub read_short : {k j : ℕ} → Next k j ≡ surveyed (walk_file order level f) → length m < k → leaves m (Refused 19 k) ≡ into m (read_file order level f)
+  pub read_short : {k j : ℕ} → Next k j ≡ surveyed (walk_file order level f) → length m < k → leaves m (Refused TableTooShort k) ≡ into m (read_file order level f)
   read_short q h = short_of m (table f (walk_file order level f)) (survey_found order level f q).numbers_are h ∙ ap (into m) (sym (read_is (survey_found order level f q)))
 
   -- the compression byte c was stored first
@@ -166,21 +187,16 @@ module _ (order level : ℕ) (f m : List ℕ) where
       let u : Found order level f _ _ = survey_found order level f q in
       laid_in m (table f (walk_file order level f)) u.numbers_are h (ap (λ (l : Listed). l.table) d ∙ rw (e, n, walk_is order level f u.start)) ∙ ap (into m) (sym (read_is u))
 
-  -- the lent memory keeps its length
-  pub read_size : {c : ℕ} (o : Order) (g : List ℕ) {t g' : List ℕ} {x : Walked} → c ≡ get_or f 8 0 → listed t g' x ≡ walk_over (set m 0 c) 1 g 0 (walk_list o (class_of level) 8 file 9 (drop 9 f)) → length t ≡ length m
-  read_size {c} o g h e =
-      ap (λ (l : Listed). length l.table) e ∙ length-sets (set m 0 c) 1 (numbers (walk_list o (class_of level) 8 file 9 (drop 9 f)).tags) ∙ length-set m 0 c
-
   -- ---- `tags`
-  pub tags_refused : {e : ℕ} {n : BytePlace} → Fault e n ≡ surveyed (walk_file order level f) → leaves m (Refused e n.0) ≡ into m (read_tags order level f)
+  pub tags_refused : (e : Reason) {n : BytePlace} → Fault (number_of e) n ≡ surveyed (walk_file order level f) → leaves m (Refused e n.0) ≡ into m (read_tags order level f)
   unfolding read_tags
-  tags_refused q = ap (into m) (survey_refused order level f q (tag_table (walk_file order level f).tags))
+  tags_refused e q = ap (into m) (survey_refused order level f q (tag_table (walk_file order level f).tags))
 
   tags_are : {k j : ℕ} → Found order level f k j → read_tags order level f ≡ gives (tag_table (walk_file order level f).tags)
   unfolding read_tags
   tags_are u = ap (result (tag_table (walk_file order level f).tags)) u.ended
 
-  pub tags_short : {k j : ℕ} → Next k j ≡ surveyed (walk_file order level f) → length m < j → leaves m (Refused 19 j) ≡ into m (read_tags order level f)
+  pub tags_short : {k j : ℕ} → Next k j ≡ surveyed (walk_file order level f) → length m < j → leaves m (Refused TableTooShort j) ≡ into m (read_tags order level f)
   tags_short q h = short_of m (tag_table (walk_file order level f).tags) (survey_found order level f q).rows_are h ∙ ap (into m) (sym (tags_are (survey_found order level f q)))
 
   -- the run that fills read the lists alone

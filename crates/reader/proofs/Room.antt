@@ -8,6 +8,7 @@ use Rattle.format.specs.Reasons.{Result, gives, refuses}
 use Rattle.format.proofs.RoomLaws.{table_room, tags_room}
 use Rattle.format.proofs.ReasonLaws.{read_reason, tags_reason, not_19}
 use Rattle.format.proofs.CallLaws.{Why, faulty, full, kept}
+use Rattle.reasons.specs.declared.Reason.TheVariants.{TableTooShort}
 use Rattle.answers.specs.declared.Answer.TheVariants.{Refused}
 use Rattle.reader.proofs.Demands.{Call, read, tags, reading, Promise}
 
@@ -23,7 +24,7 @@ pub record Needs (x : Call) (order level : ℕ) (f m : List ℕ) (n : ℕ) : Typ
   pub needed : n ≡ length table
   pub short : length m < n
 
-module _ (x : Call) (order level : ℕ) (f m m' : List ℕ) (n : ℕ) (p : Promise x order level f m m' (Refused 19 n)) where
+module _ (x : Call) (order level : ℕ) (f m m' : List ℕ) (n : ℕ) (p : Promise x order level f m m' (Refused TableTooShort n)) where
   pub needs : Needs x order level f m n
   needs = why (reading x order level f) refl (kept m (reading x order level f) p refl).why
     where
@@ -44,5 +45,5 @@ module _ (x : Call) (order level : ℕ) (f m m' : List ℕ) (n : ℕ) (p : Promi
       most tags t e = tags_room order level f t e
 
 -- with 8 × n numbers lent for a file of n bytes `read` is never refused by 19, and with 5 × n `tags` is not
-pub never_19 : (x : Call) (order level : ℕ) (f m m' : List ℕ) {n : ℕ} → numbers_abyte x * length f ≤ length m → Promise x order level f m m' (Refused 19 n) → ⊥
+pub never_19 : (x : Call) (order level : ℕ) (f m m' : List ℕ) {n : ℕ} → numbers_abyte x * length f ≤ length m → Promise x order level f m m' (Refused TableTooShort n) → ⊥
 never_19 x order level f m m' {n} l p = absurd (omega (arith, too_little x order level f m m' n p))

@@ -6,6 +6,8 @@ ghost use Rattle.answers.specs.Answers.{answer_of};
 ghost use Rattle.singles.specs.Single.{product, behind, nearest, magnitude as magnitude_of, of_step, single as single_of, of_number};
 
 use answers::Answer;
+use reasons::Reason;
+use std::cmp::Ordering;
 
 // The steps that convert without loss are up to this, either way.
 const MOST: u64 = 16777216;
@@ -20,13 +22,11 @@ fn nearest(product: u64, unit: u64) -> u64
 {
     let whole = product / unit;
     let rest = product % unit * 2;
-    if rest < unit {
-        return whole;
+    match rest.cmp(&unit) {
+        Ordering::Less => whole,
+        Ordering::Equal => whole + whole % 2,
+        Ordering::Greater => whole + 1,
     }
-    if unit < rest {
-        return whole + 1;
-    }
-    whole + whole % 2
 }
 
 // The bits of a step's magnitude: the product's first 24 digits, rounded, and the exponent of what stands behind them.
@@ -38,12 +38,9 @@ fn magnitude(step: u64) -> u64
         return 0;
     }
     let product = step * 13421773;
-    let mut unit = 1;
-    let mut exponent = 121;
-    while unit * 16777216 <= product {
-        unit *= 2;
-        exponent += 1;
-    }
+    let behind = 40 - product.leading_zeros();
+    let unit = 1 << behind;
+    let exponent = 121 + u64::from(behind);
     exponent * 8388608 + nearest(product, unit)
 }
 
@@ -52,34 +49,22 @@ pub fn of_step(negative: bool, step: u64) -> Answer
     ensures { answer_of result ≡ of_step negative step }
 {
     if MOST < step {
-        return Answer::Refused(29, 0);
+        return Answer::Refused(Reason::StepBeyondSingles, 0);
     }
-    let bits = magnitude(step);
-    if negative {
-        return Answer::Accepted(SIGN + bits);
-    }
-    Answer::Accepted(bits)
+    let sign = if negative { SIGN } else { 0 };
+    Answer::Accepted(sign + magnitude(step))
 }
 
 // The bits of a step as a single, or 29.
 pub fn single(step: i64) -> Answer
     ensures { answer_of result ≡ single_of step }
 {
-    if step < -16777216 {
-        return Answer::Refused(29, 0);
-    }
-    if step < 0 {
-        return of_step(true, (0 - step) as u64);
-    }
-    of_step(false, step as u64)
+    of_step(step.is_negative(), step.unsigned_abs())
 }
 
 // The same of a step as a table keeps it, modulo 2^64.
 pub fn of_number(number: u64) -> Answer
     ensures { answer_of result ≡ of_number number }
 {
-    if number < 9223372036854775808 {
-        return of_step(false, number);
-    }
-    of_step(true, 18446744073709551615 - number + 1)
+    single(number.cast_signed())
 }

@@ -1,10 +1,10 @@
 -- A body's bytes put over an output from a byte place on; and the answer of a function that writes one, with the output that it leaves.
-use Rattle.std.specs.Prelude.{ℕ, ◌+◌, List, leb, length}
+use Rattle.std.specs.Prelude.{ℕ, ◌+◌, List, leb, length, Result, Ok, Err}
 use Rattle.std.proofs.lemmas.List.Edits.{sets}
 use Rattle.format.specs.Tests.{pick}
 use Rattle.format.specs.Possible.{Possible, this, cannot}
-use Rattle.sink.specs.declared.Body.{Body}
-use Rattle.sink.specs.declared.Body.TheVariants.{To, No}
+use Rattle.bits.specs.declared.BytePlace.{BytePlace}
+use Rattle.sink.specs.declared.Impossible.{Impossible}
 
 -- in bytes: no file is longer
 abbrev pub longest : ℕ
@@ -19,6 +19,6 @@ unfoldable pub lies : List ℕ → ℕ → Possible (List ℕ) → Possible Lain
 lies u a (this b) = pick (leb (a + length b) longest) (this (lain (sets u a b) (a + length b))) cannot
 lies u a cannot = cannot
 
-abbrev pub lain_as : List ℕ → Body → Possible Lain
-lain_as u (To p) = this (lain u p.0)
-lain_as u No = cannot
+abbrev pub lain_as : List ℕ → Result BytePlace Impossible → Possible Lain
+lain_as u (Ok p) = this (lain u p.0)
+lain_as u (Err e) = cannot

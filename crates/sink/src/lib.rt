@@ -15,21 +15,12 @@ pub struct Sink {
     pub part: u64,
 }
 
-// A field taken apart.
-#[derive(Clone, Copy)]
-pub struct TwoFields {
-    pub first: u64,
-    pub last: u64,
-}
-
-// A body was written up to a byte place; or no file has it.
-#[derive(Clone, Copy)]
-pub enum Body {
-    To(BytePlace),
-    No,
-}
+// No file has the values.
+#[derive(Clone, Copy, Debug, PartialEq, Eq)]
+pub struct Impossible;
 
 // Stores a byte where there is room for it.
+// Stays: `table::put` for bytes, but this crate stands below the table, and a writer needs none.
 pub fn put_byte(out: &mut [u8], i: usize, value: u64)
     requires { value < 256 }
     ensures { out.new ≡ set out.old i value }
@@ -59,29 +50,23 @@ pub fn glue(order: Order, first: u64, before: usize, last: u64, behind: usize) -
 }
 
 // One field as two, so glued.
-pub fn split(order: Order, value: u64, before: usize, behind: usize) -> TwoFields
+pub fn split(order: Order, value: u64, before: usize, behind: usize) -> (u64, u64)
     requires { (before + behind < 64) × (value < 2 ^ (before + behind)) }
-    ensures { Split (order_of order) before behind value result.first result.last }
+    ensures { Split (order_of order) before behind value result.0 result.1 }
 {
     match order {
         Order::HighFirst => {
             let unit = power(behind);
-            TwoFields {
-                first: value / unit,
-                last: value % unit,
-            }
+            (value / unit, value % unit)
         }
         Order::LowFirst => {
             let unit = power(before);
-            TwoFields {
-                first: value % unit,
-                last: value / unit,
-            }
+            (value % unit, value / unit)
         }
     }
 }
 
-// A field of w bits: those that wait and these, a byte at a time.
+// A field of w bits: those that wait and these, a byte at a time. The count of the bits that wait falls by eight, so no range counts the bytes.
 pub fn put_bits(order: Order, out: &mut [u8], sink: Sink, value: u64, width: usize) -> Sink
     requires { Holds sink.place.0 sink.part × (sink.place.0 ≤ 2 ^ 60) × (width ≤ 32) × (value < 2 ^ width) }
     ensures { under out.new result ≡ lay (order_of order) (under out.old sink) (dig (order_of order) width value) }
@@ -102,9 +87,9 @@ pub fn put_bits(order: Order, out: &mut [u8], sink: Sink, value: u64, width: usi
     let mut waiting = glue(order, begun, used, value, width);
     while 8 <= count {
         count -= 8;
-        let rest = split(order, waiting, 8, count);
-        put_byte(out, i, rest.first);
-        waiting = rest.last;
+        let (byte, rest) = split(order, waiting, 8, count);
+        put_byte(out, i, byte);
+        waiting = rest;
         i += 1;
     }
     if out.len() <= i {
@@ -127,13 +112,13 @@ pub fn put_word(order: Order, out: &mut [u8], byte: usize, value: u64)
         put_bits(order, out, Sink { place, part: 0 }, value, 32);
         return;
     }
-    let first = split(order, value, 8, 24);
-    let second = split(order, first.last, 8, 16);
-    let third = split(order, second.last, 8, 8);
-    out[byte] = first.first as u8;
-    out[byte + 1] = second.first as u8;
-    out[byte + 2] = third.first as u8;
-    out[byte + 3] = third.last as u8;
+    let (first, behind_first) = split(order, value, 8, 24);
+    let (second, behind_second) = split(order, behind_first, 8, 16);
+    let (third, fourth) = split(order, behind_second, 8, 8);
+    out[byte] = first as u8;
+    out[byte + 1] = second as u8;
+    out[byte + 2] = third as u8;
+    out[byte + 3] = fourth as u8;
 }
 
 // The next whole byte: zero bits up to it.

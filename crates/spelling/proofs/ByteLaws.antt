@@ -1,5 +1,6 @@
--- Numbers and items from a whole byte on, by the byte place behind them: 0 where there is none.
-use Rattle.std.proofs.Common.{◌≡◌, ℕ, ◌+◌, ◌-◌, ◌*◌, ◌%◌, ◌<◌, ◌≤◌, min, Bool, true, false, eqb, ltb, List, length, get_or, sym, refl, ap, ◌∙◌, ap₂, arith, pow_pos, ltb-false, ltb-true, eq-eqb, ne_eqb}
+-- Numbers and items from a whole byte on, by the byte place behind them.
+use Rattle.std.proofs.Common.{◌≡◌, ℕ, ◌+◌, ◌-◌, ◌*◌, ◌%◌, ◌<◌, ◌≤◌, Bool, true, false, eqb, ltb, List, length, get_or, sym, refl, ap, ◌∙◌, ap₂, arith, pow_pos, ltb-false, ltb-true}
+use Rattle.std.specs.Prelude.{Result, Ok, Err, IsErr, is_err}
 use Rattle.format.specs.Tests.{pick}
 use Rattle.format.specs.Bits.{Order}
 use Rattle.format.proofs.Absurd.{clash}
@@ -9,16 +10,29 @@ use Rattle.format.specs.Possible.{Possible, this, cannot}
 use Rattle.format.specs.WritingItems.{dig, before}
 use Rattle.items.specs.Kinds.{format_of, range_fault}
 use Rattle.items.specs.declared.Item.{Item}
+use Rattle.reasons.specs.Numbers.{fault_of}
+use Rattle.reasons.specs.declared.Reason.{Reason}
+use Rattle.reasons.proofs.NumberLaws.{positive}
+use Rattle.sink.specs.declared.Impossible.{Impossible}
 use Rattle.sink.specs.Laying.{State, mk, Skipped}
 use Rattle.sink.proofs.LayingLaws.{mk_eq, skip_none, field_none}
-use Rattle.spelling.specs.Writing.{bits_over, here, ran}
+use Rattle.spelling.specs.Writing.{bits_over, Seen, here, ran}
 use Rattle.spelling.specs.Spellings.{spelling_of, spelled_to, written_to}
 use Rattle.spelling.proofs.RunLaws.{ends_in, ends_out, resume, ran_then, bits_end, one_none, one_bad, one_bits, laid_before, times_more, times_few, times_over, ran_nothing}
 use Rattle.spelling.proofs.NumberLaws.{bits_of, item_is, item_out, item_in}
 
 -- ---- a number that was put
-pub spelled : (u : List ℕ) (p q : ℕ) {x : Possible State} → 0 < p → q ≡ 8 * p → this (mk u q 0) ≡ x → spelled_to u p ≡ x
-spelled u p q h e d = rw (ne_eqb p 0 (λ z. omega arith)) (ap this (mk_eq refl (sym e) refl) ∙ d)
+pub spelled : (u : List ℕ) (p q : ℕ) {x : Possible State} → q ≡ 8 * p → this (mk u q 0) ≡ x → spelled_to u (Ok p) ≡ x
+spelled u p q e d = ap this (mk_eq refl (sym e) refl) ∙ d
+
+-- ---- what the code asks of a number's range
+pub range_out : (r : Result (Unit {0}) Reason) → is_err r ≡ true → fault_of r ≡ 0 → ⊥
+range_out (Ok x) h e = cc
+range_out (Err z) h e = omega (arith, positive z)
+
+pub range_in : (r : Result (Unit {0}) Reason) → is_err r ≡ false → fault_of r ≡ 0
+range_in (Ok x) h = refl
+range_in (Err z) h = cc
 
 -- ---- an item from a whole byte on
 module _ (o : Order) (kind : Item) (t out : List ℕ) (at k : ℕ) where
@@ -31,39 +45,38 @@ module _ (o : Order) (kind : Item) (t out : List ℕ) (at k : ℕ) where
   pub next_none : length t ≤ k → cannot ≡ ran o t st k (format_of kind)
   next_none h = sym (one_none o (format_of kind) (bits_of o kind) (item_is o kind) t st k h)
 
-  module _ (there : k < length t) {r : ℕ} (judged : r ≡ range_fault kind (get_or t k 0)) where
+  module _ (there : k < length t) {v r : ℕ} (same : v ≡ get_or t k 0) (judged : r ≡ range_fault kind v) where
+    fault : r ≡ range_fault kind (get_or t k 0)
+    fault = judged ∙ ap (range_fault kind) same
+
     pub next_out : (r ≡ 0 → ⊥) → cannot ≡ ran o t st k (format_of kind)
-    next_out h = sym (one_bad o (format_of kind) (bits_of o kind) (item_is o kind) t st k there (item_out o kind (8 * at) (get_or t k 0) judged h))
+    next_out h = sym (one_bad o (format_of kind) (bits_of o kind) (item_is o kind) t st k there (item_out o kind (8 * at) (get_or t k 0) fault h))
 
-    module _ (good : r ≡ 0) (u : List ℕ) (p : ℕ) (put : spelled_to u p ≡ bits_over o st (spelling_of o kind (get_or t k 0))) where
-      is : ran o t st k (format_of kind) ≡ bits_end (k + 1) (spelled_to u p)
-      is = one_bits o (format_of kind) (bits_of o kind) (item_is o kind) t st k there (item_in o kind st (get_or t k 0) judged good whole put)
+    module _ (good : r ≡ 0) (u : List ℕ) (R : Result ℕ Impossible) (put : spelled_to u R ≡ bits_over o st (spelling_of o kind v)) where
+      is : ran o t st k (format_of kind) ≡ bits_end (k + 1) (spelled_to u R)
+      is = one_bits o (format_of kind) (bits_of o kind) (item_is o kind) t st k there (item_in o kind st (get_or t k 0) fault good whole (put ∙ ap (λ (w : ℕ). bits_over o st (spelling_of o kind w)) same))
 
-      pub next_late : 16777216 < p → cannot ≡ ran o t st k (format_of kind)
-      next_late l = sym (is ∙ rw (ne_eqb p 0 (λ z. omega arith)) (ends_out (mk u (8 * p) 0) (k + 1) (omega arith)))
+      pub next_no : {e : Impossible} → R ≡ Err e → cannot ≡ ran o t st k (format_of kind)
+      next_no z = sym (is ∙ rw z)
 
-      pub next_to : p ≤ 16777216 → written_to u p (k + 1) ≡ ran o t st k (format_of kind)
-      next_to l = sym (is ∙ go (eqb p 0))
-        where
-          go : (c : Bool) → bits_end (k + 1) (pick c cannot (this (mk u (8 * p) 0))) ≡ pick c cannot (this (here (mk u (8 * p) 0) (k + 1)))
-          go true = refl
-          go false = ends_in (mk u (8 * p) 0) (k + 1) (omega arith)
+      pub next_late : {p : ℕ} → R ≡ Ok p → 16777216 < p → cannot ≡ ran o t st k (format_of kind)
+      next_late {p} z l = sym (is ∙ rw z (ends_out (mk u (8 * p) 0) (k + 1) (omega arith)))
+
+      pub next_to : {p : ℕ} → R ≡ Ok p → p ≤ 16777216 → written_to u (Ok p) (k + 1) ≡ ran o t st k (format_of kind)
+      next_to {p} z l = sym (is ∙ rw z (ends_in (mk u (8 * p) 0) (k + 1) (omega arith)))
 
   -- ---- by what was told of it
-  module _ (u : List ℕ) (p : ℕ) (told : written_to u p (k + 1) ≡ ran o t st k (format_of kind)) where
-    pub next_inside : (p ≡ 0 → ⊥) → k < length t
-    next_inside n = go (ltb k (length t)) refl
+  module _ (u : List ℕ) (p : ℕ) (told : written_to u (Ok p) (k + 1) ≡ ran o t st k (format_of kind)) where
+    pub next_inside : k < length t
+    next_inside = go (ltb k (length t)) refl
       where
         go : (c : Bool) → ltb k (length t) ≡ c → k < length t
         go true e = ltb-true k (length t) e
-        go false e = let m : this (here (mk u (8 * p) 0) (k + 1)) ≡ cannot = (rw (ne_eqb p 0 n) at told) ∙ sym (next_none (ltb-false k (length t) e)) in clash cc
+        go false e = let m : this (here (mk u (8 * p) 0) (k + 1)) ≡ cannot = told ∙ sym (next_none (ltb-false k (length t) e)) in clash cc
 
     -- and of what follows it
-    pub next_fell : (rest : Format) → p ≡ 0 → cannot ≡ ran o t st k (format_of kind ▸ rest)
-    next_fell rest z = sym (ran_then o t st k (format_of kind) (λ xs. rest) ∙ ap (resume o t k (λ xs. rest)) (sym (rw (eq-eqb p 0 z) at told)))
-
-    pub next_on : (rest : Format) → (p ≡ 0 → ⊥) → ran o t st k (format_of kind ▸ rest) ≡ ran o t (mk u (8 * p) 0) (k + 1) rest
-    next_on rest n = ran_then o t st k (format_of kind) (λ xs. rest) ∙ ap (resume o t k (λ xs. rest)) (sym (rw (ne_eqb p 0 n) at told))
+    next_on : (rest : Format) → ran o t st k (format_of kind ▸ rest) ≡ ran o t (mk u (8 * p) 0) (k + 1) rest
+    next_on rest = ran_then o t st k (format_of kind) (λ xs. rest) ∙ ap (resume o t k (λ xs. rest)) (sym told)
 
 -- ---- of n items from index k on the one behind i others: no file has it, and so none of the rest; or the rest goes on behind it
 module _ (o : Order) (kind : Item) (t out : List ℕ) (at k n i : ℕ) (more : i < n) where
@@ -76,12 +89,12 @@ module _ (o : Order) (kind : Item) (t out : List ℕ) (at k n i : ℕ) (more : i
   pub turn_fell : cannot ≡ ran o t (mk out (8 * at) 0) (k + i) (format_of kind) → cannot ≡ ran o t (mk out (8 * at) 0) (k + i) (times (n - i) (format_of kind))
   turn_fell e = sym (in_turn ∙ ran_then o t (mk out (8 * at) 0) (k + i) (format_of kind) (λ xs. rest) ∙ ap (resume o t (k + i) (λ xs. rest)) (sym e))
 
-  pub turn_on : (u : List ℕ) (p : ℕ) → written_to u p (k + i + 1) ≡ ran o t (mk out (8 * at) 0) (k + i) (format_of kind) → (p ≡ 0 → ⊥)
+  pub turn_on : (u : List ℕ) (p : ℕ) → written_to u (Ok p) (k + i + 1) ≡ ran o t (mk out (8 * at) 0) (k + i) (format_of kind)
       → ran o t (mk out (8 * at) 0) (k + i) (times (n - i) (format_of kind)) ≡ ran o t (mk u (8 * p) 0) (k + (i + 1)) (times (n - (i + 1)) (format_of kind))
-  turn_on u p told some =
+  turn_on u p told =
       let a : k + i + 1 ≡ k + (i + 1) = omega arith in
       let b : n - i - 1 ≡ n - (i + 1) = omega arith in
-      in_turn ∙ next_on o kind t out at (k + i) u p told rest some
+      in_turn ∙ next_on o kind t out at (k + i) u p told rest
       ∙ ap₂ (λ (j m : ℕ). ran o t (mk u (8 * p) 0) j (times m (format_of kind))) a b
 
 -- none is behind, and all are
@@ -94,8 +107,8 @@ turns_over o kind t out at k n i h l small =
     ap (ran o t (mk out (8 * at) 0) (k + i)) (times_over (format_of kind) (n - i) (omega arith)) ∙ ran_nothing o t (mk out (8 * at) 0) (k + i) (omega arith) ∙ ap (λ (j : ℕ). this (here (mk out (8 * at) 0) j)) a
 
 -- ---- n of them, and too few numbers are left
-pub items_few : (o : Order) (kind : Item) (t : List ℕ) (st : State) (k n : ℕ) {m : ℕ} → m ≡ min n (length t - k) → m < n → cannot ≡ ran o t st k (times n (format_of kind))
-items_few o kind t st k n e h = sym (times_few o (format_of kind) (bits_of o kind) (item_is o kind) t st k n (omega arith))
+pub items_few : (o : Order) (kind : Item) (t : List ℕ) (st : State) (k n : ℕ) → length t - k < n → cannot ≡ ran o t st k (times n (format_of kind))
+items_few o kind t st k n h = sym (times_few o (format_of kind) (bits_of o kind) (item_is o kind) t st k n h)
 
 -- ---- and from anywhere: after the skip before it
 module _ (o : Order) (kind : Item) (t : List ℕ) (st : State) (k : ℕ) {u : List ℕ} {byte bit : ℕ} (skip : Skipped o st u byte bit) where
@@ -135,12 +148,20 @@ module _ (o : Order) (kind : Item) (t : List ℕ) (st : State) (k : ℕ) {u : Li
       ∙ ap (resume o t k rest) (item_aligned ∙ ap (λ (x : ℕ). ran o t (mk u x 0) k (format_of kind)) skip.whole)
       ∙ sym (ap (ran o t (mk u (8 * byte) 0) k) (times_more (format_of kind) n h) ∙ ran_then o t (mk u (8 * byte) 0) k (format_of kind) rest)
 
-  module _ (w : List ℕ) (p : ℕ) (put : written_to w p (k + 1) ≡ ran o t (mk u (8 * byte) 0) k (format_of kind)) where
-    from_whole : ran o t (mk u (8 * byte) 0) k (format_of kind) ≡ ran o t st k (format_of kind)
-    from_whole = ap (λ (x : ℕ). ran o t (mk u x 0) k (format_of kind)) (sym skip.whole) ∙ sym item_aligned
+  -- by what was told of it from the whole byte on
+  module _ (w : List ℕ) (R : Result ℕ Impossible) (put : written_to w R (k + 1) ≡ ran o t (mk u (8 * byte) 0) k (format_of kind)) where
+    pub one_aligned : written_to w R (k + 1) ≡ ran o t st k (format_of kind)
+    one_aligned = put ∙ ap (λ (x : ℕ). ran o t (mk u x 0) k (format_of kind)) (sym skip.whole) ∙ sym item_aligned
 
-    pub aligned_fell : p ≡ 0 → cannot ≡ ran o t st k (format_of kind)
-    aligned_fell z = (rw (eq-eqb p 0 z) at put) ∙ from_whole
+  module _ (w : List ℕ) (R : Result ℕ Impossible) (n : ℕ) (some : 0 < n) (put : written_to w R (k + n) ≡ ran o t (mk u (8 * byte) 0) k (times n (format_of kind))) where
+    pub all_aligned : written_to w R (k + n) ≡ ran o t st k (times n (format_of kind))
+    all_aligned = put ∙ sym (times_aligned n some)
 
-    pub aligned_to : {q : ℕ} → (p ≡ 0 → ⊥) → q ≡ 8 * p → this (here (mk w q 0) (k + 1)) ≡ ran o t st k (format_of kind)
-    aligned_to n e = rw e ((rw (ne_eqb p 0 n) at put) ∙ from_whole)
+-- where the code answers that no file has them
+pub err_written : (u : List ℕ) (k : ℕ) (R : Result ℕ Impossible) {x : Possible Seen} → IsErr R → cannot ≡ x → written_to u R k ≡ x
+err_written u k (Ok p) h e = cc
+err_written u k (Err z) h e = e
+
+-- a sink on a whole byte
+pub on_whole : (u : List ℕ) (q a p k : ℕ) {x : Possible Seen} → q ≡ 8 * p → a ≡ 0 → written_to u (Ok p) k ≡ x → this (here (mk u q a) k) ≡ x
+on_whole u q a p k e d h = rw (e, d) h

@@ -1,9 +1,11 @@
 -- From bits to bytes: a format that was put through a sink, with the skip to a whole byte at its end.
-use Rattle.std.proofs.Common.{◌≡◌, ℕ, ◌+◌, ◌*◌, ◌/◌, ◌%◌, ◌<◌, ◌≤◌, Bool, true, false, eqb, leb, List, [], ◌∷◌, ◌++◌, length, sym, refl, ap, ◌∙◌, subst, ap₂, append-nil, arith, length-append, pow_pos, eq-eqb, ne_eqb, le-leb, leb-false, leb-true}
+use Rattle.std.proofs.Common.{◌≡◌, ℕ, ◌+◌, ◌*◌, ◌/◌, ◌%◌, ◌<◌, ◌≤◌, Bool, true, false, eqb, leb, List, [], ◌∷◌, ◌++◌, length, sym, refl, ap, ◌∙◌, ap₂, append-nil, arith, length-append, pow_pos, eq-eqb, ne_eqb, le-leb, leb-false, leb-true}
 use lib.Seq.{sets}
+use Rattle.std.specs.Prelude.{Result, Ok, Err, IsErr}
 use borrow.Author.Tests.{lt-leb}
 use Rattle.format.specs.Tests.{pick}
 use Rattle.format.specs.Bits.{Order}
+use Rattle.format.specs.Bits as paper
 use Rattle.format.specs.Formats.{Format, ◌▸◌}
 use Rattle.format.specs.Items.{skipped}
 use Rattle.format.specs.Bodies.{aligned, fixed}
@@ -13,15 +15,17 @@ use Rattle.format.specs.WritingFormats.{onward, unrun}
 use Rattle.format.specs.WritingBodies.{whole_bytes, bytes_of, write_part, write_body}
 use Rattle.format.proofs.BitLaws.{length_dig}
 use Rattle.format.proofs.ByteLaws.{length_bytes_of}
-use Rattle.sink.specs.Lain.{Lain, lain, lies, longest}
-use Rattle.sink.specs.Laying.{State, mk, at, lay, Holds, Skipped}
-use Rattle.sink.specs.declared.Sink.{Sink}
+use Rattle.bits.specs.Places.{order_of}
+use Rattle.bits.specs.declared.BytePlace.{BytePlace}
+use Rattle.sink.specs.declared.Impossible.{Impossible}
+use Rattle.sink.specs.Lain.{Lain, lain, lies, lain_as, longest}
+use Rattle.sink.specs.Laying.{State, mk, lay, Holds, Skipped}
 use Rattle.sink.proofs.LayingLaws.{lay_append, lay_bytes_of, lay_place}
-use Rattle.spelling.specs.Ends.{skipped_to, concluded, FineAfter}
-use Rattle.spelling.specs.Writing.{Seen, here, seen, ends, written_over, ran, limit, Fine}
-use Rattle.spelling.specs.declared.Put.{Put}
-use Rattle.spelling.specs.declared.Put.TheVariants.{Done, Impossible}
-use Rattle.spelling.proofs.RunLaws.{ends_in, ends_out, parts, ran_fine, skip_le}
+use Rattle.spelling.specs.Ends.{skipped_to, concluded}
+use Rattle.spelling.specs.Writing.{Seen, here, ends, written_over, ran, limit}
+use Rattle.spelling.specs.Writer.{state, seen_of, Writes}
+use Rattle.spelling.specs.declared.writer.Writer.{Writer}
+use Rattle.spelling.proofs.RunLaws.{ends_in, ends_out, parts, skip_le}
 use Rattle.spelling.proofs.ShiftLaws.{shift, whole_bytes_lem}
 
 -- a format, and the skip to a whole byte behind it
@@ -125,24 +129,40 @@ unfolding lies
 lies_over out a cannot h = refl
 lies_over out a (this x) h = rw (lt-leb (a + length x) longest (omega arith))
 
--- what was written leaves a sink to go on with
-pub front_fine : (o : Order) (vs out : List ℕ) (s : Sink) (f : Format) (u : List ℕ) (R : Put) → Fine s → seen u R ≡ ran o vs (at out s) 0 f → FineAfter R
-front_fine o vs out s f u Impossible fine e = tt
-front_fine o vs out s f u (Done r k) fine e = ran_fine o vs out s 0 f u (Done r k) fine e r k refl
-
 -- ---- the end of a body
-module _ (o : Order) (n : ℕ) (out : List ℕ) (R : Put) (s : Sink) (k : ℕ) (e : R ≡ Done s k) where
-  pub end_fine : FineAfter R → Fine s
-  end_fine h = subst FineAfter e h
+module _ (o : Order) (n : ℕ) (st : State) (k : ℕ) where
+  pub end_left : (k ≡ n → ⊥) → cannot ≡ concluded o n (this (here st k))
+  end_left h = rw (ne_eqb k n h)
 
-  pub end_left : (k ≡ n → ⊥) → cannot ≡ concluded o n (seen out R)
-  end_left h = rw (e, ne_eqb k n h)
-
-  pub end_done : {u : List ℕ} {byte bit : ℕ} → k ≡ n → Skipped o (at out s) u byte bit → this (lain u byte) ≡ concluded o n (seen out R)
+  pub end_done : {u : List ℕ} {byte bit : ℕ} → k ≡ n → Skipped o st u byte bit → this (lain u byte) ≡ concluded o n (this (here st k))
   end_done {u} {byte} {bit} h skip =
-      let p : skipped_to o (at out s) ≡ mk u bit 0 = sym skip.laid in
+      let p : skipped_to o st ≡ mk u bit 0 = sym skip.laid in
       let d : bit / 8 ≡ byte = omega (arith, skip.whole) in
-      rw (e, eq-eqb k n h, p, d)
+      rw (eq-eqb k n h, p, d)
 
 pub start_fine : (a q : ℕ) → q ≡ 8 * a → a ≤ longest → Holds q 0 × (q ≤ limit)
 start_fine a q e h = (pow_pos (q % 8), omega arith)
+
+-- ---- the end of a body that a writer has written from its first value on
+module _ {T : Type 0} {a b : Writer} {r : Result T Impossible} {f : Format} (w : Writes a b r f) (place : ℕ) (first : (a.index ≡ 0) × (a.sink.place.0 ≡ 8 * place) × (a.sink.part ≡ 0)) where
+  body_seen : seen_of b r ≡ ran (order_of a.order) a.values.now (mk a.out.now (8 * place) 0) 0 f
+  body_seen =
+      w.told ∙ ap (λ (k : ℕ). ran (order_of a.order) a.values.now (state a) k f) first.0
+      ∙ ap₂ (λ (q p : ℕ). ran (order_of a.order) a.values.now (mk a.out.now q p) 0 f) first.1 first.2
+
+  pub body_done : {x : T} (u : List ℕ) (C : Result BytePlace Impossible) → r ≡ Ok x → lain_as u C ≡ concluded (order_of b.order) (length b.values.now) (this (here (state b) b.index))
+      → lain_as u C ≡ lies a.out.now place (write_body (order_of a.order) (fixed f) a.values.now)
+  body_done u C e h =
+      front_done (order_of a.order) f a.values.now a.out.now place refl
+      (h ∙ ap₂ (λ (o : paper.Order) (n : ℕ). concluded o n (this (here (state b) b.index))) (ap order_of w.onward.order) (ap length w.onward.values)) (ap (seen_of b) (sym e) ∙ body_seen)
+      ∙ ap (lies a.out.now place) (sym (front_is (order_of a.order) f a.values.now))
+
+  pub body_gone : {z : Impossible} → r ≡ Err z → cannot ≡ lies a.out.now place (write_body (order_of a.order) (fixed f) a.values.now)
+  body_gone {z} e =
+      front_done (order_of a.order) f a.values.now a.out.now place {s = cannot} refl refl (ap (seen_of b) (sym e) ∙ body_seen)
+      ∙ ap (lies a.out.now place) (sym (front_is (order_of a.order) f a.values.now))
+
+-- where the code answers that no file has a body
+pub err_lain : (u : List ℕ) (C : Result BytePlace Impossible) {x : Possible Lain} → IsErr C → cannot ≡ x → lain_as u C ≡ x
+err_lain u (Ok p) h e = cc
+err_lain u (Err z) h e = e

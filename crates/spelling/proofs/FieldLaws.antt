@@ -1,10 +1,10 @@
 -- Fields, widths and runs of fields, written.
-use Rattle.std.proofs.Common.{◌≡◌, ℕ, zero, suc, pred, ◌+◌, ◌-◌, ◌*◌, ◌/◌, ◌%◌, ◌^◌, ◌<◌, ◌≤◌, min, Bool, true, false, not, eqb, ltb, leb, List, [], ◌∷◌, ◌++◌, length, get_or, take, drop, sym, refl, ap, ◌∙◌, subst, ap₂, add-zero, mod-lt, mod-eq_of_lt, suc-mul, mul_comm, mul-pos, pow-suc, add-one, arith, length-append, length-drop, length-take, length-take-le, get_or-drop, drop-cons, pow_pos, ltb-false, ltb-true, le-ltb, lt-ltb, eq-eqb, ne_eqb, eqb-true, leb-false, leb-true}
+use Rattle.std.proofs.Common.{◌≡◌, ℕ, zero, suc, pred, ◌+◌, ◌-◌, ◌*◌, ◌/◌, ◌%◌, ◌^◌, ◌<◌, ◌≤◌, Bool, true, false, not, eqb, ltb, leb, List, [], ◌∷◌, ◌++◌, length, get_or, take, drop, sym, refl, ap, ◌∙◌, subst, add-zero, mod-lt, mod-eq_of_lt, suc-mul, mul_comm, mul-pos, pow-suc, add-one, arith, length-append, length-take, drop-cons, drop_of_length-le, take_all, pow_pos, ltb-false, ltb-true, le-ltb, lt-ltb, eq-eqb, ne_eqb, eqb-true}
 use lib.Pow.{pow-lt, high_ones, low as lo}
 use borrow.Author.Tests.{not-true, not-false}
 use Rattle.format.specs.Tests.{pick}
 use Rattle.format.specs.Bits.{Order}
-use Rattle.format.specs.Formats.{item, Item, ◌▹◌, times, the}
+use Rattle.format.specs.Formats.{item, Item, times, the}
 use Rattle.format.specs.Items.{sign_extend}
 use Rattle.format.specs.Possible.{Possible, this, cannot}
 use Rattle.format.specs.WritingItems.{dig, glue, single, write_item, spell_ub, undo, unextend}
@@ -18,12 +18,9 @@ use Rattle.format.proofs.Absurd.{clash}
 use Rattle.sink.specs.Laying.{State, mk, at, lay, Holds, Split}
 use Rattle.sink.specs.declared.Sink.{Sink}
 use Rattle.sink.proofs.LayingLaws.{mk_eq, lay_append, lay_none, lay_some_past, flow_on, flow_few}
-use Rattle.spelling.specs.declared.Put.{Put}
-use Rattle.spelling.specs.declared.Put.TheVariants.{Done, Impossible}
-use Rattle.spelling.specs.Writing.{seen, ends, ran, limit, finish}
-use Rattle.spelling.specs.Spellings.{Announces}
-use Rattle.spelling.specs.Fields.{unsigned_in, signed_in, is_field, bare, all_fields, Judges, dig_all}
-use Rattle.spelling.proofs.RunLaws.{then_done, then_stop, finish_ends, times_end_lem, times_one, times_bad, times_few, one_done, OneDone, the_one}
+use Rattle.spelling.specs.Writing.{Seen, ends, ran, limit}
+use Rattle.spelling.specs.Fields.{unsigned_in, signed_in, is_field, bare, all_fields, dig_all}
+use Rattle.spelling.proofs.RunLaws.{times_end_lem, times_one, times_bad, times_few, one_bits, laid_in}
 use Rattle.spelling.proofs.NumberLaws.{passing_single}
 
 pub rest_small : (k x m : ℕ) → m ≡ 2 ^ k → x % m < 2 ^ k
@@ -201,53 +198,43 @@ module _ (f : Field) (w v m : ℕ) (un : signed f ≡ false) (is : m ≡ 2 ^ w) 
 pub field_large : (o : Order) (f : Field) (w p v m : ℕ) → signed f ≡ false → m ≡ 2 ^ w → m ≤ v → field_bits o f w p v ≡ cannot
 field_large o f w p v m un is h = field_bits_lem o f w p v (λ z. clash cc) (unsigned_large f w v m un is h)
 
--- ---- of n numbers from index k on, those behind the first i
-abbrev pub behind : List ℕ → ℕ → ℕ → ℕ → List ℕ
-behind t k n i = take (n - i) (drop (k + i) t)
+-- ---- of numbers those behind the first i
+behind_more : (vs : List ℕ) (i : ℕ) → i < length vs → drop i vs ≡ get_or vs i 0 ∷ drop (i + 1) vs
+behind_more vs i h = rw (drop-cons vs i 0 h, add-one)
 
-behind_none : (t : List ℕ) (k n : ℕ) → take n (drop k t) ≡ behind t k n 0
-behind_none t k n = ap₂ (λ (m j : ℕ). take m (drop j t)) (let z : n ≡ n - 0 = omega arith in z) (sym (add-zero k))
+behind_all : (vs : List ℕ) (i : ℕ) → length vs ≤ i → drop i vs ≡ []
+behind_all vs i h = drop_of_length-le vs {i = i} h
 
-behind_more : (t : List ℕ) (k n i : ℕ) → i < n → n ≤ length t - k → behind t k n i ≡ get_or t (k + i) 0 ∷ behind t k n (i + 1)
-behind_more t k n i h l =
-    let a : n - i ≡ suc (n - (i + 1)) = omega arith in
-    let b : suc (k + i) ≡ k + (i + 1) = omega arith in
-    rw (drop-cons t (k + i) 0 (omega arith), a, b)
+-- ---- numbers are judged: of the first i each is a field
+pub record Judging (f : Field) (w : ℕ) (vs : List ℕ) (i : ℕ) : Type 0 where
+  pub rest : all_fields f w vs ≡ all_fields f w (drop i vs)
 
-behind_all : (t : List ℕ) (k n i : ℕ) → n ≤ i → behind t k n i ≡ []
-behind_all t k n i h = let a : n - i ≡ 0 = omega arith in rw a
+pub judging_start : (f : Field) (w : ℕ) (vs : List ℕ) → Judging f w vs 0
+judging_start f w vs = record { rest = refl }
 
--- ---- n numbers are judged: of the first i each is a field
-pub record Judging (f : Field) (w : ℕ) (t : List ℕ) (k n i : ℕ) : Type 0 where
-  pub within : i ≤ n
-  pub rest : all_fields f w (take n (drop k t)) ≡ all_fields f w (behind t k n i)
-
-pub judging_start : (f : Field) (w : ℕ) (t : List ℕ) (k n : ℕ) → Judging f w t k n 0
-judging_start f w t k n = record { within = omega arith; rest = ap (all_fields f w) (behind_none t k n) }
-
-module _ {f : Field} {w : ℕ} {t : List ℕ} {k n i : ℕ} (g : Judging f w t k n i) where
-  module _ (more : i < n) (inside : n ≤ length t - k) where
-    judging_one : {c : Bool} → is_field f w (get_or t (k + i) 0) ≡ c → all_fields f w (take n (drop k t)) ≡ pick c (all_fields f w (behind t k n (i + 1))) false
+module _ {f : Field} {w : ℕ} {vs : List ℕ} {i : ℕ} (g : Judging f w vs i) where
+  module _ (more : i < length vs) where
+    judging_one : {c : Bool} → is_field f w (get_or vs i 0) ≡ c → all_fields f w vs ≡ pick c (all_fields f w (drop (i + 1) vs)) false
     unfolding all_fields
-    judging_one e = g.rest ∙ ap (all_fields f w) (behind_more t k n i more inside) ∙ rw e
+    judging_one e = g.rest ∙ ap (all_fields f w) (behind_more vs i more) ∙ rw e
 
-    pub judging_no : is_field f w (get_or t (k + i) 0) ≡ false → false ≡ all_fields f w (take n (drop k t))
-    judging_no e = sym (judging_one e)
+    pub judging_no : is_field f w (get_or vs i 0) ≡ false → all_fields f w vs ≡ false
+    judging_no e = judging_one e
 
-    pub judging_next : is_field f w (get_or t (k + i) 0) ≡ true → Judging f w t k n (i + 1)
-    judging_next e = record { within = omega arith; rest = judging_one e }
+    pub judging_next : is_field f w (get_or vs i 0) ≡ true → Judging f w vs (i + 1)
+    judging_next e = record { rest = judging_one e }
 
-  pub judging_over : n ≤ i → true ≡ all_fields f w (take n (drop k t))
+  pub judging_over : length vs ≤ i → all_fields f w vs ≡ true
   unfolding all_fields
-  judging_over h = sym (g.rest ∙ ap (all_fields f w) (behind_all t k n i h))
+  judging_over h = g.rest ∙ ap (all_fields f w) (behind_all vs i h)
 
 -- ---- what numbers announce
 announced_few : (f : Field) (vs : List ℕ) → announced f vs ≤ 6 * length vs
 announced_few f [] = omega arith
 announced_few f (v ∷ vs) = omega (arith, weight_is f v refl refl, announced_few f vs)
 
-pub counted_few : (f : Field) (t : List ℕ) (k i c : ℕ) → c ≡ announced f (take i (drop k t)) → c ≤ 6 * i
-counted_few f t k i c e = omega (arith, announced_few f (take i (drop k t)), length-take i (drop k t))
+pub counted_few : (f : Field) (vs : List ℕ) (i c : ℕ) → c ≡ announced f (take i vs) → c ≤ 6 * i
+counted_few f vs i c e = omega (arith, announced_few f (take i vs), length-take i vs)
 
 announced_one : (f : Field) (xs : List ℕ) (i v : ℕ) → i < length xs → v ≡ get_or xs i 0 → announced f (take (suc i) xs) ≡ announced f (take i xs) + announces f v
 announced_one f [] i v h e = absurd (omega arith)
@@ -256,10 +243,11 @@ announced_one f (x ∷ xs) (suc i) v h e =
     let q : announced f (take (suc i) xs) ≡ announced f (take i xs) + announces f v = announced_one f xs i v (omega arith) e in
     rw q (omega arith)
 
-pub counted_next : (f : Field) (t : List ℕ) (k i : ℕ) {c m : ℕ} → c ≡ announced f (take i (drop k t)) → k + i < length t → m ≡ announces f (get_or t (k + i) 0) → c + m ≡ announced f (take (i + 1) (drop k t))
-counted_next f t k i a l e =
-    let b : i < length (drop k t) = rw length-drop (omega arith) in
-    rw (add-one i, announced_one f (drop k t) i (get_or t (k + i) 0) b (sym (get_or-drop k t i 0)), e, a)
+pub counted_next : (f : Field) (vs : List ℕ) (i : ℕ) {c m : ℕ} → c ≡ announced f (take i vs) → i < length vs → m ≡ announces f (get_or vs i 0) → c + m ≡ announced f (take (i + 1) vs)
+counted_next f vs i a l e = rw (add-one i, announced_one f vs i (get_or vs i 0) l refl, e, a)
+
+pub counted_all : (f : Field) (vs : List ℕ) (i : ℕ) {c : ℕ} → c ≡ announced f (take i vs) → length vs ≤ i → c ≡ announced f vs
+counted_all f vs i e h = e ∙ ap (announced f) (take_all i vs h)
 
 -- bare fields announce none
 module _ (f : Field) (free : bare f ≡ true) where
@@ -274,16 +262,9 @@ module _ (f : Field) (free : bare f ≡ true) where
       go ByteValue b = refl
       go Coordinate b = refl
 
-  none_announced : (vs : List ℕ) → 0 ≡ announced f vs
+  pub none_announced : (vs : List ℕ) → 0 ≡ announced f vs
   none_announced [] = refl
   none_announced (v ∷ vs) = rw (← no_more v, ← none_announced vs) refl
-
-  pub bare_judges : (w : ℕ) (vs : List ℕ) (good : Bool) → good ≡ all_fields f w vs → Judges f w vs good 0
-  bare_judges w vs good e = record { judged = e; counted = go good }
-    where
-      go : (c : Bool) → 0 ≡ pick c (announced f vs) 0
-      go true = none_announced vs
-      go false = refl
 
 -- what is not bare is not signed
 pub not_bare : (f : Field) → bare f ≡ false → signed f ≡ false
@@ -298,50 +279,46 @@ not_bare Coordinate b = clash cc
 abbrev pub waits : Order → List ℕ → ℕ → ℕ → ℕ → State
 waits o u byte held waiting = lay o (mk u (8 * byte) 0) (dig o held waiting)
 
-pub record Gathering (o : Order) (w : ℕ) (t : List ℕ) (st : State) (k n : ℕ) (u : List ℕ) (byte held waiting i : ℕ) : Type 0 where
-  pub within : i ≤ n
+pub record Gathering (o : Order) (w : ℕ) (vs : List ℕ) (st : State) (u : List ℕ) (byte held waiting i : ℕ) : Type 0 where
   pub small : waiting < 2 ^ held
   pub low : 8 * byte + held ≤ limit + 32 * i
-  pub rest : lay o st (dig_all o w (take n (drop k t))) ≡ lay o (waits o u byte held waiting) (dig_all o w (behind t k n i))
+  pub rest : lay o st (dig_all o w vs) ≡ lay o (waits o u byte held waiting) (dig_all o w (drop i vs))
 
-pub gathering_start : (o : Order) (w : ℕ) (t u : List ℕ) (p a k n : ℕ) → Holds p a → p ≤ limit → Gathering o w t (waits o u (p / 8) (p % 8) a) k n u (p / 8) (p % 8) a 0
-gathering_start o w t u p a k n holds low = record {
-  within = omega arith;
+pub gathering_start : (o : Order) (w : ℕ) (vs u : List ℕ) (p a : ℕ) → Holds p a → p ≤ limit → Gathering o w vs (waits o u (p / 8) (p % 8) a) u (p / 8) (p % 8) a 0
+gathering_start o w vs u p a holds low = record {
   small = holds;
   low = omega arith;
-  rest = ap (λ (vs : List ℕ). lay o (waits o u (p / 8) (p % 8) a) (dig_all o w vs)) (behind_none t k n);
+  rest = refl;
 }
 
-module _ {o : Order} {w : ℕ} {t : List ℕ} {st : State} {k n : ℕ} {u : List ℕ} {byte held x i : ℕ} (g : Gathering o w t st k n u byte held x i) where
+module _ {o : Order} {w : ℕ} {vs : List ℕ} {st : State} {u : List ℕ} {byte held x i : ℕ} (g : Gathering o w vs st u byte held x i) where
   -- a field more waits; m is 2 ^ w
-  pub gathering_next : {m y : ℕ} → i < n → n ≤ length t - k → w ≤ 32 → m ≡ 2 ^ w → y ≡ glue o held w x (get_or t (k + i) 0 % m) → y < 2 ^ (held + w) → Gathering o w t st k n u byte (held + w) y (i + 1)
+  pub gathering_next : {m y : ℕ} → i < length vs → w ≤ 32 → m ≡ 2 ^ w → y ≡ glue o held w x (get_or vs i 0 % m) → y < 2 ^ (held + w) → Gathering o w vs st u byte (held + w) y (i + 1)
   unfolding dig_all
-  gathering_next {m} {y} more inside few is glued below = record {
-    within = omega arith;
+  gathering_next {m} {y} more few is glued below = record {
     small = below;
     low = omega (arith, g.low);
     rest =
         g.rest
-        ∙ ap (λ (vs : List ℕ). lay o (waits o u byte held x) (dig_all o w vs)) (behind_more t k n i more inside)
-        ∙ ap (λ (z : ℕ). lay o (waits o u byte held x) (dig o w (get_or t (k + i) 0 % z) ++ dig_all o w (behind t k n (i + 1)))) (sym is)
-        ∙ lay_append o (waits o u byte held x) (dig o w field) (dig_all o w (behind t k n (i + 1)))
-        ∙ ap (λ (z : State). lay o z (dig_all o w (behind t k n (i + 1)))) (sym (flow_on o (mk u (8 * byte) 0) held w y x field apart refl));
+        ∙ ap (λ (xs : List ℕ). lay o (waits o u byte held x) (dig_all o w xs)) (behind_more vs i more)
+        ∙ ap (λ (z : ℕ). lay o (waits o u byte held x) (dig o w (get_or vs i 0 % z) ++ dig_all o w (drop (i + 1) vs))) (sym is)
+        ∙ lay_append o (waits o u byte held x) (dig o w field) (dig_all o w (drop (i + 1) vs))
+        ∙ ap (λ (z : State). lay o z (dig_all o w (drop (i + 1) vs))) (sym (flow_on o (mk u (8 * byte) 0) held w y x field apart refl));
   }
     where
       field : ℕ
-      field = get_or t (k + i) 0 % m
+      field = get_or vs i 0 % m
 
       apart : Split o held w y x field
-      apart = record { glued = glued; first = g.small; last = rest_small w (get_or t (k + i) 0) m is }
+      apart = record { glued = glued; first = g.small; last = rest_small w (get_or vs i 0) m is }
 
   -- the first 32 bits are put as a field
   pub gathering_put : {a b : ℕ} {u' : List ℕ} → 32 ≤ held → Split o 32 (held - 32) x a b → mk u' (8 * byte + 32) 0 ≡ lay o (mk u (8 * byte) 0) (dig o 32 a)
-      → Gathering o w t st k n u' (byte + 4) (held - 32) b i
+      → Gathering o w vs st u' (byte + 4) (held - 32) b i
   gathering_put {a} {b} {u'} full apart d = record {
-    within = g.within;
     small = apart.last;
     low = omega (arith, g.low);
-    rest = g.rest ∙ ap (λ (z : State). lay o z (dig_all o w (behind t k n i))) put;
+    rest = g.rest ∙ ap (λ (z : State). lay o z (dig_all o w (drop i vs))) put;
   }
     where
       put : waits o u byte held x ≡ waits o u' (byte + 4) (held - 32) b
@@ -350,20 +327,21 @@ module _ {o : Order} {w : ℕ} {t : List ℕ} {st : State} {k n : ℕ} {u : List
           ap (λ (j : ℕ). lay o (mk u (8 * byte) 0) (dig o j x)) c
           ∙ flow_on o (mk u (8 * byte) 0) 32 (held - 32) x a b apart (sym d ∙ mk_eq refl (omega arith) refl)
 
-  pub gathering_over : n ≤ i → waits o u byte held x ≡ lay o st (dig_all o w (take n (drop k t)))
+  pub gathering_over : length vs ≤ i → waits o u byte held x ≡ lay o st (dig_all o w vs)
   unfolding dig_all
-  gathering_over h = sym (g.rest ∙ ap (λ (vs : List ℕ). lay o (waits o u byte held x) (dig_all o w vs)) (behind_all t k n i h) ∙ lay_none o (waits o u byte held x))
+  gathering_over h = sym (g.rest ∙ ap (λ (xs : List ℕ). lay o (waits o u byte held x) (dig_all o w xs)) (behind_all vs i h) ∙ lay_none o (waits o u byte held x))
 
 -- all of them: from a place p of the output that was there to where the bits that waited at the end were put
-pub gathered : (o : Order) (w : ℕ) (t out : List ℕ) (p a k n : ℕ) {u : List ℕ} {byte held x i q : ℕ} {z : State} → Gathering o w t (waits o out (p / 8) (p % 8) a) k n u byte held x i → n ≤ i → p / 8 < length out → Holds p a
-    → q ≡ 8 * byte → z ≡ lay o (mk u q 0) (dig o held x) → z ≡ lay o (mk out p a) (dig_all o w (take n (drop k t)))
-gathered o w t out p a k n {u} {byte} {held} {x} g over there holds e d =
+pub gathered : (o : Order) (w : ℕ) (vs out : List ℕ) (p a : ℕ) {u : List ℕ} {byte held x i q : ℕ} {z : State} → Gathering o w vs (waits o out (p / 8) (p % 8) a) u byte held x i → length vs ≤ i → p / 8 < length out → Holds p a
+    → q ≡ 8 * byte → z ≡ lay o (mk u q 0) (dig o held x) → z ≡ lay o (mk out p a) (dig_all o w vs)
+gathered o w vs out p a {u} {byte} {held} {x} g over there holds e d =
     d ∙ ap (λ (j : ℕ). lay o (mk u j 0) (dig o held x)) e ∙ gathering_over g over
-    ∙ ap (λ (st : State). lay o st (dig_all o w (take n (drop k t)))) (ap (λ (j : ℕ). lay o (mk out j 0) (dig o (p % 8) a)) (mul_comm 8 (p / 8)) ∙ flow_few o out (p / 8) (p % 8) a there (omega arith) holds (omega arith))
+    ∙ ap (λ (st : State). lay o st (dig_all o w vs)) (ap (λ (j : ℕ). lay o (mk out j 0) (dig o (p % 8) a)) (mul_comm 8 (p / 8)) ∙ flow_few o out (p / 8) (p % 8) a there (omega arith) holds (omega arith))
 
-pub put_none : (o : Order) (w : ℕ) (t out : List ℕ) (s : Sink) (k n : ℕ) → n ≡ 0 → at out s ≡ lay o (at out s) (dig_all o w (take n (drop k t)))
+pub put_none : (o : Order) (w : ℕ) (vs out : List ℕ) (s : Sink) → length vs ≡ 0 → at out s ≡ lay o (at out s) (dig_all o w vs)
 unfolding dig_all
-put_none o w t out s k n e = rw (e, lay_none o)
+put_none o w [] out s e = sym (lay_none o (at out s))
+put_none o w (v ∷ vs) out s e = absurd (omega arith)
 
 length_dig_all : (o : Order) (w : ℕ) (vs : List ℕ) → length (dig_all o w vs) ≡ length vs * w
 unfolding dig_all
@@ -371,17 +349,16 @@ length_dig_all o w [] = omega arith
 length_dig_all o w (v ∷ vs) = rw (length-append, length_dig o, length_dig_all o w vs) (omega (arith, suc-mul (length vs) w))
 
 -- past the end of the output
-pub put_past : (o : Order) (w : ℕ) (t out : List ℕ) (s : Sink) (k n : ℕ) {q : ℕ} → length out ≤ s.place.0 / 8 → (n ≡ 0 → ⊥) → 1 ≤ w → n ≤ length t - k → q ≡ s.place.0 + n * w
-    → mk out q 0 ≡ lay o (at out s) (dig_all o w (take n (drop k t)))
-put_past o w t out s k n r some low inside e =
-    let a : length (take n (drop k t)) ≡ n = length-take-le n (drop k t) (rw length-drop (omega arith)) in
-    let b : length (dig_all o w (take n (drop k t))) ≡ n * w = length_dig_all o w (take n (drop k t)) ∙ ap (λ (m : ℕ). m * w) a in
-    let z : 0 < n * w = mul-pos (omega (arith, some)) (omega arith) in
-    sym (lay_some_past o out s.place.0 s.part (dig_all o w (take n (drop k t))) r (omega arith) ∙ mk_eq refl (ap (λ (m : ℕ). s.place.0 + m) b ∙ sym e) refl)
+pub put_past : (o : Order) (w : ℕ) (vs out : List ℕ) (s : Sink) {q : ℕ} → length out ≤ s.place.0 / 8 → (length vs ≡ 0 → ⊥) → 1 ≤ w → q ≡ s.place.0 + length vs * w
+    → mk out q 0 ≡ lay o (at out s) (dig_all o w vs)
+put_past o w vs out s r some low e =
+    let b : length (dig_all o w vs) ≡ length vs * w = length_dig_all o w vs in
+    let z : 0 < length vs * w = mul-pos (omega (arith, some)) (omega arith) in
+    sym (lay_some_past o out s.place.0 s.part (dig_all o w vs) r (omega arith) ∙ mk_eq refl (ap (λ (m : ℕ). s.place.0 + m) b ∙ sym e) refl)
 
 -- ---- a run of fields: it is written where all of its numbers are fields
-pub fields_few : (o : Order) (f : Field) (w : ℕ) (t : List ℕ) (st : State) (k n : ℕ) {m : ℕ} → m ≡ min n (length t - k) → m < n → cannot ≡ ran o t st k (times n (field_of f w))
-fields_few o f w t st k n e h = sym (times_few o (field_of f w) (field_bits o f w) (field_is o f w) t st k n (omega arith))
+pub fields_few : (o : Order) (f : Field) (w : ℕ) (t : List ℕ) (st : State) (k n : ℕ) → length t - k < n → cannot ≡ ran o t st k (times n (field_of f w))
+fields_few o f w t st k n h = sym (times_few o (field_of f w) (field_bits o f w) (field_is o f w) t st k n h)
 
 fields_run : (o : Order) (f : Field) (w : ℕ) (t : List ℕ) → w ≤ 32 → (n k : ℕ) (st : State) → n ≤ length t - k
     → ran o t st k (times n (field_of f w)) ≡ pick (all_fields f w (take n (drop k t))) (ends (lay o st (dig_all o w (take n (drop k t)))) (k + n)) cannot
@@ -406,29 +383,15 @@ fields_run o f w t few (suc n) k st l = go (is_field f w (get_or t k 0)) refl (f
     go false e more =
         times_bad o (field_of f w) (field_bits o f w) (field_is o f w) t st k (suc n) (omega arith) (omega arith) (field_bits_lem o f w st.place (get_or t k 0) (λ z. few) e) ∙ rw (one, e)
 
-module _ (o : Order) (f : Field) (w : ℕ) (t : List ℕ) (st : State) (k n : ℕ) {good : Bool} {c : ℕ} (few : w ≤ 32) (inside : n ≤ length t - k) (j : Judges f w (take n (drop k t)) good c) where
-  pub fields_no : not good ≡ true → cannot ≡ ran o t st k (times n (field_of f w))
-  fields_no h = sym (fields_run o f w t few n k st inside ∙ rw (sym j.judged ∙ not-true good h))
+module _ (o : Order) (f : Field) (w : ℕ) (t : List ℕ) (st : State) (k n : ℕ) (few : w ≤ 32) (inside : n ≤ length t - k) {j : ℕ} (size : j ≡ n) where
+  pub fields_no : all_fields f w (take j (drop k t)) ≡ false → cannot ≡ ran o t st k (times n (field_of f w))
+  fields_no h = let e : all_fields f w (take n (drop k t)) ≡ false = rw size at h in sym (fields_run o f w t few n k st inside ∙ rw e)
 
-  -- all were put, and s is where the last one ends
-  module _ (u : List ℕ) (s : Sink) {R : Put} (h : not good ≡ false) (done : R ≡ finish s (k + n)) where
-    pub fields_done : at u s ≡ lay o st (dig_all o w (take n (drop k t))) → seen u R ≡ ran o t st k (times n (field_of f w))
-    fields_done d =
-        ap (seen u) done ∙ finish_ends u s (k + n) ∙ ap (λ (z : State). ends z (k + n)) d ∙ sym (fields_run o f w t few n k st inside ∙ rw (sym j.judged ∙ not-false good h))
-
-    pub fields_announce : Announces f t k n R c
-    fields_announce = subst (λ (x : Put). Announces f t k n x c) (sym done) (go (leb s.place.0 limit))
-      where
-        told : c ≡ announced f (take n (drop k t))
-        told = j.counted ∙ rw (not-false good h)
-
-        go : (b : Bool) → Announces f t k n (pick b (Done s (k + n)) Impossible) c
-        go true = let q : k + n - k ≡ n = omega arith in (rw q told, counted_few f t k n c told)
-        go false = tt
-
--- what a run that was written announces
-pub announces_done : (f : Field) (t : List ℕ) (k n m : ℕ) {R : Put} {s : Sink} {j : ℕ} → Announces f t k n R m → R ≡ Done s j → (m ≡ announced f (take (j - k) (drop k t))) × (m ≤ 6 * n)
-announces_done f t k n m a e = subst (λ (x : Put). Announces f t k n x m) e a
+  -- all were put, and st' is where the last one ends
+  pub fields_done : {st' : State} {x : Possible Seen} → all_fields f w (take j (drop k t)) ≡ true → st' ≡ lay o st (dig_all o w (take j (drop k t))) → x ≡ ends st' (k + n) → x ≡ ran o t st k (times n (field_of f w))
+  fields_done h d e =
+      let a : all_fields f w (take n (drop k t)) ≡ true = rw size at h in
+      e ∙ ap (λ (z : State). ends z (k + n)) (d ∙ ap (λ (m : ℕ). lay o st (dig_all o w (take m (drop k t)))) size) ∙ sym (fields_run o f w t few n k st inside ∙ rw a)
 
 -- ---- a number that is spelt one less, in n bits
 abbrev pub less_one : Order → ℕ → ℕ → ℕ → Possible (List Bool)
@@ -459,24 +422,9 @@ pub dash_length_is : (o : Order) (ns : List ℕ) (p : ℕ) → write_item o Item
 unfolding write_item
 dash_length_is o ns p = refl
 
--- ---- a width, and n fields of it
-module _ (o : Order) (f : Field) (t : List ℕ) (st : State) (k n : ℕ) (u : List ℕ) (R : Put) (first : seen u R ≡ ran o t st k (item Item.width)) where
-  pub scaled_stop : R ≡ Impossible → ran o t st k (item Item.width ▹ λ w. times n (field_of f (the w))) ≡ cannot
-  scaled_stop e = then_stop o t st k (item Item.width) (λ w. times n (field_of f (the w))) u R first e
-
-  module _ (s : Sink) (j : ℕ) (e : R ≡ Done s j) where
-    at_width : OneDone o (item Item.width) (less_one o 5) (less_is o 5 Item.width (width_is o)) t st k j
-    at_width = one_done o (item Item.width) (less_one o 5) (less_is o 5 Item.width (width_is o)) t st k (at u s) j (sym first ∙ ap (seen u) e)
-
-    pub width_range : (k < length t) × (1 ≤ get_or t k 0) × (get_or t k 0 ≤ 32)
-    width_range = (at_width.inside, (go (leb 1 (get_or t k 0)) refl (leb (get_or t k 0) 32) refl).0, (go (leb 1 (get_or t k 0)) refl (leb (get_or t k 0) 32) refl).1)
-      where
-        go : (a : Bool) → leb 1 (get_or t k 0) ≡ a → (b : Bool) → leb (get_or t k 0) 32 ≡ b → (1 ≤ get_or t k 0) × (get_or t k 0 ≤ 32)
-        go false p b q = absurd (at_width.spells (less_zero o 5 st.place (get_or t k 0) (omega (arith, leb-false 1 (get_or t k 0) p))))
-        go true p false q = absurd (at_width.spells (less_large o 5 st.place (get_or t k 0) refl (λ z. omega (arith, leb-false (get_or t k 0) 32 q)) (omega (arith, leb-false (get_or t k 0) 32 q))))
-        go true p true q = (leb-true 1 (get_or t k 0) p, leb-true (get_or t k 0) 32 q)
-
-    pub scaled_done : ran o t st k (item Item.width ▹ λ w. times n (field_of f (the w))) ≡ ran o t (at u s) j (times n (field_of f (get_or t k 0)))
-    scaled_done =
-        then_done o t st k (item Item.width) (λ w. times n (field_of f (the w))) u R first s j e
-        ∙ ap (λ (w : ℕ). ran o t (at u s) j (times n (field_of f w))) (the_one t k j at_width.next at_width.inside)
+-- it was put, and st' is where it ends; m is 2 ^ n
+pub less_done : (o : Order) (n : ℕ) (i : Item) (is : (ns : List ℕ) (p : ℕ) → write_item o i ns p ≡ single (undo suc pred (spell_ub o n)) ns) (t : List ℕ) (st : State) (k : ℕ) {v m : ℕ} {st' : State}
+    → k < length t → v ≡ get_or t k 0 → m ≡ 2 ^ n → (v ≡ 0 → ⊥) → v - 1 < m → st' ≡ lay o st (dig o n (v - 1)) → ran o t st k (item i) ≡ ends st' (k + 1)
+less_done o n i is t st k {v} {m} {st'} there same e z h d =
+    one_bits o (item i) (less_one o n) (less_is o n i is) t st k there
+    (laid_in o st (less_one o n st.place (get_or t k 0)) (less_in o n st.place (get_or t k 0) e (λ q. z (same ∙ q)) (omega (arith, same, h))) (d ∙ ap (λ (x : ℕ). lay o st (dig o n (x - 1))) same))

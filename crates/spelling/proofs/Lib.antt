@@ -1,4 +1,5 @@
 pub mod RunLaws
+pub mod WriteLaws
 pub mod NumberLaws
 pub mod FieldLaws
 pub mod TextLaws

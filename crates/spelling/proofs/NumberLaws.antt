@@ -1,11 +1,12 @@
 -- The spellings of one number as the code has them, and the items of one number.
 use Rattle.std.proofs.Common.{◌≡◌, ℕ, zero, suc, ◌+◌, ◌-◌, ◌*◌, ◌/◌, ◌%◌, ◌^◌, ◌<◌, ◌≤◌, Bool, true, false, eqb, ltb, leb, List, [], ◌∷◌, length, get_or, set, sym, refl, ap, ◌∙◌, subst, mul_assoc, pow-suc, arith, le-ltb, lt-ltb, eq-eqb, ne_eqb, le-leb, leb-true}
+use Rattle.std.specs.Prelude.{Err}
 use native.Mathlib.Nat.{pow-zero}
 use lib.Seq.{set_out}
 use borrow.Author.Tests.{lt-leb}
 use Rattle.format.specs.Tests.{pick, ◌and◌, ◌or◌}
 use Rattle.format.specs.Bits.{Order}
-use Rattle.format.specs.Formats.{Format, ◌▹◌, the}
+use Rattle.format.specs.Formats.{the}
 use Rattle.format.specs.Items.{skipped}
 use Rattle.format.specs.Possible.{Possible, this, cannot}
 use Rattle.format.specs.WritingItems.{dig, before, put, single, write_item, spell_ub, spell_var, spell_i32, spell_le}
@@ -14,14 +15,12 @@ use Rattle.items.specs.Kinds.{format_of, range_fault}
 use Rattle.items.specs.declared.Item.{Item}
 use Rattle.items.specs.declared.Item.TheVariants.{U32, I32, Time, Float, Uint16, Byte, Enum, BlendMode, Count}
 use Rattle.format.proofs.Absurd.{clash}
-use Rattle.sink.specs.Laying.{State, mk, at, lay, Skipped}
-use Rattle.sink.specs.declared.Sink.{Sink}
+use Rattle.sink.specs.Laying.{State, mk, lay, Skipped}
 use Rattle.sink.proofs.LayingLaws.{lay_byte, lay_none}
-use Rattle.spelling.specs.declared.Put.{Put}
-use Rattle.spelling.specs.declared.Put.TheVariants.{Done, Impossible}
-use Rattle.spelling.specs.Writing.{bits_over, Seen, here, seen, ran}
+use Rattle.sink.specs.declared.Impossible.{Impossible}
+use Rattle.spelling.specs.Writing.{bits_over, here, ran}
 use Rattle.spelling.specs.Spellings.{spelling_of, spelled_to, four_bytes}
-use Rattle.spelling.proofs.RunLaws.{then_stop, then_done, laid_before, laid_in, laid_no, one_done, OneDone, the_one}
+use Rattle.spelling.proofs.RunLaws.{laid_before, laid_in, laid_no, one_done, OneDone}
 
 -- ---- a byte
 pub byte_in : (o : Order) (out : List ℕ) (i p v : ℕ) {u : List ℕ} → p ≡ 8 * i → v ≤ 255 → u ≡ set out i v → this (mk u (p + 8) 0) ≡ bits_over o (mk out p 0) (spell_ub o 8 v)
@@ -52,11 +51,11 @@ var_spelt o c (suc k) v h e = go (ltb v 128) e (var_spelt o c k (v / 128) less)
     go false q less-so = less-so (step (spell_var o c (v / 128) k) q)
 
 -- so has every time
-pub time_put : (o : Order) (st : State) (u : List ℕ) (p v : ℕ) → v < 2 ^ 64 → spelled_to u p ≡ bits_over o st (spell_var o 1 v 9) → p ≡ 0 → ⊥
-time_put o st u p v h e z = go (spell_var o 1 v 9) refl
+pub time_put : (o : Order) (st : State) (u : List ℕ) (v : ℕ) {e : Impossible} → v < 2 ^ 64 → spelled_to u (Err e) ≡ bits_over o st (spell_var o 1 v 9) → ⊥
+time_put o st u v h e = go (spell_var o 1 v 9) refl
   where
     go : (x : Possible (List Bool)) → spell_var o 1 v 9 ≡ x → ⊥
-    go (this bs) q = let m : cannot ≡ this (lay o st bs) = sym (rw (eq-eqb p 0 z)) ∙ e ∙ ap (bits_over o st) q in clash cc
+    go (this bs) q = let m : cannot ≡ this (lay o st bs) = e ∙ ap (bits_over o st) q in clash cc
     go cannot q = var_spelt o 1 9 v (omega arith) q
 
 -- ---- a Float
@@ -130,10 +129,6 @@ module _ (o : Order) (out : List ℕ) (i p top v : ℕ) (e : p ≡ 8 * i) where
       let q : suc k - 1 ≡ k = omega arith in
       rw (le-ltb v 128 l, q) (byte_then o out i p (128 + v % 128) (spell_var o top (v / 128) k) (omega arith) e d)
 
-  pub var_long : (k : ℕ) → top < 128 → k ≡ 0 → 128 ≤ v → cannot ≡ bits_over o (mk out p 0) (spell_var o top v k)
-  unfolding spell_var
-  var_long k t h l = rw (h, lt-leb v top (omega arith))
-
   pub var_over : (k : ℕ) → k ≡ 0 → top < v → cannot ≡ bits_over o (mk out p 0) (spell_var o top v k)
   unfolding spell_var
   var_over k h l = rw (h, lt-leb v top l)
@@ -142,6 +137,12 @@ module _ (o : Order) (out : List ℕ) (i p top v : ℕ) (e : p ≡ 8 * i) where
   unfolding spell_var
   var_end zero l h d = rw (le-leb v top (h refl)) (ap this (sym (lay_byte o out i v (omega arith) e d)))
   var_end (suc k) l h d = rw (lt-ltb v 128 l) (ap this (sym (lay_byte o out i v (omega arith) e d)))
+
+pub var_start : (o : Order) (out : List ℕ) (a top v k : ℕ) → bits_over o (mk out (8 * a) 0) (spell_var o top v k) ≡ bits_over o (mk out (8 * (a + 0)) 0) (spell_var o top v (k - 0))
+var_start o out a top v k = let e : a + 0 ≡ a = omega arith in let d : k - 0 ≡ k = omega arith in rw (e, d)
+
+pub var_last : (o : Order) (out : List ℕ) (a top v k i : ℕ) → i ≡ k → bits_over o (mk out (8 * (a + k)) 0) (spell_var o top v 0) ≡ bits_over o (mk out (8 * (a + i)) 0) (spell_var o top v (k - i))
+var_last o out a top v k i e = let d : k - k ≡ 0 = omega arith in rw (e, d)
 
 -- ---- I32
 var_none : (o : Order) (d : ℕ) → 4294967296 ≤ d → spell_var o 15 d 4 ≡ cannot
@@ -250,26 +251,3 @@ count_done o lo t st st' k j e = (d.next, d.inside, (go (leb lo (get_or t k 0)) 
     go false p b q = absurd (d.spells (rw p))
     go true p false q = absurd (d.spells (rw (p, q)))
     go true p true q = (leb-true lo (get_or t k 0) p, leb-true (get_or t k 0) 4096 q)
-
--- ---- a count, and what follows it
-module _ (o : Order) (lo : ℕ) (g : ℕ → Format) (t : List ℕ) (st : State) (k : ℕ) (u : List ℕ) (R : Put) (first : seen u R ≡ ran o t st k (format_of (Count lo))) where
-  pub counted_stop : R ≡ Impossible → seen u R ≡ ran o t st k (format_of (Count lo) ▹ λ n. g (the n))
-  counted_stop e = ap (seen u) e ∙ sym (then_stop o t st k (format_of (Count lo)) (λ n. g (the n)) u R first e)
-
-  module _ (s : Sink) (j : ℕ) (e : R ≡ Done s j) where
-    done : (j ≡ k + 1) × (k < length t) × (lo ≤ get_or t k 0) × (get_or t k 0 ≤ 4096)
-    done = count_done o lo t st (at u s) k j (sym first ∙ ap (seen u) e)
-
-    pub counted_inside : k < length t
-    counted_inside = done.1
-
-    pub counted_most : get_or t k 0 ≤ 4096
-    counted_most = done.3
-
-    pub counted_done : ran o t st k (format_of (Count lo) ▹ λ n. g (the n)) ≡ ran o t (at u s) j (g (get_or t k 0))
-    counted_done =
-        then_done o t st k (format_of (Count lo)) (λ n. g (the n)) u R first s j e
-        ∙ ap (λ (n : ℕ). ran o t (at u s) j (g n)) (the_one t k j done.0 done.1)
-
-    pub counted_on : {x : Possible Seen} → x ≡ ran o t (at u s) j (g (get_or t k 0)) → x ≡ ran o t st k (format_of (Count lo) ▹ λ n. g (the n))
-    counted_on d = d ∙ sym counted_done

@@ -12,14 +12,9 @@ use Rattle.format.specs.WritingFormats.{adjoin, onward, unrun}
 use Rattle.format.proofs.BitLaws.{length_dig}
 use Rattle.format.proofs.ItemLaws.{round_trip}
 use Rattle.format.proofs.Absurd.{clash}
-use Rattle.sink.specs.Laying.{State, at, lay, Holds, Skipped}
-use Rattle.sink.specs.declared.Sink.{Sink}
+use Rattle.sink.specs.Laying.{State, lay, Holds, Skipped}
 use Rattle.sink.proofs.LayingLaws.{lay_append, lay_none, lay_place, lay_ok}
-use Rattle.spelling.specs.declared.Put.{Put}
-use Rattle.spelling.specs.declared.Put.TheVariants.{Done, Impossible}
-use Rattle.spelling.specs.declared.Spelt.{Spelt}
-use Rattle.spelling.specs.declared.Spelt.TheVariants.{In}
-use Rattle.spelling.specs.Writing.{bits_over, got, Seen, here, seen, ends, written_over, ran, limit, Fine, finish, OnByte}
+use Rattle.spelling.specs.Writing.{bits_over, Seen, here, ends, written_over, ran, limit, OnByte}
 
 -- ---- where a format ends
 pub ends_in : (st : State) (k : ℕ) → st.place ≤ limit → ends st k ≡ this (here st k)
@@ -29,14 +24,6 @@ ends_in st k h = rw (le-leb _ _ h)
 pub ends_out : (st : State) (k : ℕ) → limit < st.place → ends st k ≡ cannot
 unfolding ends
 ends_out st k h = rw (lt-leb _ _ h)
-
-pub finish_ends : (out : List ℕ) (s : Sink) (k : ℕ) → seen out (finish s k) ≡ ends (at out s) k
-unfolding ends
-finish_ends out s k = go (leb s.place.0 limit)
-  where
-    go : (c : Bool) → seen out (pick c (Done s k) Impossible) ≡ pick c (this (here (at out s) k)) cannot
-    go true = refl
-    go false = refl
 
 -- ---- the values used, and those left
 pub parts : (o : Order) (f : Format) (ns : List ℕ) (p : ℕ) (xs ys : List ℕ) (bs : List Bool) → unrun o f ns p ≡ this (wrote xs bs ys) → ns ≡ xs ++ ys
@@ -81,21 +68,6 @@ pub ran_nothing : (o : Order) (t : List ℕ) (st : State) (k : ℕ) → st.place
 unfolding ran unrun written_over
 ran_nothing o t st k h = rw (lay_none o, add-zero) (ends_in st k h)
 
--- ---- one format and then another: R is the first one's answer, u the output that it left
-module _ (o : Order) (t : List ℕ) (st : State) (k : ℕ) (f : Format) (g : List ℕ → Format) (u : List ℕ) (R : Put) (first : seen u R ≡ ran o t st k f) where
-  pub then_done : (s : Sink) (j : ℕ) → R ≡ Done s j → ran o t st k (f ▹ g) ≡ ran o t (at u s) j (g (take (j - k) (drop k t)))
-  then_done s j e = ran_then o t st k f g ∙ ap (resume o t k g) (sym first ∙ ap (seen u) e)
-
-  pub then_stop : R ≡ Impossible → ran o t st k (f ▹ g) ≡ cannot
-  then_stop e = ran_then o t st k f g ∙ ap (resume o t k g) (sym first ∙ ap (seen u) e)
-
-  -- the same as the code has it: x is what the second leaves
-  pub then_on : (s : Sink) (j : ℕ) {x : Possible Seen} → R ≡ Done s j → x ≡ ran o t (at u s) j (g (take (j - k) (drop k t))) → x ≡ ran o t st k (f ▹ g)
-  then_on s j e d = d ∙ sym (then_done s j e)
-
-  pub then_off : R ≡ Impossible → seen u R ≡ ran o t st k (f ▹ g)
-  then_off e = ap (seen u) e ∙ sym (then_stop e)
-
 -- ---- n in turn
 times_pred : (f : Format) (n : ℕ) → 0 < n → times n f ≡ (f ▹ λ xs. times (n - 1) f)
 unfolding times
@@ -107,52 +79,12 @@ pub times_end_lem : (o : Order) (t : List ℕ) (st : State) (k : ℕ) (f : Forma
 unfolding ran unrun written_over times
 times_end_lem o t st k f n e = rw (e, lay_none o, add-zero)
 
--- ---- what was written leaves a sink to go on with
-pub ran_fine : (o : Order) (t out : List ℕ) (s : Sink) (k : ℕ) (f : Format) (u : List ℕ) (R : Put) → Fine s → seen u R ≡ ran o t (at out s) k f
-    → (s' : Sink) (j : ℕ) → R ≡ Done s' j → Fine s'
-unfolding ran written_over ends
-ran_fine o t out s k f u R fine e s' j d = go (unrun o f (drop k t) s.place.0) (sym e ∙ ap (seen u) d)
-  where
-    out_of : (bs : List Bool) (i : ℕ) (c : Bool) → leb (lay o (at out s) bs).place limit ≡ c → pick c (this (here (lay o (at out s) bs) i)) cannot ≡ this (here (at u s') j) → Fine s'
-    out_of bs i true q h =
-        let z : lay o (at out s) bs ≡ at u s' = cc in
-        (subst (λ (x : State). Holds x.place x.part) z (lay_ok o (at out s) bs fine.0), subst (λ (x : State). x.place ≤ limit) z (leb-true (lay o (at out s) bs).place limit q))
-    out_of bs i false q h = clash cc
-
-    go : (w : Possible Written) → written_over o (at out s) k w ≡ this (here (at u s') j) → Fine s'
-    go cannot h = clash cc
-    go (this (wrote xs bs ys)) h = out_of bs (k + length xs) (leb (lay o (at out s) bs).place limit) refl h
-
--- ---- a loop that writes the format f part by part: of it g is to come
-pub record Going (o : Order) (t out : List ℕ) (s : Sink) (k : ℕ) (f : Format) (u : List ℕ) (cur : Sink) (j : ℕ) (g : Format) : Type 0 where
-  pub size : length u ≡ length out
-  pub fine : Fine cur
-  pub rest : ran o t (at out s) k f ≡ ran o t (at u cur) j g
-
-pub going_none : (o : Order) (t out : List ℕ) (s : Sink) (k : ℕ) (f : Format) → Fine s → Going o t out s k f out s k f
-going_none o t out s k f fine = record { size = refl; fine = fine; rest = refl }
-
 pub times_more : (f : Format) (n : ℕ) → 0 < n → times n f ≡ f ▸ times (n - 1) f
 times_more f n h = times_pred f n h
 
 pub times_over : (f : Format) (n : ℕ) → n ≡ 0 → times n f ≡ nothing
 unfolding times
 times_over f n e = rw e
-
-module _ {o : Order} {t out : List ℕ} {s : Sink} {k : ℕ} {f : Format} {u : List ℕ} {cur : Sink} {j : ℕ} {g : Format} (going : Going o t out s k f u cur j g) where
-  module _ (part rest : Format) (is : g ≡ part ▸ rest) (u' : List ℕ) (R : Put) (first : seen u' R ≡ ran o t (at u cur) j part) where
-    pub going_stop : R ≡ Impossible → seen u' R ≡ ran o t (at out s) k f
-    going_stop e = ap (seen u') e ∙ sym (going.rest ∙ ap (ran o t (at u cur) j) is ∙ then_stop o t (at u cur) j part (λ xs. rest) u' R first e)
-
-    pub going_next : length u' ≡ length u → (s' : Sink) (i : ℕ) → R ≡ Done s' i → Going o t out s k f u' s' i rest
-    going_next size s' i e = record {
-      size = size ∙ going.size;
-      fine = ran_fine o t u cur j part u' R going.fine first s' i e;
-      rest = going.rest ∙ ap (ran o t (at u cur) j) is ∙ then_done o t (at u cur) j part (λ xs. rest) u' R first s' i e;
-    }
-
-  pub going_over : g ≡ nothing → this (here (at u cur) j) ≡ ran o t (at out s) k f
-  going_over e = sym (going.rest ∙ ap (ran o t (at u cur) j) e ∙ ran_nothing o t (at u cur) j going.fine.1)
 
 -- ---- one number: g p v are the bits of v from place p on
 abbrev pub bits_end : ℕ → Possible State → Possible Seen
@@ -222,14 +154,6 @@ module _ (o : Order) (f : Format) (g : ℕ → ℕ → Possible (List Bool)) (is
       go : (b : Possible (List Bool)) → x ≡ bits_over o st b → written_over o st k (put (get_or t k 0 ∷ []) b (drop (suc k) t)) ≡ bits_end (k + 1) x
       go (this bs) q = ap (bits_end (k + 1)) (sym q)
       go cannot q = ap (bits_end (k + 1)) (sym q)
-
-  pub one_in : (u : List ℕ) (R : Spelt) → k < length t → got u R ≡ bits_over o st (g st.place (get_or t k 0)) → (s : Sink) → R ≡ In s → ran o t st k f ≡ ends (at u s) (k + 1)
-  unfolding written_over
-  one_in u R h e s d = one_some h ∙ go (g st.place (get_or t k 0)) (ap (got u) (sym d) ∙ e)
-    where
-      go : (b : Possible (List Bool)) → this (at u s) ≡ bits_over o st b → written_over o st k (put (get_or t k 0 ∷ []) b (drop (suc k) t)) ≡ ends (at u s) (k + 1)
-      go (this bs) q = let z : lay o st bs ≡ at u s = cc in ap (λ (x : State). ends x (k + 1)) z
-      go cannot q = clash cc
 
   -- it used up one number, which has a spelling
   pub record OneDone (j : ℕ) : Type 0 where
@@ -301,3 +225,7 @@ laid_in o st b e d = rw (e, d)
 
 pub laid_no : (o : Order) (st : State) (b : Possible (List Bool)) → b ≡ cannot → cannot ≡ bits_over o st b
 laid_no o st b e = rw e
+
+-- what was laid is a part to go on with
+pub laid_holds : (o : Order) (st : State) (bs : List Bool) {st' : State} → Holds st.place st.part → st' ≡ lay o st bs → Holds st'.place st'.part
+laid_holds o st bs h e = subst (λ (x : State). Holds x.place x.part) (sym e) (lay_ok o st bs h)

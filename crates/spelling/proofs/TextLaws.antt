@@ -1,5 +1,6 @@
 -- Strings, written.
 use Rattle.std.proofs.Common.{◌≡◌, ℕ, suc, ◌+◌, ◌-◌, ◌*◌, ◌<◌, ◌≤◌, Bool, true, false, leb, List, [], ◌∷◌, ◌++◌, length, get_or, take, drop, set, sym, refl, ap, ◌∙◌, ap₂, add-one, arith, length-append, length-drop, length-take-le, drop-cons, le-ltb, lt-ltb, eq-eqb, ne_eqb, le-leb, leb-true}
+use Rattle.std.specs.Prelude.{Result, Ok, Err}
 use lib.Seq.{drop-length}
 use borrow.Author.Tests.{lt-leb}
 use Rattle.format.specs.Tests.{pick}
@@ -10,43 +11,43 @@ use Rattle.format.specs.WritingItems.{dig, before, put, take_text, spell_txt, te
 use Rattle.format.specs.WritingFormats.{adjoin, unrun}
 use Rattle.format.proofs.BitLaws.{length_dig}
 use Rattle.format.proofs.Absurd.{clash}
-use Rattle.sink.specs.Laying.{State, mk, at, lay, Skipped}
-use Rattle.sink.specs.declared.Sink.{Sink}
+use Rattle.sink.specs.declared.Impossible.{Impossible}
+use Rattle.sink.specs.Laying.{State, mk, lay, Skipped}
 use Rattle.sink.proofs.LayingLaws.{lay_append, lay_byte, lay_place}
-use Rattle.spelling.specs.declared.Spelt.{Spelt}
-use Rattle.spelling.specs.declared.Spelt.TheVariants.{In, No}
-use Rattle.spelling.specs.Writing.{bits_over, got, ends, written_over, ran}
+use Rattle.spelling.specs.Spellings.{spelled_to}
+use Rattle.spelling.specs.Writing.{bits_over, ends, written_over, ran}
 use Rattle.spelling.proofs.RunLaws.{ends_out}
 use Rattle.spelling.proofs.NumberLaws.{byte_then}
 
 -- ---- the bytes, one by one: i of them are put
-pub text_start : (o : Order) (out : List ℕ) (p : ℕ) (vs : List ℕ) → bits_over o (mk out p 0) (spell_txt o vs) ≡ bits_over o (mk out (p + 8 * 0) 0) (spell_txt o (drop 0 vs))
-text_start o out p vs = let e : p + 8 * 0 ≡ p = omega arith in rw e
+pub text_start : (o : Order) (out : List ℕ) (a : ℕ) (vs : List ℕ) → bits_over o (mk out (8 * a) 0) (spell_txt o vs) ≡ bits_over o (mk out (8 * (a + 0)) 0) (spell_txt o (drop 0 vs))
+text_start o out a vs = let e : a + 0 ≡ a = omega arith in rw e
 
-module _ (o : Order) (out : List ℕ) (start p : ℕ) (e : p ≡ 8 * start) (vs : List ℕ) (i : ℕ) where
+module _ (o : Order) (out : List ℕ) (a : ℕ) (vs : List ℕ) (i : ℕ) where
   module _ (l : i < length vs) where
-    pub text_zero : get_or vs i 0 ≡ 0 → bits_over o (mk out (p + 8 * i) 0) (spell_txt o (drop i vs)) ≡ cannot
+    pub text_zero : get_or vs i 0 ≡ 0 → bits_over o (mk out (8 * (a + i)) 0) (spell_txt o (drop i vs)) ≡ cannot
     unfolding spell_txt
     text_zero h = rw (drop-cons vs i 0 l, eq-eqb (get_or vs i 0) 0 h)
 
-    pub text_large : (get_or vs i 0 ≡ 0 → ⊥) → 255 < get_or vs i 0 → bits_over o (mk out (p + 8 * i) 0) (spell_txt o (drop i vs)) ≡ cannot
+    pub text_large : (get_or vs i 0 ≡ 0 → ⊥) → 255 < get_or vs i 0 → bits_over o (mk out (8 * (a + i)) 0) (spell_txt o (drop i vs)) ≡ cannot
     unfolding spell_txt
     text_large n h = rw (drop-cons vs i 0 l, ne_eqb (get_or vs i 0) 0 n, le-ltb (get_or vs i 0) 256 (omega arith))
 
-    pub text_next : {u : List ℕ} → (get_or vs i 0 ≡ 0 → ⊥) → get_or vs i 0 ≤ 255 → u ≡ set out (start + i) (get_or vs i 0)
-        → bits_over o (mk out (p + 8 * i) 0) (spell_txt o (drop i vs)) ≡ bits_over o (mk u (p + 8 * (i + 1)) 0) (spell_txt o (drop (i + 1) vs))
+    pub text_next : {u : List ℕ} → (get_or vs i 0 ≡ 0 → ⊥) → get_or vs i 0 ≤ 255 → u ≡ set out (a + i) (get_or vs i 0)
+        → bits_over o (mk out (8 * (a + i)) 0) (spell_txt o (drop i vs)) ≡ bits_over o (mk u (8 * (a + (i + 1))) 0) (spell_txt o (drop (i + 1) vs))
     unfolding spell_txt
     text_next {u} n h d =
-        let q : p + 8 * (i + 1) ≡ p + 8 * i + 8 = omega arith in
+        let q : 8 * (a + (i + 1)) ≡ 8 * (a + i) + 8 = omega arith in
         rw (q, drop-cons vs i 0 l, ne_eqb (get_or vs i 0) 0 n, lt-ltb (get_or vs i 0) 256 (omega arith), add-one)
-        (byte_then o out (start + i) (p + 8 * i) (get_or vs i 0) (spell_txt o (drop (suc i) vs)) (omega arith) (omega arith) d)
+        (byte_then o out (a + i) (8 * (a + i)) (get_or vs i 0) (spell_txt o (drop (suc i) vs)) (omega arith) refl d)
 
-  pub text_over_lem : {u : List ℕ} → length vs ≡ i → u ≡ set out (start + length vs) 0
-      → this (mk u (p + 8 * length vs + 8) 0) ≡ bits_over o (mk out (p + 8 * i) 0) (spell_txt o (drop i vs))
+  pub text_over_lem : {u : List ℕ} → length vs ≡ i → u ≡ set out (a + length vs) 0
+      → spelled_to u (Ok (a + length vs + 1)) ≡ bits_over o (mk out (8 * (a + i)) 0) (spell_txt o (drop i vs))
   unfolding spell_txt
   text_over_lem {u} n d =
-      rw (← n, drop-length)
-      (ap this (sym (lay_byte o out (start + length vs) 0 (omega arith) (omega arith) d)))
+      let q : 8 * (a + length vs + 1) ≡ 8 * (a + length vs) + 8 = omega arith in
+      rw (q, ← n, drop-length)
+      (ap this (sym (lay_byte o out (a + length vs) 0 (omega arith) refl d)))
 
 -- ---- the whole
 length_text : (o : Order) (xs : List ℕ) (bs : List Bool) → spell_txt o xs ≡ this bs → length bs ≡ 8 * suc (length xs)
@@ -112,34 +113,34 @@ module _ (o : Order) (t : List ℕ) (st : State) (k : ℕ) where
         go false e = some ∙ (let f : leb (get_or t k 0) (length (drop (suc k) t)) ≡ false = rw length-drop (let z : length t - suc k ≡ length t - (k + 1) = omega arith in rw z e) in rw f)
 
     module _ (from to : ℕ) (from_is : k + 1 ≡ from) (to_is : from + get_or t k 0 ≡ to) (fits : get_or t k 0 ≤ length t - from)
-        {u : List ℕ} {byte bit : ℕ} (skipped-to : Skipped o st u byte bit) (u' : List ℕ) (R : Spelt) (text : got u' R ≡ bits_over o (mk u bit 0) (spell_txt o (take (to - from) (drop from t)))) where
+        {u : List ℕ} {byte bit : ℕ} (skipped-to : Skipped o st u byte bit) (u' : List ℕ) (R : Result ℕ Impossible) (text : spelled_to u' R ≡ bits_over o (mk u (8 * byte) 0) (spell_txt o (take (to - from) (drop from t)))) where
       same : take (to - from) (drop from t) ≡ take n ns
       unfolding n ns
       same =
           let e : to - from ≡ get_or t k 0 = omega arith in
           rw (e, ← from_is, add-one)
 
-      laid_text : got u' R ≡ bits_over o (lay o st skip) (spell_txt o (take n ns))
+      laid_text : spelled_to u' R ≡ bits_over o (lay o st skip) (spell_txt o (take n ns))
       unfolding skip
-      laid_text = text ∙ ap₂ (λ (s : State) (xs : List ℕ). bits_over o s (spell_txt o xs)) skipped-to.laid same
+      laid_text = text ∙ ap (λ (p : ℕ). bits_over o (mk u p 0) (spell_txt o (take (to - from) (drop from t)))) (sym skipped-to.whole) ∙ ap₂ (λ (s : State) (xs : List ℕ). bits_over o s (spell_txt o xs)) skipped-to.laid same
 
-      pub string_no : R ≡ No → ran o t st k string ≡ cannot
+      pub string_no : {e : Impossible} → R ≡ Err e → ran o t st k string ≡ cannot
       unfolding written_over
-      string_no e = spelling (omega arith) ∙ go (spell_txt o (take n ns)) (ap (got u') (sym e) ∙ laid_text)
+      string_no e = spelling (omega arith) ∙ go (spell_txt o (take n ns)) (ap (spelled_to u') (sym e) ∙ laid_text)
         where
           go : (b : Possible (List Bool)) → cannot ≡ bits_over o (lay o st skip) b → written_over o st k (adjoin [] skip (put (n ∷ take n ns) b (drop n ns))) ≡ cannot
           go cannot q = refl
           go (this bs) q = clash cc
 
-      pub string_in : (s : Sink) → R ≡ In s → ran o t st k string ≡ ends (at u' s) to
+      pub string_in : {p : ℕ} → R ≡ Ok p → ran o t st k string ≡ ends (mk u' (8 * p) 0) to
       unfolding written_over n ns
-      string_in s e = spelling (omega arith) ∙ go (spell_txt o (take n ns)) (ap (got u') (sym e) ∙ laid_text)
+      string_in {p} e = spelling (omega arith) ∙ go (spell_txt o (take n ns)) (ap (spelled_to u') (sym e) ∙ laid_text)
         where
           index : k + suc (length (take n ns)) ≡ to
           index = omega (arith, length-take-le n ns (rw length-drop (omega arith)))
 
-          go : (b : Possible (List Bool)) → this (at u' s) ≡ bits_over o (lay o st skip) b → written_over o st k (adjoin [] skip (put (n ∷ take n ns) b (drop n ns))) ≡ ends (at u' s) to
+          go : (b : Possible (List Bool)) → this (mk u' (8 * p) 0) ≡ bits_over o (lay o st skip) b → written_over o st k (adjoin [] skip (put (n ∷ take n ns) b (drop n ns))) ≡ ends (mk u' (8 * p) 0) to
           go cannot q = clash cc
           go (this bs) q =
-              let z : lay o (lay o st skip) bs ≡ at u' s = cc in
+              let z : lay o (lay o st skip) bs ≡ mk u' (8 * p) 0 = cc in
               ap₂ ends (lay_append o st skip bs ∙ z) index

@@ -7,9 +7,7 @@ use Rattle.format.specs.Possible.{Possible, this, cannot}
 use Rattle.format.specs.WritingItems.{dig}
 use Rattle.sink.specs.Lain.{Lain, lain}
 use Rattle.sink.specs.Laying.{State, lay}
-use Rattle.spelling.specs.Writing.{Seen, here, Fine}
-use Rattle.spelling.specs.declared.Put.{Put}
-use Rattle.spelling.specs.declared.Put.TheVariants.{Done, Impossible}
+use Rattle.spelling.specs.Writing.{Seen, here}
 
 -- the state after the skip to a whole byte
 abbrev pub skipped_to : Order → State → State
@@ -19,8 +17,3 @@ skipped_to o st = lay o st (dig o (skipped st.place) 0)
 abbrev pub concluded : Order → ℕ → Possible Seen → Possible Lain
 concluded o n (this (here st k)) = pick (k == n) (this (lain (skipped_to o st).bytes ((skipped_to o st).place / 8))) cannot
 concluded o n cannot = cannot
-
--- a sink that code may go on with, if there is one
-abbrev pub FineAfter : Put → Type 0
-FineAfter (Done s k) = Fine s
-FineAfter Impossible = Unit {0}

@@ -1,9 +1,10 @@
 -- Runs of bit fields: the numbers that fields have, and their bits.
-use Rattle.std.specs.Prelude.{◌≡◌, ℕ, ◌%◌, ◌^◌, Bool, true, false, List, [], ◌∷◌, ◌++◌, ◌==◌, nat_lt}
+use Rattle.std.specs.Prelude.{◌≡◌, ℕ, ◌%◌, ◌^◌, Bool, true, false, List, [], ◌∷◌, ◌++◌, ◌==◌, nat_lt, Result, Ok, Err}
 use Rattle.format.specs.Tests.{pick}
 use Rattle.format.specs.Bits.{Order}
 use Rattle.format.specs.Items.{sign_extend}
 use Rattle.format.specs.WritingItems.{dig, unextend}
+use Rattle.sink.specs.declared.Impossible.{Impossible}
 use Rattle.table.specs.Fields.{allows, signed, announced}
 use Rattle.table.specs.declared.fields.Field.{Field}
 use Rattle.table.specs.declared.fields.Field.TheVariants.{Verb, Interpolation, SpatialFlag, Plain, ByteValue, Coordinate}
@@ -32,10 +33,10 @@ unfoldable pub all_fields : Field → ℕ → List ℕ → Bool
 all_fields f w [] = true
 all_fields f w (v ∷ vs) = pick (is_field f w v) (all_fields f w vs) false
 
--- numbers were judged: whether all are fields, and how many signed fields they announce if they are
-pub record Judges (f : Field) (w : ℕ) (vs : List ℕ) (good : Bool) (count : ℕ) : Type 0 where
-  pub judged : good ≡ all_fields f w vs
-  pub counted : count ≡ pick good (announced f vs) 0
+-- numbers were judged: all are fields, and announce so many signed fields; or one of them is none
+abbrev pub Judges : Field → ℕ → List ℕ → Result ℕ Impossible → Type 0
+Judges f w vs (Ok n) = (all_fields f w vs ≡ true) × (n ≡ announced f vs)
+Judges f w vs (Err e) = all_fields f w vs ≡ false
 
 -- the lowest w bits of each number
 unfoldable pub dig_all : Order → ℕ → List ℕ → List Bool

@@ -1,4 +1,4 @@
--- What the definitions' writing does to an output and a sink; and the code's answers, with the output that they leave, seen so.
+-- What the definitions' writing does to an output and a sink.
 -- What cannot be written leaves an output of which nothing is said.
 use Rattle.std.specs.Prelude.{◌≡◌, ℕ, ◌+◌, ◌*◌, ◌≤◌, Bool, List, length, drop, nat_le}
 use Rattle.format.specs.Tests.{pick}
@@ -7,29 +7,17 @@ use Rattle.format.specs.Formats.{Format}
 use Rattle.format.specs.Possible.{Possible, this, cannot}
 use Rattle.format.specs.WritingItems.{Written, wrote}
 use Rattle.format.specs.WritingFormats.{unrun}
-use Rattle.sink.specs.Laying.{State, at, lay, Holds}
+use Rattle.sink.specs.Laying.{State, lay, Holds}
 use Rattle.sink.specs.declared.Sink.{Sink}
-use Rattle.spelling.specs.declared.Put.{Put}
-use Rattle.spelling.specs.declared.Put.TheVariants.{Done, Impossible}
-use Rattle.spelling.specs.declared.Spelt.{Spelt}
-use Rattle.spelling.specs.declared.Spelt.TheVariants.{In, No}
 
 -- one number
 abbrev pub bits_over : Order → State → Possible (List Bool) → Possible State
 bits_over o st (this bs) = this (lay o st bs)
 bits_over o st cannot = cannot
 
-abbrev pub got : List ℕ → Spelt → Possible State
-got u (In s) = this (at u s)
-got u No = cannot
-
 -- some values: the state after them, and the index of the next one
 pub data Seen : Type 0 where
   here : State → ℕ → Seen
-
-abbrev pub seen : List ℕ → Put → Possible Seen
-seen u (Done s k) = this (here (at u s) k)
-seen u Impossible = cannot
 
 -- in bits: no file is longer
 abbrev pub limit : ℕ
@@ -49,9 +37,6 @@ ran o t st k f = written_over o st k (unrun o f (drop k t) st.place)
 -- a sink that code may go on with
 abbrev pub Fine : Sink → Type 0
 Fine s = Holds s.place.0 s.part × (s.place.0 ≤ limit)
-
-abbrev pub finish : Sink → ℕ → Put
-finish s k = pick (nat_le s.place.0 limit) (Done s k) Impossible
 
 -- a whole byte, in the two counts
 abbrev pub OnByte : ℕ → ℕ → Type 0

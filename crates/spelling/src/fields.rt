@@ -1,131 +1,97 @@
 // Runs of bit fields: verbs, coordinates, interpolations, keyframed Bools and bytes, easing.
-ghost use Rattle.std.specs.Prelude.{◌≡◌, ◌-◌, ◌/◌, ◌^◌, ◌<◌, ◌≤◌, true, false, length, take, drop};
+ghost use Rattle.std.specs.Prelude.{◌≡◌, ◌/◌, ◌^◌, ◌<◌, ◌≤◌, true, false, length};
 ghost use Rattle.format.specs.Formats.{item, Item, times, the, ◌▹◌};
 ghost use Rattle.bits.specs.Places.{order_of};
 ghost use Rattle.table.specs.Fields.{field_of, signed};
 ghost use Rattle.sink.specs.Laying.{at as under, lay};
-ghost use Rattle.spelling.specs.Writing.{seen, ran, Fine};
-ghost use Rattle.spelling.specs.Spellings.{Announces, WritesLessOne};
+ghost use Rattle.spelling.specs.Writing.{Fine};
+ghost use Rattle.spelling.specs.Writer.{Writes, Counts, Announces, WritesLessOne};
 ghost use Rattle.spelling.specs.Fields.{bare, all_fields, Judges, dig_all};
 
-use crate::{Put, ended};
+use crate::number_at;
+use crate::writer::Writer;
 use bits::{BitPlace, BytePlace, Order};
-use sink::Sink;
+use sink::{Impossible, Sink};
 use table::fields::Field;
 
-// A run, and how many signed fields its numbers announce.
-#[derive(Clone, Copy)]
-pub struct Announced {
-    pub put: Put,
-    pub count: usize,
-}
-
-// Whether numbers are fields, and how many signed fields they announce: none where one of them is no field.
-#[derive(Clone, Copy)]
-struct Judged {
-    good: bool,
-    count: usize,
-}
-
-// Are n numbers bare fields of w bits: plain ones, or coordinates? Nothing is asked of them but that their bits can have them. The sum wraps negative ones back, so that they are the least: 0 up to `size`.
-fn all_bare(kind: Field, width: usize, count: usize, values: &[u64], from: usize) -> bool
-    requires { (1 ≤ width) × (width ≤ 32) × (count ≤ length values.now - from) × (bare kind ≡ true) }
-    ensures { result ≡ all_fields kind width (take count (drop from values.now)) }
+// Are numbers bare fields of w bits: plain ones, or coordinates? Nothing is asked of them but that their bits can have them. The sum wraps negative ones back, so that they are the least: 0 up to `size`.
+fn all_bare(kind: Field, width: usize, numbers: &[u64]) -> bool
+    requires { (1 ≤ width) × (width ≤ 32) × (bare kind ≡ true) }
+    ensures { result ≡ all_fields kind width numbers.now }
 {
     let size = sink::power(width);
     let negatives = table::fields::negatives_of(kind, size);
-    let mut i = 0;
-    while i < count {
-        let value = values[from + i];
-        if size <= std::num::wrapping_add_u64(value, negatives) {
+    for value in numbers {
+        if size <= std::num::wrapping_add_u64(*value, negatives) {
             return false;
         }
-        i += 1;
     }
     true
 }
 
 // The same, and that they announce nothing.
-fn judge_bare(kind: Field, width: usize, count: usize, values: &[u64], from: usize) -> Judged
-    requires { (1 ≤ width) × (width ≤ 32) × (count ≤ length values.now - from) × (bare kind ≡ true) }
-    ensures { Judges kind width (take count (drop from values.now)) result.good result.count }
+fn judge_bare(kind: Field, width: usize, numbers: &[u64]) -> Result<usize, Impossible>
+    requires { (1 ≤ width) × (width ≤ 32) × (bare kind ≡ true) }
+    ensures { Judges kind width numbers.now result }
 {
-    let good = all_bare(kind, width, count, values, from);
-    Judged { good, count: 0 }
+    if all_bare(kind, width, numbers) {
+        Ok(0)
+    } else {
+        Err(Impossible)
+    }
 }
 
-// Are n numbers UB fields of w bits and a kind, and how many signed fields do they announce?
-fn judge_unsigned(kind: Field, width: usize, count: usize, values: &[u64], from: usize) -> Judged
-    requires { (width ≤ 32) × (count < 2 ^ 32) × (count ≤ length values.now - from) × (signed kind ≡ false) }
-    ensures { Judges kind width (take count (drop from values.now)) result.good result.count }
+// Are numbers UB fields of w bits and a kind, and how many signed fields do they announce?
+fn judge_unsigned(kind: Field, width: usize, numbers: &[u64]) -> Result<usize, Impossible>
+    requires { (width ≤ 32) × (length numbers.now < 2 ^ 32) × (signed kind ≡ false) }
+    ensures { Judges kind width numbers.now result }
 {
     let mut sum = 0;
-    let none = Judged {
-        good: false,
-        count: sum,
-    };
     let size = sink::power(width);
     let weights = table::fields::weights_of(kind);
-    let mut i = 0;
-    while i < count {
-        let value = values[from + i];
+    for number in numbers {
+        let value = *number;
         if size <= value {
-            return none;
+            return Err(Impossible);
         }
         if !table::fields::allowed(kind, value) {
-            return none;
+            return Err(Impossible);
         }
         sum += table::fields::weight(&weights, value);
-        i += 1;
     }
-    Judged {
-        good: true,
-        count: sum,
-    }
+    Ok(sum)
 }
 
 // The same of fields of any kind.
-fn judge(kind: Field, width: usize, count: usize, values: &[u64], from: usize) -> Judged
-    requires { (1 ≤ width) × (width ≤ 32) × (count < 2 ^ 32) × (count ≤ length values.now - from) }
-    ensures { Judges kind width (take count (drop from values.now)) result.good result.count }
+fn judge(kind: Field, width: usize, numbers: &[u64]) -> Result<usize, Impossible>
+    requires { (1 ≤ width) × (width ≤ 32) × (length numbers.now < 2 ^ 32) }
+    ensures { Judges kind width numbers.now result }
 {
     match kind {
-        Field::Plain => judge_bare(kind, width, count, values, from),
-        Field::Coordinate => judge_bare(kind, width, count, values, from),
-        Field::Verb => judge_unsigned(kind, width, count, values, from),
-        Field::Interpolation => judge_unsigned(kind, width, count, values, from),
-        Field::SpatialFlag => judge_unsigned(kind, width, count, values, from),
-        Field::ByteValue => judge_unsigned(kind, width, count, values, from),
+        Field::Plain | Field::Coordinate => judge_bare(kind, width, numbers),
+        Field::Verb | Field::Interpolation | Field::SpatialFlag | Field::ByteValue =>
+            judge_unsigned(kind, width, numbers),
     }
 }
 
-// The lowest w bits of n numbers, where there is a byte to put them to: bits are gathered, and 32 of them put at once.
-fn gather_fields(
-    order: Order,
-    width: usize,
-    count: usize,
-    out: &mut [u8],
-    sink: Sink,
-    values: &[u64],
-    from: usize,
-) -> Sink
-    requires { Fine sink × (1 ≤ width) × (width ≤ 32) × (count < 2 ^ 32) × (count ≤ length values.now - from) × (sink.place.0 / 8 < length out.old) }
-    ensures { under out.new result ≡ lay (order_of order) (under out.old sink) (dig_all (order_of order) width (take count (drop from values.now))) }
+// The lowest w bits of numbers, where there is a byte to put them to: bits are gathered, and 32 of them put at once.
+fn gather_fields(order: Order, width: usize, numbers: &[u64], out: &mut [u8], sink: Sink) -> Sink
+    requires { Fine sink × (1 ≤ width) × (width ≤ 32) × (length numbers.now < 2 ^ 32) × (sink.place.0 / 8 < length out.old) }
+    ensures { under out.new result ≡ lay (order_of order) (under out.old sink) (dig_all (order_of order) width numbers.now) }
 {
     let size = sink::power(width);
     let mut byte = sink.place.0 / 8;
     let mut held = sink.place.0 % 8;
     let mut waiting = sink.part;
-    let mut i = 0;
-    while i < count {
-        waiting = sink::glue(order, waiting, held, values[from + i] % size, width);
+    for value in numbers {
+        waiting = sink::glue(order, waiting, held, *value % size, width);
         held += width;
-        i += 1;
-        if 32 <= held {
+        let full = 32 <= held;
+        if full {
             held -= 32;
-            let parts = sink::split(order, waiting, 32, held);
-            sink::put_word(order, out, byte, parts.first);
-            waiting = parts.last;
+            let (word, rest) = sink::split(order, waiting, 32, held);
+            sink::put_word(order, out, byte, word);
+            waiting = rest;
             byte += 4;
         }
     }
@@ -134,18 +100,11 @@ fn gather_fields(
 }
 
 // The same for any output. Places only grow, so the last one alone is judged, by the caller.
-fn put_fields(
-    order: Order,
-    width: usize,
-    count: usize,
-    out: &mut [u8],
-    sink: Sink,
-    values: &[u64],
-    from: usize,
-) -> Sink
-    requires { Fine sink × (1 ≤ width) × (width ≤ 32) × (count < 2 ^ 32) × (count ≤ length values.now - from) }
-    ensures { under out.new result ≡ lay (order_of order) (under out.old sink) (dig_all (order_of order) width (take count (drop from values.now))) }
+fn put_fields(order: Order, width: usize, numbers: &[u64], out: &mut [u8], sink: Sink) -> Sink
+    requires { Fine sink × (1 ≤ width) × (width ≤ 32) × (length numbers.now < 2 ^ 32) }
+    ensures { under out.new result ≡ lay (order_of order) (under out.old sink) (dig_all (order_of order) width numbers.now) }
 {
+    let count = numbers.len();
     // Without a field what waits goes on waiting, past the end too.
     if count == 0 {
         return sink;
@@ -156,116 +115,73 @@ fn put_fields(
         let place = BitPlace(at + count * width);
         return Sink { place, part: 0 };
     }
-    gather_fields(order, width, count, out, sink, values, from)
+    gather_fields(order, width, numbers, out, sink)
 }
 
-// n fields of w bits: all are judged, and then put.
-pub fn write_fields(
-    order: Order,
-    kind: Field,
-    width: usize,
-    count: usize,
-    out: &mut [u8],
-    sink: Sink,
-    values: &[u64],
-    from: usize,
-) -> Announced
-    requires { Fine sink × (1 ≤ width) × (width ≤ 32) × (count < 2 ^ 32) }
-    ensures states { seen out.new result.put ≡ ran (order_of order) values.now (under out.old sink) from (times count (field_of kind width)) }
-    ensures counts { Announces kind values.now from count result.put result.count }
-{
-    let put = Put::Impossible;
-    let none = Announced { put, count: 0 };
-    if table::room_for(values.len(), from, count) < count {
-        return none;
+impl Writer<'_> {
+    // n fields of w bits: all are judged, and then put. How many signed fields they announce is the answer.
+    pub fn fields(&mut self, kind: Field, width: usize, count: usize) -> Result<usize, Impossible>
+        requires { (1 ≤ width) × (width ≤ 32) × (count < 2 ^ 32) }
+        ensures writes { Writes self.old self.new result (times count (field_of kind width)) }
+        ensures counts { Announces kind self.old self.new count result }
+    {
+        let values = self.values;
+        let from = self.index;
+        if values.len() - from < count {
+            return Err(Impossible);
+        }
+        let behind = from + count;
+        let numbers = &values[from..behind];
+        let announced = judge(kind, width, numbers)?;
+        let last = put_fields(self.order, width, numbers, self.out, self.sink);
+        self.go_on(last, behind)?;
+        Ok(announced)
     }
-    let judged = judge(kind, width, count, values, from);
-    if !judged.good {
-        return none;
-    }
-    let last = put_fields(order, width, count, out, sink, values, from);
-    let put = ended(last, from + count);
-    Announced {
-        put,
-        count: judged.count,
-    }
-}
 
-// A number from 1 to 2^n: one less than it, in n bits.
-fn write_less_one(
-    order: Order,
-    bits: usize,
-    out: &mut [u8],
-    sink: Sink,
-    values: &[u64],
-    from: usize,
-) -> Put
-    requires { Fine sink × (bits ≤ 32) }
-    ensures { WritesLessOne (order_of order) bits values.now (under out.old sink) from (seen out.new result) }
-{
-    if values.len() <= from {
-        return Put::Impossible;
+    // A number from 1 to 2^n: one less than it, in n bits. The number is the answer.
+    fn less_one(&mut self, bits: usize) -> Result<usize, Impossible>
+        requires { bits ≤ 32 }
+        ensures writes { WritesLessOne bits self.old self.new result }
+        ensures counts { Counts 1 (2 ^ bits) self.old self.new result }
+    {
+        let values = self.values;
+        let from = self.index;
+        let number = number_at(values, from)?;
+        if number == 0 {
+            return Err(Impossible);
+        }
+        let less = number - 1;
+        if sink::power(bits) <= less {
+            return Err(Impossible);
+        }
+        let next = sink::put_bits(self.order, self.out, self.sink, less, bits);
+        self.go_on(next, from + 1)?;
+        Ok(number as usize)
     }
-    let number = values[from];
-    if number == 0 {
-        return Put::Impossible;
+
+    // A width.
+    fn width(&mut self) -> Result<usize, Impossible>
+        ensures writes { Writes self.old self.new result (item Item.width) }
+        ensures counts { Counts 1 32 self.old self.new result }
+    {
+        self.less_one(5)
     }
-    let less = number - 1;
-    if sink::power(bits) <= less {
-        return Put::Impossible;
+
+    // The length of a list of dashes.
+    pub fn dash_length(&mut self) -> Result<usize, Impossible>
+        ensures writes { Writes self.old self.new result (item Item.dash_length) }
+        ensures counts { Counts 1 8 self.old self.new result }
+    {
+        self.less_one(3)
     }
-    let next = sink::put_bits(order, out, sink, less, bits);
-    ended(next, from + 1)
-}
 
-// A width.
-fn write_width(order: Order, out: &mut [u8], sink: Sink, values: &[u64], from: usize) -> Put
-    requires { Fine sink }
-    ensures { seen out.new result ≡ ran (order_of order) values.now (under out.old sink) from (item Item.width) }
-{
-    write_less_one(order, 5, out, sink, values, from)
-}
-
-// The length of a list of dashes.
-pub fn write_dash_length(
-    order: Order,
-    out: &mut [u8],
-    sink: Sink,
-    values: &[u64],
-    from: usize,
-) -> Put
-    requires { Fine sink }
-    ensures { seen out.new result ≡ ran (order_of order) values.now (under out.old sink) from (item Item.dash_length) }
-{
-    write_less_one(order, 3, out, sink, values, from)
-}
-
-// A width, and n fields of it.
-pub fn write_scaled(
-    order: Order,
-    kind: Field,
-    count: usize,
-    out: &mut [u8],
-    sink: Sink,
-    values: &[u64],
-    from: usize,
-) -> Put
-    requires { Fine sink × (count < 2 ^ 32) }
-    ensures { seen out.new result ≡ ran (order_of order) values.now (under out.old sink) from (item Item.width ▹ λ w. times count (field_of kind (the w))) }
-{
-    let put = write_width(order, out, sink, values, from);
-    let Put::Done(next, behind) = put else {
-        return Put::Impossible;
-    };
-    let fields = write_fields(
-        order,
-        kind,
-        values[from] as usize,
-        count,
-        out,
-        next,
-        values,
-        behind,
-    );
-    fields.put
+    // A width, and n fields of it.
+    pub fn scaled(&mut self, kind: Field, count: usize) -> Result<(), Impossible>
+        requires { count < 2 ^ 32 }
+        ensures writes { Writes self.old self.new result (item Item.width ▹ λ w. times count (field_of kind (the w))) }
+    {
+        let width = self.width()?;
+        self.fields(kind, width, count)?;
+        Ok(())
+    }
 }

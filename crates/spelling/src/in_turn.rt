@@ -1,77 +1,125 @@
-// Items of one kind in turn.
-ghost use Rattle.std.specs.Prelude.{◌≡◌, ◌<◌};
-ghost use Rattle.format.specs.Formats.{times};
+// Parts of one kind in turn.
+ghost use Rattle.std.specs.Prelude.{◌≡◌, ◌+◌, ◌-◌, ◌*◌, ◌<◌, ◌≤◌, length, IfOk};
+ghost use Rattle.format.specs.Formats.{Format, times};
+ghost use Rattle.format.specs.Items.{string};
 ghost use Rattle.items.specs.Kinds.{format_of};
 ghost use Rattle.items.specs.declared.Item.TheVariants.{Time};
-ghost use Rattle.bits.specs.Places.{order_of};
-ghost use Rattle.sink.specs.Laying.{at as under};
-ghost use Rattle.spelling.specs.Writing.{seen, ran, Fine};
+ghost use Rattle.bits.specs.Places.{InEither};
+ghost use Rattle.sink.specs.Laying.{mk};
+ghost use Rattle.spelling.specs.Spellings.{written_to};
+ghost use Rattle.spelling.specs.Writing.{ran};
+ghost use Rattle.spelling.specs.Writer.{Writes};
 
 use crate::numbers::spell_var;
-use crate::{Put, spell_next};
-use bits::{BytePlace, Order};
+use crate::writer::Writer;
+use crate::{on_byte, spell_next};
 use items::Item;
-use sink::Sink;
+use sink::Impossible;
 
-// n items: once on a whole byte, they stay on whole bytes.
-pub fn write_items(
-    order: Order,
+// What a writer can write, as its format.
+pub trait Part {
+    ghost format: { Self → Format };
+
+    fn write(&self, writer: &mut Writer) -> Result<(), Impossible>
+        ensures writes { Writes writer.old writer.new result (format self.now) };
+}
+
+// n such parts.
+pub fn write_all<P: Part>(part: &P, count: usize, writer: &mut Writer) -> Result<(), Impossible>
+    ensures writes { Writes writer.old writer.new result (times count (P.format part.now)) }
+{
+    for _ in 0..count {
+        part.write(writer)?;
+    }
+    Ok(())
+}
+
+// A String.
+pub struct Text;
+
+impl Part for Text {
+    ghost format = { λ _. string };
+
+    fn write(&self, writer: &mut Writer) -> Result<(), Impossible> {
+        writer.string()
+    }
+}
+
+// n items from a whole byte on: they stay on whole bytes.
+fn spell_items(
     kind: Item,
     count: usize,
     out: &mut [u8],
-    sink: Sink,
+    at: usize,
     values: &[u64],
     from: usize,
-) -> Put
-    requires { Fine sink }
-    ensures { seen out.new result ≡ ran (order_of order) values.now (under out.old sink) from (times count (format_of kind)) }
+) -> Result<usize, Impossible>
+    requires { (at ≤ 16777216) × (from ≤ length values.now) }
+    ensures writes { InEither (λ o. written_to out.new result (from + count) ≡ ran o values.now (mk out.old (8 * at) 0) from (times count (format_of kind))) }
+    ensures within { IfOk result (λ p. (p ≤ 16777216) × (from + count ≤ length values.now)) }
 {
-    if count == 0 {
-        return Put::Done(sink, from);
+    let mut byte = at;
+    for i in 0..count {
+        byte = spell_next(kind, out, byte, values, from + i)?;
     }
-    let start = sink::align(order, out, sink);
-    let mut byte = start.byte.0;
-    let mut index = from;
-    let mut left = count;
-    while 0 < left {
-        let next = spell_next(kind, out, byte, values, index);
-        if next == 0 {
-            return Put::Impossible;
-        }
-        byte = next;
-        index += 1;
-        left -= 1;
-    }
-    let place = bits::first_bit(BytePlace(byte));
-    Put::Done(Sink { place, part: 0 }, index)
+    Ok(byte)
 }
 
-// n times, one at least. Each number has a spelling, so that of each only the place behind it is judged: no file is longer.
-pub fn write_times(
-    order: Order,
+// n times. Each number has a spelling, so that of each only the place behind it is judged: no file is longer.
+// Stays: one loop with `spell_items` is no plainer, since their step would have to be handed in; apart, no number is asked for its kind and range.
+fn spell_times(
     count: usize,
     out: &mut [u8],
-    sink: Sink,
+    at: usize,
     values: &[u64],
     from: usize,
-) -> Put
-    requires { Fine sink × (0 < count) }
-    ensures { seen out.new result ≡ ran (order_of order) values.now (under out.old sink) from (times count (format_of Time)) }
+) -> Result<usize, Impossible>
+    requires { (at ≤ 16777216) × (from + count ≤ length values.now) }
+    ensures writes { InEither (λ o. written_to out.new result (from + count) ≡ ran o values.now (mk out.old (8 * at) 0) from (times count (format_of Time))) }
+    ensures within { IfOk result (λ p. p ≤ 16777216) }
 {
-    if table::room_for(values.len(), from, count) < count {
-        return Put::Impossible;
-    }
-    let start = sink::align(order, out, sink);
-    let mut byte = start.byte.0;
-    let mut i = 0;
-    while i < count {
-        let next = spell_var(out, byte, values[from + i], 9, 1);
+    let mut byte = at;
+    for i in 0..count {
+        let next = spell_var(out, byte, values[from + i], 9, 1)?;
         if 16777216 < next {
-            return Put::Impossible;
+            return Err(Impossible);
         }
         byte = next;
-        i += 1;
     }
-    let place = bits::first_bit(BytePlace(byte));
-    Put::Done(Sink { place, part: 0 }, from + count)
+    Ok(byte)
+}
+
+impl Writer<'_> {
+    // n items: once on a whole byte, they stay on whole bytes.
+    pub fn items(&mut self, kind: Item, count: usize) -> Result<(), Impossible>
+        ensures writes { Writes self.old self.new result (times count (format_of kind)) }
+    {
+        if count == 0 {
+            return Ok(());
+        }
+        let values = self.values;
+        let from = self.index;
+        let start = sink::align(self.order, self.out, self.sink);
+        let end = spell_items(kind, count, self.out, start.byte.0, values, from)?;
+        self.sink = on_byte(end);
+        self.index = from + count;
+        Ok(())
+    }
+
+    // n times, one at least.
+    pub fn times(&mut self, count: usize) -> Result<(), Impossible>
+        requires { 0 < count }
+        ensures writes { Writes self.old self.new result (times count (format_of Time)) }
+    {
+        let values = self.values;
+        let from = self.index;
+        if values.len() - from < count {
+            return Err(Impossible);
+        }
+        let start = sink::align(self.order, self.out, self.sink);
+        let end = spell_times(count, self.out, start.byte.0, values, from)?;
+        self.sink = on_byte(end);
+        self.index = from + count;
+        Ok(())
+    }
 }

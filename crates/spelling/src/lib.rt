@@ -1,131 +1,148 @@
-// The values of a tag, written as the items of a body: each function goes on from a sink and an index, and says that no file has the values where they cannot be written.
+// The values of a tag, written as the items of a body: each method of the writer goes on from where it stands, and says that no file has the values where they cannot be written.
 #![tactic(auto)]
 
-ghost use Rattle.std.specs.Prelude.{◌≡◌, ◌+◌, ◌*◌, ◌≤◌};
+ghost use Rattle.std.specs.Prelude.{◌≡◌, ◌+◌, ◌*◌, ◌^◌, ◌%◌, ◌<◌, ◌≤◌, length, IfOk};
 ghost use Rattle.items.specs.Kinds.{format_of};
+ghost use Rattle.items.specs.declared.Item.TheVariants.{Count};
+ghost use Rattle.format.specs.Bodies.{aligned};
 ghost use Rattle.format.specs.Items.{skipped};
+ghost use Rattle.format.specs.Possible.{this};
 ghost use Rattle.format.specs.WritingItems.{dig};
 ghost use Rattle.bits.specs.Places.{InEither, order_of};
 ghost use Rattle.sink.specs.Lain.{lain_as};
-ghost use Rattle.sink.specs.Laying.{mk, at as under, lay};
-ghost use Rattle.spelling.specs.Ends.{concluded, FineAfter};
-ghost use Rattle.spelling.specs.Spellings.{written_to};
-ghost use Rattle.spelling.specs.Writing.{seen, ran, finish, Fine};
+ghost use Rattle.sink.specs.Laying.{mk, at as under, lay, Holds};
+ghost use Rattle.spelling.specs.Ends.{concluded};
+ghost use Rattle.spelling.specs.Spellings.{Numbered, written_to};
+ghost use Rattle.spelling.specs.Writing.{here, ends, ran, limit, Fine};
+ghost use Rattle.spelling.specs.Writer.{state, seen_of, Onward, Writes, Counts, done};
 
 pub mod fields;
 pub mod in_turn;
 mod numbers;
 pub mod text;
+pub mod writer;
 
-use bits::{BitPlace, BytePlace, Order};
+use crate::writer::Writer;
+use bits::BytePlace;
 use items::Item;
-use sink::{Body, Sink};
+use sink::{Impossible, Sink};
 
-// The sink after a number; or the number has no spelling.
-#[derive(Clone, Copy)]
-pub enum Spelt {
-    In(Sink),
-    No,
-}
-
-// The sink after some values, and the index of the next one; or no file has them.
-#[derive(Clone, Copy)]
-pub enum Put {
-    Done(Sink, usize),
-    Impossible,
-}
-
-// The same answer, taken apart and made again: see `table::again`.
-pub fn again(put: Put) -> Put
-    ensures { result ≡ put }
+// The number at an index of the values.
+pub(crate) fn number_at(values: &[u64], index: usize) -> Result<u64, Impossible>
+    ensures { Numbered values.now index result }
 {
-    match put {
-        Put::Done(next, behind) => Put::Done(
-            Sink {
-                place: BitPlace(next.place.0),
-                part: next.part,
-            },
-            behind,
-        ),
-        Put::Impossible => Put::Impossible,
-    }
+    values.get(index).copied().ok_or(Impossible)
 }
 
-// No file is longer than 2^27 bits.
-pub(crate) fn ended(sink: Sink, behind: usize) -> Put
-    ensures { result ≡ finish sink behind }
+// A sink on a whole byte: nothing waits.
+pub fn on_byte(byte: usize) -> Sink
+    requires { byte ≤ 16777216 }
+    ensures { (result.place.0 ≡ 8 * byte) × (result.part ≡ 0) × Fine result }
 {
-    let place = sink.place.0;
-    if place <= 134217728 {
-        Put::Done(sink, behind)
-    } else {
-        Put::Impossible
+    Sink {
+        place: bits::first_bit(BytePlace(byte)),
+        part: 0,
     }
 }
 
-// One item in its range, from a whole byte on: the byte place behind it, or 0 where no file has it (see `numbers`).
-pub fn spell_next(kind: Item, out: &mut [u8], at: usize, values: &[u64], from: usize) -> usize
-    requires { at ≤ 16777216 }
-    ensures { InEither (λ o. written_to out.new result (from + 1) ≡ ran o values.now (mk out.old (8 * at) 0) from (format_of kind)) × (result ≤ 16777216) }
-{
-    if values.len() <= from {
-        return 0;
-    }
-    let value = values[from];
-    if items::out_of_range(kind, value) != 0 {
-        return 0;
-    }
-    let next = numbers::spell_item(kind, out, at, value);
-    // No file is longer.
-    if 16777216 < next {
-        return 0;
-    }
-    next
-}
-
-// One item: in its range, on a whole byte.
-pub fn write_one(
-    order: Order,
+// One item in its range, from a whole byte on: the byte place behind it.
+pub(crate) fn spell_next(
     kind: Item,
     out: &mut [u8],
-    sink: Sink,
+    at: usize,
     values: &[u64],
     from: usize,
-) -> Put
-    requires { Fine sink }
-    ensures { seen out.new result ≡ ran (order_of order) values.now (under out.old sink) from (format_of kind) }
+) -> Result<usize, Impossible>
+    requires { at ≤ 16777216 }
+    ensures writes { InEither (λ o. written_to out.new result (from + 1) ≡ ran o values.now (mk out.old (8 * at) 0) from (format_of kind)) }
+    ensures within { IfOk result (λ p. p ≤ 16777216) }
 {
-    let start = sink::align(order, out, sink);
-    let next = spell_next(kind, out, start.byte.0, values, from);
-    if next == 0 {
-        return Put::Impossible;
+    let value = number_at(values, from)?;
+    if items::in_range(kind, value).is_err() {
+        return Err(Impossible);
     }
-    let place = bits::first_bit(BytePlace(next));
-    Put::Done(Sink { place, part: 0 }, from + 1)
+    let next = numbers::spell_item(kind, out, at, value)?;
+    // No file is longer.
+    if 16777216 < next {
+        return Err(Impossible);
+    }
+    Ok(next)
 }
 
-// Zero bits up to the next whole byte.
-pub fn skip(order: Order, out: &mut [u8], sink: Sink) -> Sink
-    requires { Fine sink }
-    ensures { (under out.new result ≡ lay (order_of order) (under out.old sink) (dig (order_of order) (skipped sink.place.0) 0)) × Fine result }
-{
-    let start = sink::align(order, out, sink);
-    let place = start.bit;
-    Sink { place, part: 0 }
-}
-
-// The end of a body: all n values are used up, and zero bits go up to a whole byte.
-pub fn conclude(order: Order, written: Put, count: usize, out: &mut [u8]) -> Body
-    requires { FineAfter written }
-    ensures { lain_as out.new result ≡ concluded (order_of order) count (seen out.old written) }
-{
-    let Put::Done(sink, behind) = written else {
-        return Body::No;
-    };
-    if behind != count {
-        return Body::No;
+impl Writer<'_> {
+    // On from this sink, with the values from an index on. No file is longer than 2^27 bits.
+    pub(crate) fn go_on(&mut self, sink: Sink, behind: usize) -> Result<(), Impossible>
+        requires { Holds sink.place.0 sink.part × (behind ≤ length self.old.values.now) }
+        ensures onward { Onward self.old self.new }
+        ensures ended { seen_of self.new result ≡ ends (under self.old.out.now sink) behind }
+        ensures placed { IfOk result (λ _. self.new.index ≡ behind) }
+    {
+        if 134217728 < sink.place.0 {
+            return Err(Impossible);
+        }
+        self.sink = sink;
+        self.index = behind;
+        Ok(())
     }
-    let end = sink::align(order, out, sink);
-    let stop = end.byte;
-    Body::To(stop)
+
+    // One item: in its range, on a whole byte.
+    pub fn one(&mut self, kind: Item) -> Result<(), Impossible>
+        ensures writes { Writes self.old self.new result (format_of kind) }
+    {
+        let start = sink::align(self.order, self.out, self.sink);
+        let values = self.values;
+        let next = spell_next(kind, self.out, start.byte.0, values, self.index)?;
+        self.sink = on_byte(next);
+        self.index += 1;
+        Ok(())
+    }
+
+    // A count, which is the answer.
+    pub fn count(&mut self, least: u8) -> Result<usize, Impossible>
+        ensures writes { Writes self.old self.new result (format_of (Count least)) }
+        ensures counts { Counts least 4096 self.old self.new result }
+    {
+        let values = self.values;
+        let index = self.index;
+        self.one(Item::Count(least))?;
+        Ok(values[index] as usize)
+    }
+
+    // The next number, which has no bits here: a flag number, say.
+    pub fn take(&mut self) -> Result<u64, Impossible>
+        ensures onward { Onward self.old self.new }
+        ensures stays { state self.new ≡ state self.old }
+        ensures taken { Numbered self.old.values.now self.old.index result }
+        ensures placed { IfOk result (λ _. self.new.index ≡ self.old.index + 1) }
+    {
+        let index = self.index;
+        let number = number_at(self.values, index)?;
+        self.index = index + 1;
+        Ok(number)
+    }
+
+    // Zero bits up to the next whole byte.
+    pub fn skip(&mut self)
+        ensures writes { Writes self.old self.new done aligned }
+        ensures laid { state self.new ≡ lay (order_of self.old.order) (state self.old) (dig (order_of self.old.order) (skipped self.old.sink.place.0) 0) }
+        ensures placed { self.new.index ≡ self.old.index }
+    {
+        let start = sink::align(self.order, self.out, self.sink);
+        self.sink = Sink {
+            place: start.bit,
+            part: 0,
+        };
+    }
+
+    // The end of a body: all values are used up, and zero bits go up to a whole byte, which is the answer.
+    pub fn conclude(&mut self) -> Result<BytePlace, Impossible>
+        ensures onward { Onward self.old self.new }
+        ensures ended { lain_as self.new.out.now result ≡ concluded (order_of self.old.order) (length self.old.values.now) (this (here (state self.old) self.old.index)) }
+    {
+        if self.index != self.values.len() {
+            return Err(Impossible);
+        }
+        let end = sink::align(self.order, self.out, self.sink);
+        Ok(end.byte)
+    }
 }

@@ -1,5 +1,4 @@
-// The spellings of one number, from a whole byte on: whole bytes are the same in either order. The answer is the byte place behind it, or 0 where the
-// number has no spelling: one number, since an enum is handed on through memory.
+// The spellings of one number, from a whole byte on: whole bytes are the same in either order. The answer is the byte place behind it, where the number has a spelling.
 ghost use Rattle.std.specs.Prelude.{◌≡◌, ◌*◌, ◌<◌, ◌≤◌};
 ghost use Rattle.format.specs.WritingItems.{spell_ub, spell_var, spell_i32, spell_le};
 ghost use Rattle.bits.specs.Places.{InEither};
@@ -8,18 +7,18 @@ ghost use Rattle.spelling.specs.Writing.{bits_over};
 ghost use Rattle.spelling.specs.Spellings.{spelling_of, spelled_to, four_bytes};
 
 use items::Item;
-use sink::put_byte;
+use sink::{Impossible, put_byte};
 
 // One byte.
-fn spell_byte(out: &mut [u8], at: usize, value: u64) -> usize
+fn spell_byte(out: &mut [u8], at: usize, value: u64) -> Result<usize, Impossible>
     requires { at ≤ 16777216 }
     ensures { InEither (λ o. spelled_to out.new result ≡ bits_over o (mk out.old (8 * at) 0) (spell_ub o 8 value)) }
 {
     if 255 < value {
-        return 0;
+        return Err(Impossible);
     }
     put_byte(out, at, value);
-    at + 1
+    Ok(at + 1)
 }
 
 // Stores four bytes, lowest first, where there is room for them.
@@ -45,58 +44,59 @@ fn put_float(out: &mut [u8], at: usize, value: u64)
 }
 
 // A Float.
-fn spell_float(out: &mut [u8], at: usize, value: u64) -> usize
+fn spell_float(out: &mut [u8], at: usize, value: u64) -> Result<usize, Impossible>
     requires { at ≤ 16777216 }
     ensures { InEither (λ o. spelled_to out.new result ≡ bits_over o (mk out.old (8 * at) 0) (spell_le o value 4)) }
 {
     if 4294967295 < value {
-        return 0;
+        return Err(Impossible);
     }
     put_float(out, at, value);
-    at + 4
+    Ok(at + 4)
 }
 
 // Two bytes, lowest first.
-fn spell_uint16(out: &mut [u8], at: usize, value: u64) -> usize
+fn spell_uint16(out: &mut [u8], at: usize, value: u64) -> Result<usize, Impossible>
     requires { at ≤ 16777216 }
     ensures { InEither (λ o. spelled_to out.new result ≡ bits_over o (mk out.old (8 * at) 0) (spell_le o value 2)) }
 {
     if 65535 < value {
-        return 0;
+        return Err(Impossible);
     }
     put_byte(out, at, value % 256);
     put_byte(out, at + 1, value / 256);
-    at + 2
+    Ok(at + 2)
 }
 
 // Seven bits a byte, lowest first: at most `most` bytes with the top bit set, and a last one, which is at most `top` after so many.
-pub(crate) fn spell_var(out: &mut [u8], at: usize, value: u64, most: u64, top: u64) -> usize
+pub(crate) fn spell_var(
+    out: &mut [u8],
+    at: usize,
+    value: u64,
+    most: usize,
+    top: u64,
+) -> Result<usize, Impossible>
     requires { (at ≤ 16777216) × (most ≤ 9) × (top < 128) }
     ensures { InEither (λ o. spelled_to out.new result ≡ bits_over o (mk out.old (8 * at) 0) (spell_var o top value most)) }
 {
-    let mut i = at;
     let mut rest = value;
-    let mut left = most;
-    while 128 <= rest {
-        if left == 0 {
-            return 0;
+    for i in 0..most {
+        if rest < 128 {
+            put_byte(out, at + i, rest);
+            return Ok(at + i + 1);
         }
-        put_byte(out, i, 128 + rest % 128);
+        put_byte(out, at + i, 128 + rest % 128);
         rest /= 128;
-        i += 1;
-        left -= 1;
     }
-    if left == 0 {
-        if top < rest {
-            return 0;
-        }
+    if top < rest {
+        return Err(Impossible);
     }
-    put_byte(out, i, rest);
-    i + 1
+    put_byte(out, at + most, rest);
+    Ok(at + most + 1)
 }
 
 // I32: twice the magnitude, plus 1 for a negative number, which the wrapping difference turns back.
-fn spell_i32(out: &mut [u8], at: usize, value: u64) -> usize
+fn spell_i32(out: &mut [u8], at: usize, value: u64) -> Result<usize, Impossible>
     requires { at ≤ 16777216 }
     ensures { InEither (λ o. spelled_to out.new result ≡ bits_over o (mk out.old (8 * at) 0) (spell_i32 o value)) }
 {
@@ -105,25 +105,27 @@ fn spell_i32(out: &mut [u8], at: usize, value: u64) -> usize
     }
     let magnitude = std::num::wrapping_sub_u64(0, value);
     if 2147483647 < magnitude {
-        return 0;
+        return Err(Impossible);
     }
     spell_var(out, at, magnitude * 2 + 1, 4, 15)
 }
 
 // One number by its kind; its range is looked at before.
-pub(crate) fn spell_item(kind: Item, out: &mut [u8], at: usize, value: u64) -> usize
+pub(crate) fn spell_item(
+    kind: Item,
+    out: &mut [u8],
+    at: usize,
+    value: u64,
+) -> Result<usize, Impossible>
     requires { at ≤ 16777216 }
     ensures { InEither (λ o. spelled_to out.new result ≡ bits_over o (mk out.old (8 * at) 0) (spelling_of o kind value)) }
 {
     match kind {
-        Item::U32 => spell_var(out, at, value, 4, 15),
-        Item::Count(_) => spell_var(out, at, value, 4, 15),
+        Item::U32 | Item::Count(_) => spell_var(out, at, value, 4, 15),
         Item::I32 => spell_i32(out, at, value),
         Item::Time => spell_var(out, at, value, 9, 1),
         Item::Float => spell_float(out, at, value),
         Item::Uint16 => spell_uint16(out, at, value),
-        Item::Byte => spell_byte(out, at, value),
-        Item::Enum(_) => spell_byte(out, at, value),
-        Item::BlendMode => spell_byte(out, at, value),
+        Item::Byte | Item::Enum(_) | Item::BlendMode => spell_byte(out, at, value),
     }
 }

@@ -1,9 +1,9 @@
 -- Bit fields of each kind: what one reads as, and what a run of them leaves and announces.
 use Prim.Native.Nat.{ℕ, zero, suc, ◌+◌, ◌-◌, ◌*◌, ◌/◌, ◌^◌, ◌≤◌, ◌<◌, min}
 use mathlib.Core.List.{List, [], ◌∷◌}
-use mathlib.Core.Path.{◌≡◌, refl, ap, sym, subst, ◌∙◌}
+use mathlib.Core.Path.{◌≡◌, refl, ap, ap₂, sym, subst, ◌∙◌}
 use mathlib.Core.Bool.{Bool, true, false}
-use lib.ListN.{length, length-set, set, get_or}
+use lib.ListN.{length, set, get_or}
 use lib.Seq.{sets}
 use native.Mathlib.Nat.{add-zero, zero-add, suc-add, add-mul, one-mul, suc-mul, mul-le-mul, mul-le-mul_right, le-div_iff_mul-le, div-lt_iff_lt-mul}
 use lib.Dec.{eqb, ltb}
@@ -20,15 +20,14 @@ use Rattle.format.proofs.Absurd.{clash}
 use Rattle.format.proofs.BitLaws.{ub_lt}
 use Rattle.format.proofs.SizeLaws.{Fair, fair_item, fair_only}
 use Rattle.bits.proofs.FieldLaws.{IsField, map_got, ub_in, ub_past, extended, unsigned}
-use Rattle.bits.specs.Places.{num_of, with_sign}
-use Rattle.bits.specs.declared.BitPlace.{BitPlace}
-use Rattle.bits.specs.declared.Got.{Got}
-use Rattle.bits.specs.declared.Got.TheVariants.{Value, Fault as GotFault}
+use Rattle.bits.specs.Places.{with_sign}
+use Rattle.reasons.specs.declared.Reason.{Reason}
+use Rattle.reasons.specs.declared.Reason.TheVariants.{ItemPastTheBody}
+use Rattle.std.specs.Prelude.{Result, Ok, Err, IfOk}
 use Rattle.table.specs.State.{shown_over}
-use Rattle.table.specs.Run.{run_leaves}
-use Rattle.table.specs.Fields.{Fits, allows, judge_num, field_of, signed, shows_all, announces, announced, weights}
-use Rattle.table.specs.declared.Run.{Run}
-use Rattle.table.specs.declared.Run.TheVariants.{Done, Stop}
+use Rattle.table.specs.Readers.{state_of, Room}
+use Rattle.table.specs.declared.reader.Reader.{Reader}
+use Rattle.table.specs.Fields.{allows, judge_num, field_of, signed, shows_all, announces, announced, weights, LaysFields}
 use Rattle.table.specs.declared.fields.Field.{Field}
 use Rattle.table.specs.declared.fields.Field.TheVariants.{Verb, Interpolation, SpatialFlag, Plain, ByteValue, Coordinate}
 use Rattle.table.proofs.StoringLaws.{Storing, storing_start, storing_next, storing_done}
@@ -96,20 +95,20 @@ module _ (o : Order) (kind : Field) (b : List ℕ) (p w : ℕ) where
     field_out h = ap (λ (c : Bool). show_num (pick c (num v (p + w)) (bad 16))) (sym h) ∙ field_judged
 
 -- a width, from the code's answer
-module _ (o : Order) (b : List ℕ) (p : ℕ) {r : Got} (read : num_of r ≡ read_width o b p) where
-  pub width_one : {v : ℕ} {q : BitPlace} → r ≡ Value v q → run o b (item Item.width) p ≡ shows (v ∷ []) q.0
+module _ (o : Order) (b : List ℕ) (p : ℕ) where
+  pub width_one : {v q : ℕ} → num v q ≡ read_width o b p → run o b (item Item.width) p ≡ shows (v ∷ []) q
   unfolding run read_item
-  width_one e = sym (ap (λ (z : Got). show_num (num_of z)) (sym e) ∙ ap show_num read)
+  width_one read = sym (ap show_num read)
 
-  pub width_stop : {e : ℕ} → r ≡ GotFault e → run o b (item Item.width) p ≡ stop e
+  pub width_stop : {e : ℕ} → bad e ≡ read_width o b p → run o b (item Item.width) p ≡ stop e
   unfolding run read_item
-  width_stop e = sym (ap (λ (z : Got). show_num (num_of z)) (sym e) ∙ ap show_num read)
+  width_stop read = sym (ap show_num read)
 
   -- it is 1 to 32, and takes 5 bits
-  pub width_fits : {v k : ℕ} {q : BitPlace} → r ≡ Value v q → Fits b p k → Fits b q.0 (k + 1) × (1 ≤ v) × (v ≤ 32)
-  width_fits e f =
-      let i : IsField o suc b p 5 _ _ = map_got o suc b p 5 (ap num_of (sym e) ∙ read) in
-      (((i.inside, f.0.1), omega (arith, i.next, f.1)), omega (arith, i.value), omega (arith, i.value, i.below))
+  pub width_fits : {v q : ℕ} → num v q ≡ read_width o b p → (p < q) × (q ≤ 8 * length b) × (1 ≤ v) × (v ≤ 32)
+  width_fits read =
+      let i : IsField o suc b p 5 _ _ = map_got o suc b p 5 read in
+      (omega (arith, i.next), i.inside, omega (arith, i.value), omega (arith, i.value, i.below))
 
 -- the bits of a kind that is not signed show as they are
 pub unsigned_shown : (kind : Field) (w x : ℕ) → signed kind ≡ false → x ≡ pick (signed kind) (sign_extend w x) x
@@ -228,7 +227,12 @@ module _ (n w z : ℕ) (wide : 1 ≤ w) where
   pub fits_some : {b : ℕ} → b ≡ z → z < n * w → b / w ≡ min n (z / w)
   fits_some {b} e h = let l : z / w < n = (div-lt_iff_lt-mul wide).1 h in rw e (omega arith)
 
--- of n fields of w bits from p on, m stand in s
+-- m of n fields of w bits from p on stand in s
+pub record Inside (w : ℕ) (s : List ℕ) (p n m : ℕ) : Type 0 where
+  pub upto : m ≤ n
+  pub inside : p + m * w ≤ 8 * length s
+
+-- and no more of them
 pub record Stand (w : ℕ) (s : List ℕ) (p n m : ℕ) : Type 0 where
   pub upto : m ≤ n
   pub inside : p + m * w ≤ 8 * length s
@@ -241,8 +245,13 @@ stand {w} {s} {p} {n} {m} wide l e =
     let j : m < n → z < m * w + w = λ i. subst (λ (x : ℕ). z < x) (suc-mul m w) ((div-lt_iff_lt-mul wide).0 (omega (arith, e, i))) in
     record { upto = omega (arith, e); inside = omega (arith, h, l); past = λ i. omega (arith, j i, l) }
 
+-- so many fields have as many bits at least
+pub more_bits : (m w : ℕ) → 1 ≤ w → m ≤ m * w
+more_bits zero w h = omega arith
+more_bits (suc m) w h = omega (arith, more_bits m w h, suc-mul m w)
+
 -- one field more is w bits more
-step_more : (i w : ℕ) → (i + 1) * w ≡ i * w + w
+pub step_more : (i w : ℕ) → (i + 1) * w ≡ i * w + w
 step_more i w = add-mul i 1 w ∙ ap (λ (y : ℕ). i * w + y) (one-mul w)
 
 -- one of m fields ends where the m fields end, or before
@@ -269,31 +278,31 @@ module _ (o : Order) (kind : Field) {w : ℕ} {s : List ℕ} {p n m q : ℕ} (st
       go false = refl
 
   -- the code's answer is what is left, laid over the table
-  rest_left : (k : ℕ) {t : List ℕ} {R : Run} → R ≡ pick (ltb m n) (Stop 13 (k + m)) (Done (record { 0 = q }) (k + n)) → run_leaves t R ≡ shown_over t (k + m) (run o s (times (n - m) (field_of kind w)) q)
-  rest_left k {t} {R} e = ap (run_leaves t) e ∙ go (ltb m n) refl ∙ ap (shown_over t (k + m)) (sym rest_is)
+  pub rest_left : (k : ℕ) (b : Reader) {r : Result (Unit {0}) Reason} → b.index ≡ k + m → b.place.0 ≡ q → r ≡ pick (ltb m n) (Err ItemPastTheBody) (Ok tt)
+      → state_of b r ≡ shown_over b.table.now (k + m) (run o s (times (n - m) (field_of kind w)) q)
+  rest_left k b {r} j l e = ap (state_of b) e ∙ go (ltb m n) ∙ ap (shown_over b.table.now (k + m)) (sym rest_is)
     where
-      go : (c : Bool) → ltb m n ≡ c → run_leaves t (pick c (Stop 13 (k + m)) (Done (record { 0 = q }) (k + n))) ≡ shown_over t (k + m) (pick c (stop 13) (shows [] q))
-      go true h = sym (after_stop t (k + m) 13)
-      go false h = let x : k + n ≡ k + m = omega (arith, ltb-false m n h, st.upto) in rw x (sym (after_none t (k + m) q))
+      go : (c : Bool) → state_of {A = Unit {0}} b (pick c (Err ItemPastTheBody) (Ok (tt {0}))) ≡ shown_over b.table.now (k + m) (pick c (stop 13) (shows [] q))
+      go true = ap (λ (x : ℕ). state b.table.now x (Fault 13)) j ∙ sym (after_stop b.table.now (k + m) 13)
+      go false = ap₂ (λ (x y : ℕ). state b.table.now x (At y)) j l ∙ sym (after_none b.table.now (k + m) q)
 
 -- ---- a run of fields that may be refused, step by step: m of its n fields stand in the bytes
 
-abbrev fields_from : Order → Field → ℕ → List ℕ → ℕ → ℕ → Reading
+abbrev pub fields_from : Order → Field → ℕ → List ℕ → ℕ → ℕ → Reading
 fields_from o kind w s left p = run o s (times left (field_of kind w)) p
 
 -- after i fields: the whole from the start is what is left from here
 pub record Going (o : Order) (kind : Field) (w : ℕ) (s t₀ : List ℕ) (k n p₀ m : ℕ) (t : List ℕ) (p i count : ℕ) : Type 0 where
-  pub size : length t ≡ length t₀
   pub rest : shown_over t₀ k (fields_from o kind w s n p₀) ≡ shown_over t (k + i) (fields_from o kind w s (n - i) p)
   pub counts : announced kind (fields_from o kind w s n p₀).shown ≡ count + announced kind (fields_from o kind w s (n - i) p).shown
   pub upto : i ≤ m
   pub place : p ≡ p₀ + i * w
   pub few : count ≤ 6 * i
 
-pub going_start : {o : Order} {kind : Field} {w : ℕ} {s t₀ : List ℕ} {k n p₀ m : ℕ} → Going o kind w s t₀ k n p₀ m t₀ p₀ 0 0
-going_start {k = k} {n} = let z : n - 0 ≡ n = omega arith in record { size = refl; rest = rw (add-zero k, z); counts = rw z (sym (zero-add _)); upto = omega arith; place = omega arith; few = omega arith }
+pub going_start : {o : Order} {kind : Field} {w : ℕ} {s t₀ : List ℕ} {k n p₀ m p : ℕ} → p ≡ p₀ + 0 * w → Going o kind w s t₀ k n p₀ m t₀ p 0 0
+going_start {w = w} {k = k} {n} {p₀} e = let z : n - 0 ≡ n = omega arith in let y : p₀ + 0 * w ≡ p₀ = omega arith in record { rest = rw (add-zero k, z, e, y); counts = rw (z, e, y) (sym (zero-add _)); upto = omega arith; place = e; few = omega arith }
 
-module _ {o : Order} {kind : Field} {w : ℕ} {s t₀ : List ℕ} {k n p₀ m : ℕ} {t : List ℕ} {p i count : ℕ} (st : Stand w s p₀ n m) (g : Going o kind w s t₀ k n p₀ m t p i count) where
+module _ {o : Order} {kind : Field} {w : ℕ} {s t₀ : List ℕ} {k n p₀ m : ℕ} {t : List ℕ} {p i count : ℕ} (st : Inside w s p₀ n m) (g : Going o kind w s t₀ k n p₀ m t p i count) where
   module _ (some : i < m) where
     pub fields_in : p + w ≤ 8 * length s
     fields_in = omega (arith, g.place, step_in i m w some, st.inside)
@@ -306,7 +315,6 @@ module _ {o : Order} {kind : Field} {w : ℕ} {s t₀ : List ℕ} {k n p₀ m : 
         let l : n - i - 1 ≡ n - (i + 1) = omega arith in
         let r : shown_over t (k + i) (fields_from o kind w s (n - i) p) ≡ shown_over u (k + i + 1) (fields_from o kind w s (n - i - 1) (p + w)) = times_next o s t (k + i) (n - i) (field_of kind w) p more (rw d (sym (after_one t (k + i) v (p + w)) ∙ ap (shown_over t (k + i)) e)) in
         record {
-          size = ap length d ∙ length-set t (k + i) v ∙ g.size;
           rest = g.rest ∙ (rw (j, l) at r);
           counts = g.counts ∙ ap (λ (y : ℕ). count + y) (shown_next o kind w s p (n - i) v (p + w) more e) ∙ rw (l, h.0) (omega arith);
           upto = omega arith;
@@ -322,15 +330,25 @@ module _ {o : Order} {kind : Field} {w : ℕ} {s t₀ : List ℕ} {k n p₀ m : 
           (sym (g.counts ∙ ap (λ (y : ℕ). count + y) (shown_stop o kind w s p (n - i) e more h) ∙ add-zero count), omega (arith, g.few, st.upto)),
         )
 
-  -- those that stand there are all read
-  pub fields_end : {R : Run} → m ≤ i → R ≡ pick (ltb m n) (Stop 13 (k + m)) (Done (record { 0 = p }) (k + n))
-      → (run_leaves t R ≡ shown_over t₀ k (fields_from o kind w s n p₀)) × ((count ≡ announced kind (fields_from o kind w s n p₀).shown) × (count ≤ 6 * n))
-  fields_end {R} h e =
-      let d : i ≡ m = omega (arith, g.upto) in
-      let q : p ≡ p₀ + m * w = g.place ∙ ap (λ (y : ℕ). p₀ + y * w) d in (
-        rest_left o kind st q k e ∙ sym (g.rest ∙ ap (λ (y : ℕ). shown_over t (k + y) (fields_from o kind w s (n - y) p)) d),
-        (sym (g.counts ∙ ap (λ (y : ℕ). count + announced kind (fields_from o kind w s (n - y) p).shown) d ∙ ap (λ (y : ℕ). count + y) (rest_announced o kind st q) ∙ add-zero count), omega (arith, g.few, d, st.upto)),
-      )
+-- those that stand there are all read, and what is left of them is passed over
+pub fields_end : {o : Order} {kind : Field} {w : ℕ} {s t₀ : List ℕ} {k n p₀ m count : ℕ} {t : List ℕ} → Stand w s p₀ n m → Going o kind w s t₀ k n p₀ m t (p₀ + m * w) m count
+    → (b : Reader) {r : Result (Unit {0}) Reason} → b.table.now ≡ t → b.index ≡ k + m → b.place.0 ≡ p₀ + m * w → r ≡ pick (ltb m n) (Err ItemPastTheBody) (Ok tt)
+    → (state_of b r ≡ shown_over t₀ k (fields_from o kind w s n p₀)) × ((count ≡ announced kind (fields_from o kind w s n p₀).shown) × (count ≤ 6 * n))
+fields_end {o} {kind} {w} {s} {t₀} {k} {n} {p₀} {m} {count} {t} st g b {r} u j l e = (
+  rest_left o kind st refl k b j l e ∙ ap (λ (z : List ℕ). shown_over z (k + m) (fields_from o kind w s (n - m) (p₀ + m * w))) u ∙ sym g.rest,
+  (sym (g.counts ∙ ap (λ (y : ℕ). count + y) (rest_announced o kind st refl) ∙ add-zero count), omega (arith, g.few, st.upto)),
+)
+
+-- what the code tells of them, as `Going` has it
+pub told_going : {o : Order} {kind : Field} {w : ℕ} {s t₀ : List ℕ} {k p₀ m sum : ℕ} {t : List ℕ} → LaysFields o kind w s t₀ k p₀ m t (Ok sum) → (n : ℕ) → m ≤ n → Going o kind w s t₀ k n p₀ m t (p₀ + m * w) m sum
+told_going h n l = record { rest = (h n l).0; counts = (h n l).1; upto = omega arith; place = refl; few = (h n l).2 }
+
+pub going_told : {o : Order} {kind : Field} {w : ℕ} {s t₀ : List ℕ} {k p₀ m i sum p : ℕ} {t : List ℕ} → m ≤ i → ((n : ℕ) → m ≤ n → Going o kind w s t₀ k n p₀ m t p i sum) → LaysFields o kind w s t₀ k p₀ m t (Ok sum)
+going_told {o} {kind} {w} {s} {t₀} {k} {p₀} {m} {i} {sum} {p} {t} d g n l =
+    let x = g n l in
+    let e : i ≡ m = omega (arith, x.upto) in
+    let q : p ≡ p₀ + m * w = x.place ∙ ap (λ (y : ℕ). p₀ + y * w) e in
+    (rw (e, q) at x.rest, rw (e, q) at x.counts, omega (arith, x.few, e))
 
 -- ---- a run of fields that show whatever their bits are
 
@@ -392,41 +410,43 @@ step_at_lem o f w s zero p i h = absurd (omega arith)
 step_at_lem o f w s (suc n) p zero h = let e : p + 0 * w ≡ p = omega arith in rw e
 step_at_lem o f w s (suc n) p (suc i) h = let e : p + suc i * w ≡ p + w + i * w = omega (arith, suc-mul i w) in rw e (step_at_lem o f w s n (p + w) i (omega arith))
 
--- of m fields the first i numbers are stored, and the next field is at q
-pub record Laying (o : Order) (f : ℕ → ℕ) (w : ℕ) (s t₀ : List ℕ) (k m p₀ : ℕ) (t : List ℕ) (q i : ℕ) : Type 0 where
+-- of m fields the first i numbers are stored
+pub record Laying (o : Order) (f : ℕ → ℕ) (w : ℕ) (s t₀ : List ℕ) (k m p₀ : ℕ) (t : List ℕ) (i : ℕ) : Type 0 where
   pub stored : Storing t₀ (steps o f w s m p₀) k t i
-  pub place : q ≡ p₀ + i * w
 
-pub laying_start : {o : Order} {f : ℕ → ℕ} {w : ℕ} {s t₀ : List ℕ} {k m p₀ : ℕ} → Laying o f w s t₀ k m p₀ t₀ p₀ 0
-laying_start {o} {f} {w} {s} {t₀} {k} {m} {p₀} = record { stored = storing_start t₀ (steps o f w s m p₀) k; place = omega arith }
+pub laying_start : {o : Order} {f : ℕ → ℕ} {w : ℕ} {s t₀ : List ℕ} {k m p₀ : ℕ} → Laying o f w s t₀ k m p₀ t₀ 0
+laying_start {o} {f} {w} {s} {t₀} {k} {m} {p₀} = record { stored = storing_start t₀ (steps o f w s m p₀) k }
 
-module _ {o : Order} {f : ℕ → ℕ} {w : ℕ} {s t₀ : List ℕ} {k m p₀ : ℕ} {t : List ℕ} {q i : ℕ} (g : Laying o f w s t₀ k m p₀ t q i) where
-  pub laying_upto : i ≤ m
-  laying_upto = omega (arith, g.stored.upto, steps_length o f w s m p₀)
+module _ {o : Order} {f : ℕ → ℕ} {w : ℕ} {s t₀ : List ℕ} {k m p₀ : ℕ} {t : List ℕ} {i : ℕ} (g : Laying o f w s t₀ k m p₀ t i) where
+  pub laying_in : i < m → p₀ + m * w ≤ 8 * length s → p₀ + i * w + w ≤ 8 * length s
+  laying_in h l = omega (arith, step_in i m w h, l)
 
-  pub laying_in : i < m → p₀ + m * w ≤ 8 * length s → q + w ≤ 8 * length s
-  laying_in h l = omega (arith, g.place, step_in i m w h, l)
-
-  pub laying_next : {x v : ℕ} → i < m → x ≡ ub o s q w → v ≡ f x → Laying o f w s t₀ k m p₀ (set t (k + i) v) (q + w) (i + 1)
+  pub laying_next : {x v : ℕ} → i < m → x ≡ ub o s (p₀ + i * w) w → v ≡ f x → Laying o f w s t₀ k m p₀ (set t (k + i) v) (i + 1)
   laying_next {x} {v} h e d =
-      let z : v ≡ get_or (steps o f w s m p₀) i 0 = d ∙ ap f (e ∙ ap (λ (y : ℕ). ub o s y w) g.place) ∙ sym (step_at_lem o f w s m p₀ i h) in
-      record {
-        stored = storing_next t₀ (steps o f w s m p₀) k g.stored (omega (arith, h, steps_length o f w s m p₀)) z;
-        place = omega (arith, g.place, step_more i w);
-      }
+      let z : v ≡ get_or (steps o f w s m p₀) i 0 = d ∙ ap f e ∙ sym (step_at_lem o f w s m p₀ i h) in
+      record { stored = storing_next t₀ (steps o f w s m p₀) k g.stored (omega (arith, h, steps_length o f w s m p₀)) z }
 
   -- all are stored, or there is no more room
-  pub laying_end : {n r : ℕ} {R : Run} (kind : Field) → Stand w s p₀ n m → shows_all kind w ≡ true → ((x : ℕ) → x < 2 ^ w → f x ≡ shown_by kind w x) → r ≡ min m (length t - k) → r ≤ i
-      → R ≡ pick (ltb m n) (Stop 13 (k + m)) (Done (record { 0 = p₀ + m * w }) (k + n)) → run_leaves t R ≡ shown_over t₀ k (run o s (times n (field_of kind w)) p₀)
-  laying_end {n} {r} {R} kind st a b h l e =
+  pub laying_end : {n j : ℕ} (b : Reader) {r : Result (Unit {0}) Reason} (kind : Field) → Stand w s p₀ n m → shows_all kind w ≡ true → ((x : ℕ) → x < 2 ^ w → f x ≡ shown_by kind w x) → j ≡ min m (length t₀ - k) → j ≤ i
+      → b.table.now ≡ t → b.index ≡ k + m → b.place.0 ≡ p₀ + m * w → r ≡ pick (ltb m n) (Err ItemPastTheBody) (Ok tt) → state_of b r ≡ shown_over t₀ k (run o s (times n (field_of kind w)) p₀)
+  laying_end {n} {j} b {r} kind st a z h l u x y e =
       let xs : List ℕ = steps o f w s m p₀ in
       let c : length xs ≡ m = steps_length o f w s m p₀ in
-      let full : t ≡ sets t₀ k xs = storing_done t₀ xs k g.stored (h ∙ ap (λ (y : ℕ). min y (length t - k)) (sym c)) l in
+      let full : t ≡ sets t₀ k xs = storing_done t₀ xs k g.stored (h ∙ ap₂ (λ (y i : ℕ). min y (i - k)) (sym c) (sym g.stored.size)) l in
       let all : n ≡ m + (n - m) = omega (arith, st.upto) in
       let left : Reading = run o s (times (n - m) (field_of kind w)) (p₀ + m * w) in
-      rest_left o kind st refl k e
+      rest_left o kind st refl k b x y e
+      ∙ ap (λ (z : List ℕ). shown_over z (k + m) left) u
       ∙ ap (λ (y : ℕ). shown_over t (k + y) left) (sym c)
       ∙ ap (λ (u : List ℕ). shown_over u (k + length xs) left) full
       ∙ sym (ap (λ (y : ℕ). shown_over t₀ k (run o s (times y (field_of kind w)) p₀)) all
-      ∙ ap (shown_over t₀ k) (steps_run o kind f w s m (n - m) p₀ a b st.inside)
+      ∙ ap (shown_over t₀ k) (steps_run o kind f w s m (n - m) p₀ a z st.inside)
       ∙ after_follow t₀ k xs (At (p₀ + m * w)) (λ ys q. run o s (times (n - m) (field_of kind w)) q))
+
+-- after fields that were passed over there is room still
+pub told_room : {w : ℕ} (m : ℕ) (r : Result (Unit {0}) Reason) (a b : Reader) → Room a → 1 ≤ w → b.index ≡ a.index + m → b.place.0 ≡ a.place.0 + m * w → IfOk r (λ x. Room b)
+told_room {w} m r a b z o j l = go r
+  where
+    go : (r : Result (Unit {0}) Reason) → IfOk r (λ x. Room b)
+    go (Ok x) = omega (arith, z, j, l, more_bits m w o)
+    go (Err e) = tt

@@ -10,13 +10,12 @@ use Rattle.format.specs.Bits.{Order, high, ub}
 use Rattle.format.specs.Reading.{At, shows}
 use Rattle.format.specs.Formats.{Item, Format, nothing, item, ◌▹◌, times}
 use Rattle.format.specs.Items.{Num, num, bad, read_le, read_item, run, float}
-use Rattle.bits.specs.Places.{aligned_at, InEither}
-use Rattle.bits.specs.declared.Aligned.TheVariants.{Clean}
-use Rattle.bits.proofs.FieldLaws.{aligned_clean}
+use Rattle.bits.specs.Places.{InEither}
+use Rattle.items.proofs.ItemLaws.{whole_skips}
 use Rattle.table.specs.State.{shown_over}
 use Rattle.table.proofs.StoringLaws.{Storing, storing_start, storing_next, storing_done}
 use Rattle.table.proofs.EngineLaws.{state, state_eq, none_then}
-use Rattle.table.proofs.RunLaws.{align_none}
+use Rattle.table.proofs.ReaderLaws.{align_is}
 
 abbrev number_of : Num → ℕ
 number_of (num v q) = v
@@ -33,9 +32,7 @@ le_in o s (suc n) p h =
 -- a Float on a whole byte
 float_one : (o : Order) (s : List ℕ) (i p : ℕ) → p ≡ 8 * i → i + 4 ≤ length s → run o s float p ≡ shows (number_of (read_le o s p 4) ∷ []) (p + 32)
 unfolding run read_item ub
-float_one o s i p at h =
-    let c : aligned_at o s p ≡ Clean (record { 0 = i }) (record { 0 = p }) = sym (aligned_clean o s p 0 (omega arith) refl (omega arith) at) in
-    none_then o s (item Item.align) (λ xs. item (Item.Le 4)) p p (align_none o s p c) ∙ rw (le_in o s 4 p (omega arith))
+float_one o s i p at h = none_then o s (item Item.align) (λ xs. item (Item.Le 4)) p p (align_is o s p ∙ whole_skips o s i p at) ∙ rw (le_in o s 4 p (omega arith))
 
 abbrev floats : Order → List ℕ → ℕ → ℕ → List ℕ
 floats o s zero p = []
@@ -66,38 +63,31 @@ float_at o s zero p i h = absurd (omega arith)
 float_at o s (suc n) p zero h = let e : p + 32 * 0 ≡ p = omega arith in rw e
 float_at o s (suc n) p (suc i) h = let e : p + 32 * suc i ≡ p + 32 + 32 * i = omega arith in rw e (float_at o s n (p + 32) i (omega arith))
 
--- Whole bytes are the same in either order, so the loop that stores them knows none.
-module _ (s t₀ : List ℕ) (k n i₀ : ℕ) where
-  -- the first i numbers are stored, and the next Float is at byte q
-  pub record Floating (t : List ℕ) (q i : ℕ) : Type 0 where
-    pub stored : InEither (λ o. Storing t₀ (floats o s n (8 * i₀)) k t i)
-    pub place : q ≡ i₀ + 4 * i
+-- Whole bytes are the same in either order, so the loop that stores them knows none: the first i of n from byte i₀ on are stored.
+pub record Floating (s t₀ : List ℕ) (k n i₀ : ℕ) (t : List ℕ) (i : ℕ) : Type 0 where
+  pub stored : InEither (λ o. Storing t₀ (floats o s n (8 * i₀)) k t i)
 
-  pub floating_start : Floating t₀ i₀ 0
-  floating_start = record { stored = λ o. storing_start t₀ (floats o s n (8 * i₀)) k; place = omega arith }
+pub floating_start : (s t₀ : List ℕ) (k n i₀ : ℕ) → Floating s t₀ k n i₀ t₀ 0
+floating_start s t₀ k n i₀ = record { stored = λ o. storing_start t₀ (floats o s n (8 * i₀)) k }
 
-  module _ {t : List ℕ} {q i : ℕ} (g : Floating t q i) where
-    pub floating_size : length t ≡ length t₀
-    floating_size = (g.stored high).size
+module _ {s t₀ : List ℕ} {k n i₀ : ℕ} {t : List ℕ} {i : ℕ} (g : Floating s t₀ k n i₀ t i) where
+  pub floating_size : length t ≡ length t₀
+  floating_size = (g.stored high).size
 
-    pub floating_upto : i ≤ n
-    floating_upto = omega (arith, (g.stored high).upto, floats_length high s n (8 * i₀))
+  pub floating_next : {v : ℕ} → i < n → InEither (λ o. num v (8 * (i₀ + 4 * i) + 32) ≡ read_le o s (8 * (i₀ + 4 * i)) 4) → Floating s t₀ k n i₀ (set t (k + i) v) (i + 1)
+  floating_next {v} h e =
+      let d : 8 * (i₀ + 4 * i) ≡ 8 * i₀ + 32 * i = omega arith in
+      record {
+        stored = λ o. storing_next t₀ (floats o s n (8 * i₀)) k (g.stored o) (omega (arith, h, floats_length o s n (8 * i₀)))
+            (ap number_of (e o) ∙ ap (λ (y : ℕ). number_of (read_le o s y 4)) d ∙ sym (float_at o s n (8 * i₀) i h));
+      }
 
-    pub floating_next : {v : ℕ} → i < n → InEither (λ o. num v (8 * q + 32) ≡ read_le o s (8 * q) 4) → Floating (set t (k + i) v) (q + 4) (i + 1)
-    floating_next {v} h e =
-        let d : 8 * q ≡ 8 * i₀ + 32 * i = omega (arith, g.place) in
-        record {
-          stored = λ o. storing_next t₀ (floats o s n (8 * i₀)) k (g.stored o) (omega (arith, h, floats_length o s n (8 * i₀)))
-              (ap number_of (e o) ∙ ap (λ (y : ℕ). number_of (read_le o s y 4)) d ∙ sym (float_at o s n (8 * i₀) i h));
-          place = omega (arith, g.place);
-        }
-
-    -- all are stored, or there is no more room
-    pub floating_done : (o : Order) {m p e : ℕ} → p ≡ 8 * i₀ → m ≡ min n (length t - k) → m ≤ i → e ≡ p + n * 32 → e ≤ 8 * length s
-        → state t (k + n) (At e) ≡ shown_over t₀ k (run o s (times n float) p)
-    unfolding shown_over
-    floating_done o {m} {p} {e} at h l f inside =
-        let xs : List ℕ = floats o s n (8 * i₀) in
-        let full : t ≡ sets t₀ k xs = storing_done t₀ xs k (g.stored o) (h ∙ ap (λ (y : ℕ). min y (length t - k)) (sym (floats_length o s n (8 * i₀)))) l in
-        let z : e ≡ 8 * i₀ + 32 * n = omega (arith, f, at) in
-        rw (at, floats_run o s n i₀ (8 * i₀) refl (omega (arith, f, inside, at))) (state_eq full (ap (λ (c : ℕ). k + c) (sym (floats_length o s n (8 * i₀)))) (ap At z))
+  -- all are stored, or there is no more room
+  pub floating_done : (o : Order) {m p e : ℕ} → p ≡ 8 * i₀ → m ≡ min n (length t - k) → m ≤ i → e ≡ p + n * 32 → e ≤ 8 * length s
+      → state t (k + n) (At e) ≡ shown_over t₀ k (run o s (times n float) p)
+  unfolding shown_over
+  floating_done o {m} {p} {e} at h l f inside =
+      let xs : List ℕ = floats o s n (8 * i₀) in
+      let full : t ≡ sets t₀ k xs = storing_done t₀ xs k (g.stored o) (h ∙ ap (λ (y : ℕ). min y (length t - k)) (sym (floats_length o s n (8 * i₀)))) l in
+      let z : e ≡ 8 * i₀ + 32 * n = omega (arith, f, at) in
+      rw (at, floats_run o s n i₀ (8 * i₀) refl (omega (arith, f, inside, at))) (state_eq full (ap (λ (c : ℕ). k + c) (sym (floats_length o s n (8 * i₀)))) (ap At z))

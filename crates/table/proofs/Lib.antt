@@ -1,6 +1,7 @@
 pub mod EngineLaws
 pub mod StoringLaws
-pub mod FieldLaws
-pub mod TextLaws
-pub mod RunLaws
+pub mod ReaderLaws
 pub mod FloatLaws
+pub mod TextLaws
+pub mod FieldLaws
+pub mod OneLaws

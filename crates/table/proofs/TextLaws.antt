@@ -2,8 +2,12 @@
 use Prim.Native.Nat.{ℕ, zero, suc, ◌+◌, ◌-◌, ◌*◌, ◌≤◌, ◌<◌, min}
 use mathlib.Core.List.{List, [], ◌∷◌}
 use mathlib.Core.Path.{◌≡◌, refl, ap, ap₂, sym, ◌∙◌}
-use lib.ListN.{length, length-set, set, get_or}
+use lib.ListN.{length, length-set, set, get_or, take, drop, length-drop}
+use Rattle.std.proofs.Common.{take_all, get_or-drop}
+use mir.Syntax.{w8}
+use mir.Val.{Fits}
 use lib.Seq.{sets, set_comm, set_out}
+use Rattle.std.specs.List.{AllWithin, HoldsAt}
 use borrow.Author.Tests.{le-leb, lt-leb, eq-eqb, ne_eqb}
 use native.Mathlib.Nat.{add-zero, mod-eq_of_lt}
 use native.Mathlib.Omega.{arith}
@@ -86,6 +90,17 @@ unfolding read_text
 text_cut o s p zero h = refl
 text_cut o s p (suc m) h = rw (lt-leb (p + 8) (8 * length s) h)
 
+-- what is left of the bytes from i on, as the code slices it
+rest_is : (s : List ℕ) (i : ℕ) → take (length s - i) (drop i s) ≡ drop i s
+rest_is s i = take_all (length s - i) (drop i s) (omega (arith, length-drop i s))
+
+pub rest_length : (s : List ℕ) (i : ℕ) → length (take (length s - i) (drop i s)) ≡ length s - i
+rest_length s i = ap length (rest_is s i) ∙ length-drop i s
+
+-- the byte that comes next in it
+pub rest_byte : (s : List ℕ) (i n : ℕ) → ((k : ℕ) → Fits w8 (get_or s k 0)) → (get_or (take (length s - i) (drop i s)) n 0 ≡ get_or s (i + n) 0) × (get_or (take (length s - i) (drop i s)) n 0 < 256)
+rest_byte s i n h = let e : get_or (take (length s - i) (drop i s)) n 0 ≡ get_or s (i + n) 0 = rw (rest_is s i) (get_or-drop i s n 0) in (e, omega (arith, e, h (i + n)))
+
 -- ---- the loop: the whole from the start is what is left after n bytes
 pub record Going (o : Order) (s t₀ : List ℕ) (k i p : ℕ) (t : List ℕ) (n : ℕ) : Type 0 where
   pub size : length t ≡ length t₀
@@ -112,8 +127,8 @@ module _ (o : Order) {s t₀ : List ℕ} {k i p : ℕ} {t : List ℕ} {n : ℕ} 
         }
 
     -- or there is no room for it
-    pub going_dropped : {u : List ℕ} {m : ℕ} → (b ≡ 0 → ⊥) → u ≡ t → m ≡ min (length s - i) (length t₀ - (k + 1)) → m ≤ n → Going o s t₀ k i p u (n + 1)
-    going_dropped z d h l = going_stored z (d ∙ sym (set_out t (k + 1 + n) b (omega (arith, g.size, h, l))))
+    going_dropped : (b ≡ 0 → ⊥) → min (length s - i) (length t₀ - (k + 1)) ≤ n → Going o s t₀ k i p t (n + 1)
+    going_dropped z l = going_stored z (sym (set_out t (k + 1 + n) b (omega (arith, g.size, l))))
 
     pub going_ends : {u : List ℕ} → b ≡ 0 → u ≡ set t k n → state u (k + 1 + n) (At (p + 8 * n + 8)) ≡ shown_over t₀ k (show_text (read_text o s p (length s)))
     going_ends z d = rw d (sym (g.rest ∙ ap (closes t k n) (text_ends o s (i + n) on_byte read there (length s - n) (omega arith) z) ∙ closes_text t k n (p + 8 * n + 8)))
@@ -126,3 +141,40 @@ going_start o s t k i p w l =
     let m : length s ≡ length s - 0 = omega arith in
     let q : p ≡ p + 8 * 0 = omega arith in
     record { size = refl; rest = closes_none t k (read_text o s p (length s)) ∙ ap₂ (λ (r n : ℕ). closes t k 0 (read_text o s r n)) q m; whole = w; inside = omega arith }
+
+-- ---- the bytes there is no room for: the code slices them once more, and looks for the first zero among them
+abbrev pub past : List ℕ → ℕ → ℕ → List ℕ
+past s i n = take (length (take (length s - i) (drop i s)) - n) (drop n (take (length s - i) (drop i s)))
+
+past_byte : (s : List ℕ) (i n j : ℕ) → get_or (past s i n) j 0 ≡ get_or s (i + n + j) 0
+past_byte s i n j =
+    let r = take (length s - i) (drop i s) in
+    let e : i + (n + j) ≡ i + n + j = omega arith in
+    ap (λ (l : List ℕ). get_or l j 0) (rest_is r n) ∙ get_or-drop n r j 0 ∙ ap (λ (l : List ℕ). get_or l (n + j) 0) (rest_is s i) ∙ get_or-drop i s (n + j) 0 ∙ ap (λ (m : ℕ). get_or s m 0) e
+
+module _ (o : Order) {s t₀ : List ℕ} {k i p : ℕ} {t : List ℕ} {n : ℕ} (g : Going o s t₀ k i p t n) (bytes : (j : ℕ) → Fits w8 (get_or s j 0)) (room : n ≡ min (length (take (length s - i) (drop i s))) (length t₀ - (k + 1))) where
+  -- m of them are no zero
+  going_past : (m : ℕ) → i + n + m ≤ length s → AllWithin (λ b. b ≡ 0 → ⊥) (past s i n) 0 m → Going o s t₀ k i p t (n + m)
+  going_past zero l a = let e : n + 0 ≡ n = omega arith in rw e g
+  going_past (suc m) l a =
+      let e : n + suc m ≡ n + m + 1 = omega arith in
+      let b : get_or (past s i n) m 0 ≡ get_or s (i + (n + m)) 0 = past_byte s i n m ∙ ap (λ (j : ℕ). get_or s j 0) (omega arith) in
+      rw e (going_dropped o (going_past m (omega arith) (λ j d z h. a j d z (omega arith))) (omega arith) (b, omega (arith, b, bytes (i + (n + m)))) (a m 0 (omega arith) (omega arith)) (omega (arith, room, rest_length s i)))
+
+  past_length : length (past s i n) ≡ length s - i - n
+  past_length = rest_length (take (length s - i) (drop i s)) n ∙ ap (λ (m : ℕ). m - n) (rest_length s i)
+
+  -- the first zero among them ends the text
+  pub going_found : {u : List ℕ} (m : ℕ) → (m < length (past s i n)) × HoldsAt (λ b. b ≡ 0) (past s i n) m × AllWithin (λ b. b ≡ 0 → ⊥) (past s i n) 0 m → u ≡ set t k (n + m)
+      → state u (k + 1 + (n + m)) (At (p + 8 * (n + m) + 8)) ≡ shown_over t₀ k (show_text (read_text o s p (length s)))
+  going_found m f d =
+      let l : i + (n + m) < length s = omega (arith, f.0, past_length) in
+      let b : get_or (past s i n) m 0 ≡ get_or s (i + (n + m)) 0 = past_byte s i n m ∙ ap (λ (j : ℕ). get_or s j 0) (omega arith) in
+      going_ends o (going_past m (omega arith) f.2) l (b, omega (arith, b, bytes (i + (n + m)))) (f.1 0) d
+
+  -- and where there is none, the body's end cuts it
+  pub going_lost : {u : List ℕ} → AllWithin (λ b. b ≡ 0 → ⊥) (past s i n) 0 (length (past s i n)) → u ≡ set t k (length s - i)
+      → state u (k + 1 + (length s - i)) (Fault 13) ≡ shown_over t₀ k (show_text (read_text o s p (length s)))
+  going_lost a d =
+      let m : n + length (past s i n) ≡ length s - i = omega (arith, past_length, g.inside) in
+      rw (← m) (going_cut o (going_past (length (past s i n)) (omega (arith, past_length, g.inside)) a) (omega (arith, m)) (rw m d))

@@ -1,9 +1,12 @@
 -- The kinds of bit fields that stand in runs, and their formats.
-use Rattle.std.specs.Prelude.{ℕ, ◌+◌, ◌^◌, ◌≤◌, List, [], ◌∷◌, Bool, true, false, ltb, leb, eqb}
+use Rattle.std.specs.Prelude.{◌≡◌, ℕ, ◌+◌, ◌-◌, ◌*◌, ◌^◌, ◌<◌, ◌≤◌, List, [], ◌∷◌, Bool, true, false, ltb, leb, eqb, Result, Ok, Err}
 use Rattle.format.specs.Tests.{pick}
-use Rattle.format.specs.Formats.{Item, Format, item, only, the}
-use Rattle.format.specs.Items.{Num, num, bad, by_verb, coordinates_of}
+use Rattle.format.specs.Bits.{Order}
+use Rattle.format.specs.Reading.{Fault}
+use Rattle.format.specs.Formats.{Item, Format, item, only, the, times}
+use Rattle.format.specs.Items.{Num, num, bad, by_verb, coordinates_of, run}
 use Rattle.bits.specs.Places.{PlaceIn}
+use Rattle.table.specs.State.{State, shown_over}
 use Rattle.table.specs.declared.fields.Field.{Field}
 use Rattle.table.specs.declared.fields.Field.TheVariants.{Verb, Interpolation, SpatialFlag, Plain, ByteValue, Coordinate}
 
@@ -72,3 +75,10 @@ weights Coordinate = 0 ∷ 0 ∷ 0 ∷ 0 ∷ 0 ∷ 0 ∷ 0 ∷ 0 ∷ []
 -- an engine's place p and index k: so far a number was stored for each bit at most, so that no index can wrap
 abbrev pub Fits : List ℕ → ℕ → ℕ → Type 0
 Fits b p k = PlaceIn b p × (k ≤ p + 2 ^ 62)
+
+-- of n fields of w bits, for every n of which m stand in the bytes, those m were read from p on, and laid over the table t from index k: they announce a number of signed fields, and the others are still to
+-- be read, over the table u; or only i of them, and the next is not allowed
+abbrev pub LaysFields : Order → Field → ℕ → List ℕ → List ℕ → ℕ → ℕ → ℕ → List ℕ → Result ℕ ℕ → Type 0
+LaysFields o f w b t k p m u (Ok sum) = (n : ℕ) → m ≤ n → (shown_over t k (run o b (times n (field_of f w)) p) ≡ shown_over u (k + m) (run o b (times (n - m) (field_of f w)) (p + m * w)))
+    × (announced f (run o b (times n (field_of f w)) p).shown ≡ sum + announced f (run o b (times (n - m) (field_of f w)) (p + m * w)).shown) × (sum ≤ 6 * m)
+LaysFields o f w b t k p m u (Err i) = (i < m) × ((n : ℕ) → m ≤ n → ◌≡◌ {A = State} (record { table = u; count = k + i; ended = Fault 16 }) (shown_over t k (run o b (times n (field_of f w)) p)))

@@ -1,3 +1,3 @@
 pub mod State
-pub mod Run
+pub mod Readers
 pub mod Fields

@@ -1,121 +1,89 @@
-// Items of one kind in turn.
-ghost use Rattle.std.specs.Prelude.{◌≡◌, ◌*◌, ◌≤◌, ◌<◌, ◌^◌};
-ghost use Rattle.format.specs.Formats.{times};
-ghost use Rattle.format.specs.Items.{run, float};
+// Parts of one kind in turn.
+ghost use Rattle.std.specs.Prelude.{◌≡◌, ◌*◌, ◌<◌, ◌^◌};
+ghost use Rattle.format.specs.Formats.{Format, times};
+ghost use Rattle.format.specs.Items.{float, string};
 ghost use Rattle.items.specs.Kinds.{format_of};
 ghost use Rattle.items.specs.declared.Item.TheVariants.{Time};
-ghost use Rattle.table.specs.State.{shown_over};
-ghost use Rattle.table.specs.Run.{run_leaves};
-ghost use Rattle.table.specs.Fields.{Fits};
-ghost use Rattle.bits.specs.Places.{order_of, InEither};
+ghost use Rattle.table.specs.Readers.{Reads, Room};
 
-use crate::{Run, put, read_one, room_for};
-use bits::{Aligned, BitPlace, Order, Whole};
+use crate::{Reader, room_for};
+use bits::{BitPlace, Number};
 use items::{Item, Spelled};
+use reasons::Reason;
 
-// n items, one by one.
-pub fn read_items(
-    order: Order,
-    kind: Item,
-    count: usize,
-    body: &[u8],
-    at: BitPlace,
-    table: &mut [u64],
-    from: usize,
-) -> Run
-    requires { Fits body.now at.0 from }
-    ensures { run_leaves table.new result ≡ shown_over table.old from (run (order_of order) body.now (times count (format_of kind)) at.0) }
-{
-    let mut place = at;
-    let mut index = from;
-    let mut left = count;
-    while 0 < left {
-        let run = read_one(order, kind, body, place, table, index);
-        let Run::Done(next, behind) = run else {
-            return run;
-        };
-        place = next;
-        index = behind;
-        left -= 1;
-    }
-    Run::Done(place, index)
+// What may stand several times in turn: an item, a String, or what the crates above make of these.
+pub trait Part {
+    // What the definitions read.
+    ghost format: { Self → Format };
+
+    fn read(&self, reader: &mut Reader<'_>) -> Result<(), Reason>
+        requires { Room reader.old }
+        ensures { Reads reader.old reader.new result (format self.now) };
 }
 
-// n Times from a whole byte on: each ends on one, so that none is aligned, and the place is held in both counts. Whole bytes are the same in either order.
-fn read_times_at(count: usize, body: &[u8], at: Whole, table: &mut [u64], from: usize) -> Run
-    requires { Fits body.now at.bit.0 from × (at.bit.0 ≡ 8 * at.byte.0) }
-    ensures { InEither (λ o. run_leaves table.new result ≡ shown_over table.old from (run o body.now (times count (format_of Time)) at.bit.0)) }
-{
-    let mut place = at;
-    let mut index = from;
-    let mut left = count;
-    while 0 < left {
-        match items::read_time(body, place) {
-            Spelled::Value(value, next) => {
-                put(table, index, value);
-                place = next;
-                index += 1;
-                left -= 1;
-            }
-            Spelled::Fault(why) => return Run::Stop(why, index),
+impl Part for Item {
+    ghost format = { format_of };
+
+    fn read(&self, reader: &mut Reader<'_>) -> Result<(), Reason> {
+        reader.item(*self)?;
+        Ok(())
+    }
+}
+
+impl Reader<'_> {
+    // n parts, one by one.
+    pub fn in_turn<P: Part>(&mut self, part: &P, count: usize) -> Result<(), Reason>
+        requires { Room self.old }
+        ensures { Reads self.old self.new result (times count (P.format part.now)) }
+    {
+        for _ in 0..count {
+            part.read(self)?;
         }
-    }
-    let end = place.bit;
-    Run::Done(end, index)
-}
-
-// n Times: as `read_items` reads them, but nothing asks each for its kind, and only the first is aligned.
-pub fn read_times(
-    order: Order,
-    count: usize,
-    body: &[u8],
-    at: BitPlace,
-    table: &mut [u64],
-    from: usize,
-) -> Run
-    requires { Fits body.now at.0 from }
-    ensures { run_leaves table.new result ≡ shown_over table.old from (run (order_of order) body.now (times count (format_of Time)) at.0) }
-{
-    // Where there is no Time, nothing is skipped.
-    if count == 0 {
-        return Run::Done(at, from);
-    }
-    match bits::align(order, body, at) {
-        Aligned::Clean(byte, bit) => read_times_at(count, body, Whole { byte, bit }, table, from),
-        Aligned::Unclean => Run::Stop(15, from),
+        Ok(())
     }
 }
 
-// n Floats. Where all of them stand on whole bytes they show whatever these are, so only those are read that there is room for.
-pub fn read_floats(
-    order: Order,
-    count: usize,
-    body: &[u8],
-    at: BitPlace,
-    table: &mut [u64],
-    from: usize,
-) -> Run
-    requires { Fits body.now at.0 from × (count < 2 ^ 32) }
-    ensures { run_leaves table.new result ≡ shown_over table.old from (run (order_of order) body.now (times count float) at.0) }
-{
-    let whole = bits::next_byte(at);
-    let bit = whole.bit;
-    let byte = whole.byte;
-    let end = bit.0 + count * 32;
-    if at.0 != bit.0 {
-        return read_items(order, Item::Float, count, body, at, table, from);
+impl Reader<'_> {
+    // n Times: as `in_turn` reads them, but nothing asks each for its kind, and only the first is aligned: each ends on a whole byte.
+    pub fn times(&mut self, count: usize) -> Result<(), Reason>
+        requires { Room self.old }
+        ensures { Reads self.old self.new result (times count (format_of Time)) }
+    {
+        // Where there is no Time, nothing is skipped.
+        if count == 0 {
+            return Ok(());
+        }
+        let mut place = bits::align(self.order, self.body, self.place)?;
+        self.place = place.bit;
+        for _ in 0..count {
+            let Spelled { value, next } = items::read_time(self.body, place)?;
+            self.show(Number {
+                value,
+                next: next.bit,
+            });
+            place = next;
+        }
+        Ok(())
     }
-    if body.len() * 8 < end {
-        return read_items(order, Item::Float, count, body, at, table, from);
+
+    // n Floats. Where all of them stand on whole bytes they show whatever these are, so only those are read that there is room for.
+    pub fn floats(&mut self, count: usize) -> Result<(), Reason>
+        requires { Room self.old × (count < 2 ^ 32) }
+        ensures { Reads self.old self.new result (times count float) }
+    {
+        let start = bits::next_byte(self.place);
+        let end = start.bit.0 + count * 32;
+        if self.place.0 != start.bit.0 || self.body.len() * 8 < end {
+            return self.in_turn(&Item::Float, count);
+        }
+        let first = start.byte.0;
+        let from = self.index;
+        let table = &mut *self.table;
+        for i in 0..room_for(table.len(), from, count) {
+            table[from + i] = items::float_at(self.body, first + 4 * i);
+        }
+        self.index += count;
+        self.place = BitPlace(end);
+        Ok(())
     }
-    let room = room_for(table.len(), from, count);
-    let mut place = byte.0;
-    let mut i = 0;
-    while i < room {
-        let index = from + i;
-        table[index] = items::float_at(body, place);
-        place += 4;
-        i += 1;
-    }
-    Run::Done(BitPlace(end), from + count)
 }

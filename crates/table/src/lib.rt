@@ -1,44 +1,31 @@
 // The lent table. A number is stored only where there is room, so one engine serves the run that counts and the run that fills.
 #![tactic(auto)]
 
-ghost use Rattle.std.specs.Prelude.{◌≡◌, ◌-◌, min, set};
+ghost use Rattle.std.specs.Prelude.{◌≡◌, ◌+◌, ◌-◌, ◌*◌, ◌<◌, ◌≤◌, [], ◌∷◌, min, set, length, IfOk};
+ghost use Rattle.format.specs.Formats.{item as one_of, Item as ItemOf};
 ghost use Rattle.format.specs.Items.{run};
 ghost use Rattle.items.specs.Kinds.{format_of};
-ghost use Rattle.table.specs.State.{shown_over};
-ghost use Rattle.table.specs.Run.{run_leaves};
-ghost use Rattle.table.specs.Fields.{Fits};
+ghost use Rattle.table.specs.Readers.{Reads, Room, Shown};
 ghost use Rattle.bits.specs.Places.{order_of};
 
 pub mod fields;
 pub mod in_turn;
+mod reader;
 pub mod text;
 
-use bits::{BitPlace, Got, Order};
+use bits::Number;
+pub use in_turn::Part;
 use items::Item;
+pub use reader::Reader;
+use reasons::Reason;
+pub use text::Text;
 
-// How a run ended: at a place or by a reason; and the index of the next number.
-#[derive(Clone, Copy)]
-pub enum Run {
-    Done(BitPlace, usize),
-    Stop(u32, usize),
-}
-
-// The same answer, taken apart and made again: handed on whole it is copied through memory in other pieces than it was stored in, and the processor waits for that.
-pub fn again(run: Run) -> Run
-    ensures { result ≡ run }
+// Stores a value where there is room for it.
+pub fn put<T: Copy>(lent: &mut [T], index: usize, value: T)
+    ensures { lent.new ≡ set lent.old index value }
 {
-    match run {
-        Run::Done(next, behind) => Run::Done(BitPlace(next.0), behind),
-        Run::Stop(why, behind) => Run::Stop(why, behind),
-    }
-}
-
-// Stores a number where there is room for it.
-pub fn put(table: &mut [u64], index: usize, value: u64)
-    ensures { table.new ≡ set table.old index value }
-{
-    if index < table.len() {
-        table[index] = value;
+    if index < lent.len() {
+        lent[index] = value;
     }
 }
 
@@ -46,33 +33,38 @@ pub fn put(table: &mut [u64], index: usize, value: u64)
 pub fn room_for(len: usize, index: usize, count: usize) -> usize
     ensures { result ≡ min count (len - index) }
 {
-    if len < index {
-        return 0;
-    }
-    if len - index < count {
-        return len - index;
-    }
-    count
+    count.min(len.saturating_sub(index))
 }
 
-// One item.
-pub fn read_one(
-    order: Order,
-    kind: Item,
-    body: &[u8],
-    at: BitPlace,
-    table: &mut [u64],
-    from: usize,
-) -> Run
-    requires { Fits body.now at.0 from }
-    ensures { run_leaves table.new result ≡ shown_over table.old from (run (order_of order) body.now (format_of kind) at.0) }
-{
-    let got = items::read_item(order, kind, body, at);
-    match got {
-        Got::Value(value, next) => {
-            put(table, from, value);
-            Run::Done(next, from + 1)
-        }
-        Got::Fault(why) => Run::Stop(why, from),
+impl Reader<'_> {
+    // A number is shown, and the next item starts behind it.
+    pub fn show(&mut self, number: Number)
+        requires { Room self.old × (self.old.place.0 < number.next.0) × (number.next.0 ≤ 8 * length self.old.body.now) }
+        ensures { Shown self.old self.new number }
+    {
+        put(self.table, self.index, number.value);
+        self.index += 1;
+        self.place = number.next;
+    }
+
+    // Zero bits up to the next whole byte (15).
+    pub fn align(&mut self) -> Result<(), Reason>
+        requires { Room self.old }
+        ensures { Reads self.old self.new result (one_of ItemOf.align) }
+    {
+        let start = bits::align(self.order, self.body, self.place)?;
+        self.place = start.bit;
+        Ok(())
+    }
+
+    // One item: its number is shown, and told.
+    pub fn item(&mut self, kind: Item) -> Result<u64, Reason>
+        requires { Room self.old }
+        ensures reads { Reads self.old self.new result (format_of kind) }
+        ensures shown { IfOk result (λ value. (run (order_of self.old.order) self.old.body.now (format_of kind) self.old.place.0).shown ≡ value ∷ []) }
+    {
+        let number = items::read_item(self.order, kind, self.body, self.place)?;
+        self.show(number);
+        Ok(number.value)
     }
 }

@@ -1,48 +1,72 @@
 // Strings.
-ghost use Rattle.std.specs.Prelude.{◌≡◌, ◌*◌, length};
-ghost use Rattle.format.specs.Items.{run, string, read_text, show_text};
-ghost use Rattle.table.specs.State.{shown_over};
-ghost use Rattle.table.specs.Run.{run_leaves};
-ghost use Rattle.table.specs.Fields.{Fits};
-ghost use Rattle.bits.specs.Places.{order_of, InEither};
+ghost use Rattle.std.specs.Prelude.{◌+◌, ◌*◌, ◌<◌, ◌^◌, length, IfSome};
+ghost use Rattle.format.specs.Items.{string};
+ghost use Rattle.bits.specs.Places.{PlaceIn};
+ghost use Rattle.table.specs.Readers.{Reads, Room, LaysText};
 
-use crate::{Run, put, room_for};
-use bits::{Aligned, BitPlace, BytePlace, Order};
+use crate::{Part, Reader, put, room_for};
+use bits::{BitPlace, Whole};
+use reasons::Reason;
 
-// The bytes up to a zero byte, each read once: they are stored behind their count, which is known last. Whole bytes are the same in either order.
-fn text(body: &[u8], byte: BytePlace, bit: BitPlace, table: &mut [u64], from: usize) -> Run
-    requires { Fits body.now bit.0 from × (bit.0 ≡ 8 * byte.0) }
-    ensures { InEither (λ o. run_leaves table.new result ≡ shown_over table.old from (show_text (read_text o body.now bit.0 (length body.now)))) }
+// The bytes from a whole byte on up to a zero byte, each read once: those that there is room for are stored, the others looked through, and their count, which is known last, is stored before them. How
+// many they are, if a zero byte ends them. Whole bytes are the same in either order.
+fn lay_text(body: &[u8], at: Whole, table: &mut [u64], from: usize) -> Option<usize>
+    requires { PlaceIn body.now at.bit.0 × (from < 13 * 2 ^ 60) }
+    ensures laid { LaysText body.now at table.old from table.new result }
+    ensures inside { IfSome result (λ count. at.byte.0 + count < length body.now) }
 {
-    let start = byte.0;
-    let len = body.len();
+    let rest = &body[at.byte.0..];
     let first = from + 1;
-    let room = room_for(table.len(), first, len - start);
-    let mut count = 0;
-    while start + count < len {
-        let value = bits::byte_at(body, start + count);
-        if value == 0 {
+    let room = room_for(table.len(), first, rest.len());
+    for count in 0..room {
+        let byte = rest[count];
+        if byte == 0 {
             put(table, from, count as u64);
-            return Run::Done(BitPlace(bit.0 + 8 * count + 8), first + count);
+            return Some(count);
         }
-        if count < room {
-            let index = first + count;
-            table[index] = value;
-        }
-        count += 1;
+        table[first + count] = u64::from(byte);
     }
-    put(table, from, count as u64);
-    Run::Stop(13, first + count)
+    match rest[room..].iter().position(|&byte| byte == 0) {
+        Some(more) => {
+            put(table, from, (room + more) as u64);
+            Some(room + more)
+        }
+        None => {
+            put(table, from, rest.len() as u64);
+            None
+        }
+    }
 }
 
-// A String: its length and then its bytes.
-pub fn read_string(order: Order, body: &[u8], at: BitPlace, table: &mut [u64], from: usize) -> Run
-    requires { Fits body.now at.0 from }
-    ensures { run_leaves table.new result ≡ shown_over table.old from (run (order_of order) body.now string at.0) }
-{
-    let aligned = bits::align(order, body, at);
-    let Aligned::Clean(byte, bit) = aligned else {
-        return Run::Stop(15, from);
-    };
-    text(body, byte, bit, table, from)
+impl Reader<'_> {
+    // A String: its length and then its bytes. One that no zero byte ends is cut by the body's end (13).
+    pub fn string(&mut self) -> Result<(), Reason>
+        requires { Room self.old }
+        ensures { Reads self.old self.new result string }
+    {
+        let start = bits::align(self.order, self.body, self.place)?;
+        match lay_text(self.body, start, self.table, self.index) {
+            Some(count) => {
+                self.index += 1 + count;
+                self.place = BitPlace(start.bit.0 + 8 * count + 8);
+                Ok(())
+            }
+            None => {
+                self.index += 1 + (self.body.len() - start.byte.0);
+                Err(Reason::ItemPastTheBody)
+            }
+        }
+    }
+}
+
+// A String, as a part.
+#[derive(Clone, Copy)]
+pub struct Text;
+
+impl Part for Text {
+    ghost format = { λ _. string };
+
+    fn read(&self, reader: &mut Reader<'_>) -> Result<(), Reason> {
+        reader.string()
+    }
 }

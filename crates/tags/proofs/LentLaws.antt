@@ -1,4 +1,4 @@
--- Classes that are lent as numbers: they are those of a level.
+-- Classes that are lent: they are those of a level.
 use Prim.Native.Nat.{ℕ}
 use mathlib.Core.List.{List}
 use mathlib.Core.Path.{◌≡◌, refl, ap, sym, subst, ◌∙◌}
@@ -35,12 +35,12 @@ with_spelt Container code = refl
 with_spelt Fixed code = refl
 with_spelt Attributes code = refl
 
-pub class_level : (ns : List ℕ) (scope : Scope) (level : ℕ) → Classed scope level ns → (code : ℕ) → classes_in ns code ≡ class_by scope level code
-class_level ns scope level k code =
-    with_spelt (class_in ns code) code ∙ ap (λ (c : Class). spelt items_of rows_of container_body c code) (k.each code) ∙ sym (taken_by items_of rows_of container_body right scope level code)
+pub class_level : (cs : List Class) (scope : Scope) (level : ℕ) → Classed scope level cs → (code : ℕ) → classes_in cs code ≡ class_by scope level code
+class_level cs scope level k code =
+    with_spelt (class_in cs code) code ∙ ap (λ (c : Class). spelt items_of rows_of container_body c code) (k.each code) ∙ sym (taken_by items_of rows_of container_body right scope level code)
 
-pub fair_in : (o : Order) {ns : List ℕ} → Tabled ns → (code : ℕ) → FairClass o (classes_in ns code)
-fair_in o {ns} k code = subst (FairClass o) (sym (class_level ns k.scope k.level k.classed code)) (fair_by o k.scope k.level code)
+pub fair_in : (o : Order) {cs : List Class} → Tabled cs → (code : ℕ) → FairClass o (classes_in cs code)
+fair_in o {cs} k code = subst (FairClass o) (sym (class_level cs k.scope k.level k.classed code)) (fair_by o k.scope k.level code)
 
 -- the rules that look at the name alone
 pub with_named : (c : Class) (code : ℕ) → (is_end (class_with c code) ≡ ends c) × (is_container (class_with c code) ≡ contains c) × (is_read (class_with c code) ≡ is_read (bare c))

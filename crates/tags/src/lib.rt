@@ -1,91 +1,59 @@
 // One tag: its numbers in the lent table, and its row in the lent tag table.
 #![tactic(auto)]
 
-ghost use Rattle.std.specs.Prelude.{◌≡◌, false, [], ◌∷◌, ◌+◌, ◌<◌, ◌≤◌, ◌^◌, length, set};
+ghost use Rattle.std.specs.Prelude.{◌≡◌, [], ◌∷◌, ◌+◌, ◌<◌, ◌^◌, length};
 ghost use Rattle.std.proofs.lemmas.List.Edits.{sets};
-ghost use Rattle.format.specs.Reading.{shows};
 ghost use Rattle.format.specs.Tests.{pick};
 ghost use Rattle.format.specs.FileAndTags.{is_read, long_on_short, state_of, packed};
 ghost use Rattle.classes.specs.Classes.{bare};
-ghost use Rattle.bodies.specs.Shown.{shown_index, Shows};
+ghost use Rattle.bodies.specs.Shown.{Starts, Shows};
 ghost use Rattle.tags.specs.Shown.{values_of, list_of, headed};
 ghost use Rattle.bits.specs.Places.{order_of};
 
-use bits::{BytePlace, Order, fields};
-use bodies::Shown;
+use bits::{BytePlace, fields};
 use classes::Class;
+use reasons::Reason;
+use table::Reader;
 
 // An opaque body, packed: its length, and then eight bytes to a number, by one load where eight are there. Where there is no room, no byte of it is touched.
-fn pack_bytes(body: &[u8], table: &mut [u64], from: usize) -> Shown
+fn pack_bytes(body: &[u8], table: &mut [u64], from: usize)
     requires { (length body.now < 2 ^ 60) × (from < 2 ^ 61) }
-    ensures { Shows table.old from (shows (packed body.now) 0) false table.new result }
+    ensures { table.new ≡ sets table.old from (packed body.now) }
 {
-    let len = body.len();
-    let whole = len / 8;
+    let whole = body.len() / 8;
     let first = from + 1;
-    let behind = first + (len + 7) / 8;
-    table::put(table, from, len as u64);
-    let stored = table::room_for(table.len(), first, whole);
-    let mut i = 0;
-    while i < stored {
-        let index = first + i;
-        table[index] = fields::eight(body, 8 * i);
-        i += 1;
+    table::put(table, from, body.len() as u64);
+    for i in 0..table::room_for(table.len(), first, whole) {
+        table[first + i] = fields::eight(body, 8 * i);
     }
     let last = first + whole;
-    if last == behind {
-        return Shown::Done(BytePlace(0), behind);
+    let rest = &body[8 * whole..];
+    if !rest.is_empty() && last < table.len() {
+        table[last] = fields::few(rest);
     }
-    if table.len() <= last {
-        return Shown::Done(BytePlace(0), behind);
-    }
-    let rest = 8 * whole;
-    table[last] = fields::few(&body[rest..]);
-    Shown::Done(BytePlace(0), behind)
 }
 
-// The values of a tag, by its class. Those of a container stand before its list, if it has one.
+// The values of a tag, by its class. Those of a container stand before its list, if it has one: the byte where it starts is told.
 fn read_tag_values(
-    order: Order,
+    reader: &mut Reader<'_>,
     class: Class,
     code: u32,
-    body: &[u8],
-    table: &mut [u64],
-    from: usize,
-) -> Shown
-    requires { (length body.now < 2 ^ 60) × (from < 2 ^ 61) }
-    ensures { Shows table.old from (values_of (order_of order) class code body.now) (list_of (order_of order) class code body.now) table.new result }
+) -> Result<Option<BytePlace>, Reason>
+    requires { Starts reader.old }
+    ensures { Shows reader.old reader.new result (values_of (order_of reader.old.order) class code reader.old.body.now) (list_of (order_of reader.old.order) class code reader.old.body.now) }
 {
     match class {
-        Class::Opaque => pack_bytes(body, table, from),
-        Class::End => Shown::Done(BytePlace(0), from),
-        Class::Container => bodies::read_container(order, code, body, table, from),
-        Class::Fixed => bodies::read_leaf(order, false, code, body, table, from),
-        Class::Attributes => bodies::read_leaf(order, true, code, body, table, from),
-    }
-}
-
-// The index behind what was stored.
-fn index_behind(shown: Shown) -> usize
-    ensures { result ≡ shown_index shown }
-{
-    match shown {
-        Shown::Done(_, behind) => behind,
-        Shown::Open(_, behind) => behind,
-        Shown::Stop(_, behind) => behind,
-    }
-}
-
-// 1 read, 0 opaque.
-fn is_read(class: Class) -> u64
-    ensures { (result ≡ is_read (bare class)) × (result ≤ 1) }
-{
-    match class {
-        Class::Opaque => 0,
-        Class::End => 1,
-        Class::Container => 1,
-        Class::Fixed => 1,
-        Class::Attributes => 1,
+        Class::Opaque => {
+            pack_bytes(reader.body, reader.table, reader.index);
+            reader.index += 1 + (reader.body.len() + 7) / 8;
+            Ok(None)
+        }
+        Class::End => Ok(None),
+        Class::Container => bodies::read_container(reader, code),
+        Class::Fixed | Class::Attributes => {
+            bodies::read_leaf(reader, class == Class::Attributes, code)?;
+            Ok(None)
+        }
     }
 }
 
@@ -93,65 +61,56 @@ fn is_read(class: Class) -> u64
 pub fn long_on_short(size: u32, len: u32) -> bool
     ensures { result ≡ long_on_short size len }
 {
-    if size == 6 { len < 63 } else { false }
+    size == 6 && len < 63
 }
 
 // 1 read, 0 opaque; it gains 2 where a long header carries a body below 63.
 pub fn state(class: Class, gains: bool) -> u64
     ensures { result ≡ is_read (bare class) + pick gains 2 0 }
 {
-    let read = is_read(class);
-    if gains { read + 2 } else { read }
+    u64::from(class != Class::Opaque) + 2 * u64::from(gains)
 }
 
-// A tag's first three numbers, by one test where all of them fit.
-fn put_first(table: &mut [u64], from: usize, code: u64, state: u64, count: u64)
-    requires { (from < length table.old) × (from < 2 ^ 60) }
-    ensures { table.new ≡ set (set (set table.old from code) (from + 1) state) (from + 2) count }
+// Stores values from an index on where there is room for them: all of them by one test, or those before the end of what is lent.
+fn put_all<T: Copy>(lent: &mut [T], from: usize, values: &[T])
+    requires { from + length values.now < 2 ^ 62 }
+    ensures { lent.new ≡ sets lent.old from values.now }
 {
-    if 3 <= table.len() - from {
-        table[from] = code;
-        table[from + 1] = state;
-        table[from + 2] = count;
+    if lent.len() <= from {
         return;
     }
-    table::put(table, from, code);
-    table::put(table, from + 1, state);
-    table::put(table, from + 2, count);
+    let room = lent.len() - from;
+    if values.len() <= room {
+        lent[from..from + values.len()].copy_from_slice(values);
+    } else {
+        lent[from..].copy_from_slice(&values[..room]);
+    }
 }
 
 // A tag's numbers, with a header of this size: its values are stored first, behind its code, its state and their count. The walk that counts has no room
 // for any of them.
 pub fn show_tag(
-    order: Order,
+    reader: &mut Reader<'_>,
     class: Class,
     code: u32,
     size: u32,
-    body: &[u8],
-    table: &mut [u64],
-    from: usize,
-) -> Shown
-    requires { (length body.now < 2 ^ 32) × (from < 2 ^ 60) }
-    ensures { Shows table.old from (headed code (state_of (bare class) size (length body.now)) (values_of (order_of order) class code body.now)) (list_of (order_of order) class code body.now) table.new result }
+) -> Result<Option<BytePlace>, Reason>
+    requires starts { reader.old.place.0 ≡ 0 }
+    requires few { length reader.old.body.now < 2 ^ 32 }
+    requires room { reader.old.index < 2 ^ 60 }
+    ensures { Shows reader.old reader.new result (headed code (state_of (bare class) size (length reader.old.body.now)) (values_of (order_of reader.old.order) class code reader.old.body.now)) (list_of (order_of reader.old.order) class code reader.old.body.now) }
 {
-    let shown = read_tag_values(order, class, code, body, table, from + 3);
-    if table.len() <= from {
-        return shown;
-    }
-    let gains = long_on_short(size, body.len() as u32);
-    let number = state(class, gains);
-    let count = (index_behind(shown) - (from + 3)) as u64;
-    put_first(table, from, code as u64, number, count);
+    let from = reader.index;
+    reader.index += 3;
+    let shown = read_tag_values(reader, class, code);
+    let gains = long_on_short(size, reader.body.len() as u32);
+    let count = (reader.index - (from + 3)) as u64;
+    put_all(
+        reader.table,
+        from,
+        &[u64::from(code), state(class, gains), count],
+    );
     shown
-}
-
-// Stores a number of the tag table where there is room for it.
-fn put_row(rows: &mut [u32], index: usize, value: u32)
-    ensures { rows.new ≡ set rows.old index value }
-{
-    if index < rows.len() {
-        rows[index] = value;
-    }
 }
 
 // A tag's row: depth, code, place in the file, header size, body length.
@@ -167,21 +126,5 @@ pub fn show_row(
     requires { (place.0 < 2 ^ 32) × (row < 2 ^ 60) }
     ensures { rows.new ≡ sets rows.old row (depth ∷ code ∷ place.0 ∷ size ∷ len ∷ []) }
 {
-    if rows.len() <= row {
-        return;
-    }
-    // A whole row by one test; one that the end of the tag table cuts, number by number.
-    if 5 <= rows.len() - row {
-        rows[row] = depth;
-        rows[row + 1] = code;
-        rows[row + 2] = place.0 as u32;
-        rows[row + 3] = size;
-        rows[row + 4] = len;
-        return;
-    }
-    put_row(rows, row, depth);
-    put_row(rows, row + 1, code);
-    put_row(rows, row + 2, place.0 as u32);
-    put_row(rows, row + 3, size);
-    put_row(rows, row + 4, len);
+    put_all(rows, row, &[depth, code, place.0 as u32, size, len]);
 }

@@ -1,11 +1,13 @@
 -- A file that was judged, added tag by tag; and what a call answers.
-use Prim.Native.Nat.{ℕ, ◌+◌, ◌-◌, ◌≤◌, ◌<◌}
+use Prim.Native.Nat.{ℕ, ◌+◌, ◌-◌, ◌^◌, ◌≤◌, ◌<◌}
 use mathlib.Core.List.{List, [], ◌∷◌}
 use mathlib.Core.Path.{◌≡◌, refl, ap, sym, subst, ◌∙◌}
 use mathlib.Core.Bool.{true, false}
 use native.Mathlib.Omega.{arith}
 use lib.ListN.{length, get_or, drop, set}
-use Rattle.format.specs.Bits.{order_named}
+use Rattle.std.specs.Result.{IsOk}
+use Rattle.std.proofs.Common.{Result, Ok, Err}
+use Rattle.format.specs.Bits.{Order, order_named}
 use Rattle.format.specs.FileAndTags.{class_of, Tag, Outcome, whole, head, no_head, raw_head}
 use Rattle.format.specs.Reasons as paper
 use Rattle.format.specs.Reasons.{IsFile, walk_file, read_tags, into}
@@ -14,89 +16,102 @@ use Rattle.answers.specs.Answers as answers
 use Rattle.answers.specs.Answers.{answer_of}
 use Rattle.answers.specs.declared.Answer.{Answer}
 use Rattle.answers.specs.declared.Answer.TheVariants.{Accepted, Refused}
+use Rattle.reasons.specs.declared.Reason.{Reason}
+use Rattle.reasons.specs.declared.Reason.TheVariants.{TableTooShort}
+use Rattle.reasons.specs.Numbers.{number_of}
+use Rattle.reasons.proofs.NumberLaws.{number_one}
+use Rattle.bits.specs.Places.{order_of, order_by}
+use Rattle.bits.specs.declared.Order.{Order as Code}
+use Rattle.bits.proofs.FieldLaws.{Named, order_told}
 use Rattle.classes.specs.Classes.{class_at}
+use Rattle.classes.specs.declared.Class.{Class}
 use Rattle.headers.specs.Heads.{as_head}
 use Rattle.headers.specs.declared.Header.{Header}
-use Rattle.headers.specs.declared.Head as heads
-use Rattle.headers.specs.declared.Head.TheVariants as stood
 use Rattle.reader.proofs.Demands as demands
 use Rattle.tally.specs.OwnBytes.{own_bytes}
 use Rattle.tally.specs.Adding.{adds, with_file, is_full, by_outcome, adding}
-use Rattle.tally.specs.Places.{next_by, NoneAbove}
+use Rattle.tally.specs.Places.{next_by, NoneAbove, Good, tags_in}
 use Rattle.tally.specs.declared.Tally.{Tally}
 use Rattle.tally.proofs.WalkLaws.{Flat, First, flat_first, flat_over, flat_le}
-use Rattle.tally.proofs.PlaceLaws.{file_flat, leads_by, code_below}
+use Rattle.tally.proofs.PlaceLaws.{good_flat, file_start, leads_by, code_below}
 use Rattle.tally.proofs.CountLaws.{none_above_set, none_above_more}
 
 -- ---- tag by tag: the tags that are left, added to the counts of now, give what all of them added to the first counts give
-module _ (order level : ℕ) (f counts₀ : List ℕ) where
-  pub record Going (counts : List ℕ) (place : ℕ) : Type 0 where
-    pub ts : List Tag
-    pub flat : Flat (order_named order) (class_of level) f place ts
-    pub same : adds counts ts ≡ adds counts₀ (walk_file order level f).tags
-    pub low : NoneAbove (16777216000000 + place) counts
+pub record Going (o : Order) (level : ℕ) (f counts₀ counts : List ℕ) (place : ℕ) : Type 0 where
+  pub ts : List Tag
+  pub flat : Flat o (class_of level) f place ts
+  pub same : adds counts ts ≡ adds counts₀ (tags_in o level f)
+  pub low : NoneAbove (16777216000000 + place) counts
 
-  pub going_start : (walk_file order level f).ended ≡ whole → NoneAbove 16777216000000 counts₀ → Going counts₀ 9
-  going_start e h = record { ts = (walk_file order level f).tags; flat = file_flat order level f e; same = refl; low = none_above_more 16777216000000 (16777216000000 + 9) counts₀ (omega arith) h }
+module _ (o : Order) (level : ℕ) (f counts₀ : List ℕ) where
+  pub going_start : Good o level f → NoneAbove 16777216000000 counts₀ → Going o level f counts₀ counts₀ 9
+  going_start e h = record { ts = tags_in o level f; flat = good_flat e; same = refl; low = none_above_more 16777216000000 (16777216000000 + 9) counts₀ (omega arith) h }
 
-  pub going_over : {counts : List ℕ} {place : ℕ} → Going counts place → length f ≤ place → counts ≡ adds counts₀ (walk_file order level f).tags
+  pub going_over : {counts : List ℕ} {place : ℕ} → Going o level f counts₀ counts place → length f ≤ place → counts ≡ adds counts₀ (tags_in o level f)
   unfolding adds
-  going_over {counts} g l = go g.ts (flat_over (order_named order) (class_of level) f g.flat l) g.same
+  going_over {counts} g l = go g.ts (flat_over o (class_of level) f g.flat l) g.same
     where
-      go : (ts : List Tag) → ts ≡ [] → adds counts ts ≡ adds counts₀ (walk_file order level f).tags → counts ≡ adds counts₀ (walk_file order level f).tags
+      go : (ts : List Tag) → ts ≡ [] → adds counts ts ≡ adds counts₀ (tags_in o level f) → counts ≡ adds counts₀ (tags_in o level f)
       go [] q e = e
       go (t ∷ ts) q e = clash cc
 
   -- the header H was found at a place
   module _ (counts : List ℕ) (place : ℕ) (H : Header) where
-    abbrev next : ℕ
-    next = next_by (order_named order) (class_at level H.code) H.code H.length (place + H.size) f
+    -- the next tag is at n
+    pub record Taken (n : ℕ) : Type 0 where
+      pub later : place < n
+      pub upto : n ≤ length f
+      pub fits : get_or counts H.code 0 + (n - place) < 2 ^ 64
+      pub goes : Going o level f counts₀ (set counts H.code (get_or counts H.code 0 + (n - place))) n
 
     pub record Found : Type 0 where
       pub coded : H.code < 1024
       pub fits : place + H.size + H.length ≤ length f
-      pub later : place < next
-      pub upto : next ≤ length f
-      pub goes : (n : ℕ) (counts' : List ℕ) → n ≡ next → counts' ≡ set counts H.code (get_or counts H.code 0 + (n - place)) → Going counts' n
+      pub taken : {c : Class} {n : ℕ} → c ≡ class_at level H.code → n ≡ next_by o c H.code H.length (place + H.size) f → Taken n
 
-  module _ {counts : List ℕ} {place : ℕ} (g : Going counts place) (inside : place < length f) (R : heads.Head) (read : as_head R ≡ raw_head (drop place f)) where
-    abbrev first : First (order_named order) (class_of level) f place g.ts
-    first = flat_first (order_named order) (class_of level) f g.flat inside
+  module _ {counts : List ℕ} {place : ℕ} (good : Good o level f) (g : Going o level f counts₀ counts place) (inside : place < length f) where
+    abbrev first : First o (class_of level) f place g.ts
+    first = flat_first o (class_of level) f g.flat inside
 
     abbrev t : Tag
     t = first.t
 
     -- no header is cut
-    pub never_cut : {e : ℕ} → R ≡ stood.Fault e → ⊥
-    never_cut {e} q =
-        let m : no_head e ≡ head t.code t.body_length t.header_size = sym (ap as_head q) ∙ read ∙ first.at.header in
+    pub never_cut : (y : Result Header Reason) → as_head y ≡ raw_head (drop place f) → IsOk y
+    never_cut (Ok H) read = refl
+    never_cut (Err e) read =
+        let m : no_head (number_of e) ≡ head t.code t.body_length t.header_size = read ∙ first.at.header in
         clash cc
 
-    pub found : IsFile f → {H : Header} → R ≡ stood.Tag H → Found counts place H
+    pub found : IsFile f → {y : Result Header Reason} {H : Header} → as_head y ≡ raw_head (drop place f) → y ≡ Ok H → Found counts place H
     unfolding adds
-    found bytes {H} q =
+    found bytes {y} {H} read q =
         let m : head H.code H.length H.size ≡ head t.code t.body_length t.header_size = sym (ap as_head q) ∙ read ∙ first.at.header in
-        let c : H.code ≡ t.code = cc in
+        let h : H.code ≡ t.code = cc in
         let l : H.length ≡ t.body_length = cc in
         let s : H.size ≡ t.header_size = cc in
         let b : ℕ = first.b in
-        let n : next counts place H ≡ b = rw (c, l, s) (leads_by (order_named order) level f t.code t.body_length (place + t.header_size) b first.at.next) in
-        let e : adds counts (t ∷ first.us) ≡ adds counts₀ (walk_file order level f).tags = ap (adds counts) (sym first.is) ∙ g.same in
+        let e : adds counts (t ∷ first.us) ≡ adds counts₀ (tags_in o level f) = ap (adds counts) (sym first.is) ∙ g.same in
         record {
-          coded = rw c (code_below f place bytes first.at.header);
+          coded = rw h (code_below f place bytes first.at.header);
           fits = omega (arith, first.at.fits, first.at.place, l, s);
-          later = omega (arith, first.at.later, n);
-          upto = omega (arith, n, flat_le (order_named order) (class_of level) f first.rest);
-          goes = λ k counts' i j.
-              let v : counts' ≡ set counts t.code (get_or counts t.code 0 + own_bytes t first.us)
-              = j ∙ ap (λ (z : ℕ). set counts H.code (get_or counts H.code 0 + z)) (omega (arith, i, n, first.at.own)) ∙ ap (λ (z : ℕ). set counts z (get_or counts z 0 + own_bytes t first.us)) c in
+          taken = λ {c} {n} d i.
+              let k : n ≡ b = i ∙ rw (d, h, l, s) (leads_by o level f t.code t.body_length (place + t.header_size) b first.at.next) in
+              let v : set counts H.code (get_or counts H.code 0 + (n - place)) ≡ set counts t.code (get_or counts t.code 0 + own_bytes t first.us)
+              = ap (λ (z : ℕ). set counts H.code (get_or counts H.code 0 + z)) (omega (arith, k, first.at.own)) ∙ ap (λ (z : ℕ). set counts z (get_or counts z 0 + own_bytes t first.us)) h in
+              let u : n ≤ length f = omega (arith, k, flat_le o (class_of level) f first.rest) in
               record {
-                ts = first.us;
-                flat = subst (λ (z : ℕ). Flat (order_named order) (class_of level) f z first.us) (sym (i ∙ n)) first.rest;
-                same = ap (λ (z : List ℕ). adds z first.us) v ∙ e;
-                low = subst (NoneAbove (16777216000000 + k)) (sym v) (none_above_set (16777216000000 + k) counts t.code (get_or counts t.code 0 + own_bytes t first.us)
-                    (omega (arith, g.low t.code, first.at.later, first.at.own, i, n))
-                    (none_above_more (16777216000000 + place) (16777216000000 + k) counts (omega (arith, first.at.later, i, n)) g.low));
+                later = omega (arith, first.at.later, k);
+                upto = u;
+                fits = omega (arith, g.low H.code, u, good.limit);
+                goes = record {
+                  ts = first.us;
+                  flat = subst (λ (z : ℕ). Flat o (class_of level) f z first.us) (sym k) first.rest;
+                  same = ap (λ (z : List ℕ). adds z first.us) v ∙ e;
+                  low = subst (NoneAbove (16777216000000 + n)) (sym v) (none_above_set (16777216000000 + n) counts t.code (get_or counts t.code 0 + own_bytes t first.us)
+                      (omega (arith, g.low t.code, first.at.later, first.at.own, k))
+                      (none_above_more (16777216000000 + place) (16777216000000 + n) counts (omega (arith, first.at.later, k)) g.low));
+                };
               };
         }
 
@@ -119,14 +134,26 @@ module _ (order level : ℕ) (t : Tally) (f : List ℕ) where
     abbrev call : demands.Called order level f
     call = record { call = demands.tags; before = m; after = m'; answer = r; promise = judged }
 
-    pub adding_refused : {e n : ℕ} → is_full t ≡ false → r ≡ Refused e n → (e ≡ 19 → ⊥) → record { tally = t; answer = paper.refused e n } ≡ adding order level t f
-    adding_refused {e} {n} h q k = (adding_by h (demands.was_refused call (record { refused = q; not_room = k })))
+    -- it refused the file
+    pub adding_refused : {e : Reason} {n : ℕ} → is_full t ≡ false → r ≡ Refused e n → (e ≡ TableTooShort → ⊥) → record { tally = t; answer = paper.refused (number_of e) n } ≡ adding order level t f
+    adding_refused {e} {n} h q k =
+        (adding_by h (demands.was_refused call (record { refused = ap answer_of q; not_room = λ w. k (number_one e TableTooShort w) })))
 
-    pub judged_whole : demands.WasRead r → (walk_file order level f).ended ≡ whole
-    judged_whole h = demands.was_read call h
-
-    pub no_room : {e n : ℕ} → r ≡ Refused e n → e ≡ 19 → (walk_file order level f).ended ≡ whole
-    no_room q e = judged_whole (rw q e)
+    -- it had no room, or it had
+    pub no_room : {e : Reason} {n : ℕ} → r ≡ Refused e n → e ≡ TableTooShort → (walk_file order level f).ended ≡ whole
+    no_room q e = demands.was_read call (rw q (ap number_of e))
 
     pub room : {n : ℕ} → r ≡ Accepted n → (walk_file order level f).ended ≡ whole
-    room q = judged_whole (rw q tt)
+    room q = demands.was_read call (rw q tt)
+
+-- the order that its number names
+module _ (order level : ℕ) (f : List ℕ) (judged : (walk_file order level f).ended ≡ whole) where
+  pub order_there : (y : Result Code Reason) → y ≡ order_by order → IsOk y
+  order_there y e = go y (order_told order e)
+    where
+      go : (y : Result Code Reason) → Named order y → IsOk y
+      go (Ok o) k = refl
+      go (Err x) k = absurd (omega (arith, k.1, (file_start order level f judged).ordered))
+
+  pub order_is : {y : Result Code Reason} {o : Code} → y ≡ order_by order → y ≡ Ok o → order_of o ≡ order_named order
+  order_is e q = (subst (Named order) q (order_told order e)).0

@@ -3,13 +3,13 @@ use Prim.Native.Nat.{ℕ, zero, suc, ◌+◌, ◌≤◌, ◌<◌}
 use mathlib.Core.List.{List, [], ◌∷◌}
 use mathlib.Core.Path.{◌≡◌, refl, ◌∙◌}
 use mathlib.Core.Bool.{Bool, true, false}
-use native.Mathlib.Numerals.{add-one}
 use native.Mathlib.Omega.{arith}
-use lib.ListN.{length, get_or, drop, set, replicate, length-set}
-use lib.Seq.{drop-cons}
+use lib.ListN.{length, get_or, set, replicate, length-set}
 use lib.Dec.{ltb, leb}
-use borrow.Author.Tests.{ltb-false, lt-ltb, le-ltb, le-leb, lt-leb, leb-false}
-use Rattle.format.specs.Tests.{pick}
+use borrow.Author.Tests.{ltb-false, le-ltb, le-leb, lt-leb, leb-false}
+use Rattle.std.specs.Prelude.{◌||◌, nat_lt}
+use Rattle.std.specs.List.{list_any}
+use Rattle.format.specs.Tests.{pick, ◌or◌}
 use Rattle.format.specs.FileAndTags.{Tag}
 use Rattle.format.proofs.Absurd.{clash}
 use Rattle.tally.specs.OwnBytes.{own_bytes}
@@ -65,19 +65,14 @@ pub none_above : (most : ℕ) (ns : List ℕ) → NoneAbove most ns → some_abo
 none_above most [] h = refl
 none_above most (n ∷ ns) h = rw (le-ltb most n (h 0)) (none_above most ns (λ i. h (suc i)))
 
--- looked for from index i on
-module _ (most : ℕ) (ns : List ℕ) (i : ℕ) (there : i < length ns) where
-  pub above_here : most < get_or ns i 0 → some_above most (drop i ns) ≡ true
-  above_here h = rw (drop-cons ns i 0 there, lt-ltb most (get_or ns i 0) h)
-
-  pub above_later : get_or ns i 0 ≤ most → some_above most (drop (i + 1) ns) ≡ some_above most (drop i ns)
-  above_later h = rw (add-one i, drop-cons ns i 0 there, le-ltb most (get_or ns i 0) h)
-
-pub above_nowhere : (most : ℕ) (ns : List ℕ) (i : ℕ) → length ns ≤ i → some_above most (drop i ns) ≡ false
-above_nowhere most [] zero h = refl
-above_nowhere most [] (suc i) h = refl
-above_nowhere most (n ∷ ns) zero h = absurd (omega arith)
-above_nowhere most (n ∷ ns) (suc i) h = above_nowhere most ns i (omega arith)
+-- as std looks for it
+pub above_any : (most : ℕ) (ns : List ℕ) → list_any (λ n. nat_lt most n) ns ≡ some_above most ns
+above_any most [] = refl
+above_any most (n ∷ ns) = go (ltb most n) (above_any most ns)
+  where
+    go : (c : Bool) → list_any (λ n. nat_lt most n) ns ≡ some_above most ns → (c || list_any (λ n. nat_lt most n) ns) ≡ (c or some_above most ns)
+    go true e = refl
+    go false e = e
 
 -- ---- whether a tally is full
 module _ (t : Tally) where

@@ -1,10 +1,11 @@
 -- The tags of an accepted file stand flat behind its header; and what the code finds there.
-use Prim.Native.Nat.{ℕ, ◌+◌, ◌-◌, ◌*◌, ◌/◌, ◌≤◌, ◌<◌}
+use Prim.Native.Nat.{ℕ, ◌+◌, ◌/◌, ◌≤◌, ◌<◌}
 use mathlib.Core.List.{List, [], append-nil}
 use mathlib.Core.Path.{◌≡◌, refl, ap, sym, subst, ◌∙◌}
 use mathlib.Core.Bool.{Bool, true, false}
 use native.Mathlib.Omega.{arith}
-use lib.ListN.{length, take, drop, length-drop}
+use lib.ListN.{length, drop, length-drop}
+use Rattle.std.proofs.Common.{Result, Ok, Err, Option, Some, None}
 use Rattle.format.specs.Tests.{pick}
 use Rattle.format.specs.Bits.{AllBytes, Order, order_named}
 use Rattle.format.specs.Reading.{Ending, At, Fault}
@@ -23,39 +24,45 @@ use Rattle.classes.specs.declared.Class.{Class}
 use Rattle.classes.specs.declared.Class.TheVariants.{Opaque, End, Container, Fixed, Attributes}
 use Rattle.classes.proofs.ClassLaws.{spelt, by_code_lem}
 use Rattle.tags.proofs.LentLaws.{items_of, rows_of, right}
-use Rattle.tally.specs.Places.{list_start, list_in, next_by}
+use Rattle.reasons.specs.declared.Reason.{Reason}
 use Rattle.table.specs.State.{State, shown_over}
+use Rattle.table.specs.Readers.{ending_of}
+use Rattle.table.specs.declared.reader.Reader.{Reader}
 use Rattle.bits.specs.declared.BytePlace.{BytePlace}
-use Rattle.bodies.specs.Shown.{shown_end, is_open, opens, Shows}
-use Rattle.bodies.specs.declared.Shown.{Shown}
-use Rattle.bodies.specs.declared.Shown.TheVariants.{Done, Open, Stop}
+use Rattle.bodies.specs.Shown.{Opens, Shows}
+use Rattle.tally.specs.Places.{list_start, list_in, next_by, walk_in, tags_in, Good}
 use Rattle.tags.proofs.TagLaws.{values_le}
 use Rattle.tally.proofs.WalkLaws.{Leads, Flat, over, Flattens, flattened}
+
+-- ---- of a good file
+module _ {o : Order} {level : ℕ} {f : List ℕ} (good : Good o level f) where
+  pub good_flat : Flat o (class_of level) f 9 (tags_in o level f)
+  good_flat = go (walk_in o level f).ended good.ended (flattened o (class_of level) f (length (drop 9 f)) 8 own_file 9 (drop 9 f) good.long (record { rest = []; stands = sym (append-nil (drop 9 f)) }))
+    where
+      n : 9 + length (drop 9 f) ≡ length f
+      n = rw length-drop (omega (arith, good.long))
+
+      go : (z : Outcome) → z ≡ whole → Flattens o (class_of level) f 9 (9 + length (drop 9 f)) (tags_in o level f) z → Flat o (class_of level) f 9 (tags_in o level f)
+      go whole e x = subst (Flat o (class_of level) f 9) (append-nil (tags_in o level f)) (x [] (subst (λ (k : ℕ). Flat o (class_of level) f k []) (sym n) over))
+      go (fault e m) q x = clash cc
 
 -- ---- of an accepted file
 module _ (order level : ℕ) (f : List ℕ) (ended : (walk_file order level f).ended ≡ whole) where
   pub file_start : GoodStart order level f
   file_start = good_start order level f (whole_start order level f ended)
 
-  pub file_flat : Flat (order_named order) (class_of level) f 9 (walk_file order level f).tags
+  walked : walk_file order level f ≡ walk_in (order_named order) level f
   unfolding walk_file
-  file_flat = rw start (go w.ended (sym (ap (λ (v : Walk). v.ended) walked) ∙ ended) (flattened (order_named order) (class_of level) f (length (drop 9 f)) 8 own_file 9 (drop 9 f) file_start.long (record { rest = []; stands = sym (append-nil (drop 9 f)) })))
-    where
-      start : start_fault order level f ≡ 0
-      start = whole_start order level f ended
+  walked = let start : start_fault order level f ≡ 0 = whole_start order level f ended in rw start
 
-      w : Walk
-      w = walk_list (order_named order) (class_of level) 8 own_file 9 (drop 9 f)
+  pub file_good : {o : Order} → o ≡ order_named order → Good o level f
+  file_good e = rw e (record { ended = sym (ap (λ (w : Walk). w.ended) walked) ∙ ended; long = file_start.long; limit = file_start.limit })
 
-      walked : walk_file order level f ≡ w
-      walked = rw start refl
+  pub file_tags : {o : Order} → o ≡ order_named order → tags_in o level f ≡ (walk_file order level f).tags
+  file_tags e = rw e (ap (λ (w : Walk). w.tags) (sym walked))
 
-      n : 9 + length (drop 9 f) ≡ length f
-      n = rw length-drop (omega (arith, file_start.long))
-
-      go : (z : Outcome) → z ≡ whole → Flattens (order_named order) (class_of level) f 9 (9 + length (drop 9 f)) w.tags z → Flat (order_named order) (class_of level) f 9 w.tags
-      go whole e x = subst (Flat (order_named order) (class_of level) f 9) (append-nil w.tags) (x [] (subst (λ (k : ℕ). Flat (order_named order) (class_of level) f k []) (sym n) over))
-      go (fault e m) q x = clash cc
+  pub file_flat : Flat (order_named order) (class_of level) f 9 (walk_file order level f).tags
+  file_flat = subst (Flat (order_named order) (class_of level) f 9) (file_tags refl) (good_flat (file_good refl))
 
 -- ---- the next place, by the name of the class
 module _ (o : Order) (level : ℕ) (f : List ℕ) where
@@ -74,33 +81,35 @@ pub code_below : (f : List ℕ) (a : ℕ) {code len size : ℕ} → AllBytes f �
 code_below f a h q = (subst (HeadIf (drop a f)) q (head_there (drop a f) (bytes_drop a f h))).coded
 
 -- ---- where a list starts
-module _ (o : Order) (code : ℕ) (body t m : List ℕ) (k : ℕ) (r : Shown) (read : Shows m k (own_part o (container_body code) body) (has_list_in o (container_body code) body) t r) where
-  abbrev y : Body
-  y = container_body code
+module _ (o : Order) (code : ℕ) (body : List ℕ) {a b : Reader} {y : Result (Option BytePlace) Reason} (read : Shows a b y (own_part o (container_body code) body) (has_list_in o (container_body code) body)) where
+  abbrev p : Body
+  p = container_body code
 
-  ended : shown_end r ≡ (own_part o y body).ended
+  abbrev list : Bool
+  list = has_list_in o p body
+
+  ended : ending_of b.place y ≡ (own_part o p body).ended
   unfolding shown_over
-  ended = ap (λ (z : State). z.ended) read.left
+  ended = ap (λ (z : State). z.ended) read.lays.left
 
-  list_is : {p : ℕ} → shown_end r ≡ At p → has_list_in o y body ≡ is_open r
-  list_is q = sym (ap (opens (has_list_in o y body)) (sym ended ∙ q)) ∙ sym read.opened
+  abbrev Starts : Result (Option BytePlace) Reason → Type 0
+  Starts (Ok (Some q)) = q.0 ≡ list_in o code body
+  Starts (Ok None) = length body ≡ list_in o code body
+  Starts (Err e) = length body ≡ list_in o code body
 
-  pub list_open : {p : BytePlace} {j : ℕ} → r ≡ Open p j → p.0 ≡ list_in o code body
-  list_open {p} q =
-      let e : (own_part o y body).ended ≡ At (8 * p.0) = sym ended ∙ ap shown_end q in
-      let l : has_list_in o y body ≡ true = list_is (ap shown_end q) ∙ ap is_open q in
-      sym (ap (list_start (has_list_in o y body) (length body)) e ∙ ap (λ (c : Bool). pick c (8 * p.0 / 8) (length body)) l ∙ omega arith)
+  pub list_told : Starts y
+  list_told = go y ended read.opened
+    where
+      go : (y : Result (Option BytePlace) Reason) → ending_of b.place y ≡ (own_part o p body).ended → Opens list b.place.0 y → Starts y
+      go (Ok (Some q)) e v = sym (ap (list_start list (length body)) (sym e) ∙ ap (λ (c : Bool). pick c (b.place.0 / 8) (length body)) v.0 ∙ omega (arith, v.1))
+      go (Ok None) e v = sym (ap (list_start list (length body)) (sym e) ∙ ap (λ (c : Bool). pick c (b.place.0 / 8) (length body)) v)
+      go (Err x) e v = sym (ap (list_start list (length body)) (sym e))
 
-  pub list_done : {p : BytePlace} {j : ℕ} → r ≡ Done p j → length body ≡ list_in o code body
-  list_done {p} q =
-      let e : (own_part o y body).ended ≡ At (8 * p.0) = sym ended ∙ ap shown_end q in
-      let l : has_list_in o y body ≡ false = list_is (ap shown_end q) ∙ ap is_open q in
-      sym (ap (list_start (has_list_in o y body) (length body)) e ∙ ap (λ (c : Bool). pick c (8 * p.0 / 8) (length body)) l)
+  pub list_open : {q : BytePlace} → y ≡ Ok (Some q) → q.0 ≡ list_in o code body
+  list_open e = subst Starts e list_told
 
-  pub list_stop : {e j : ℕ} → r ≡ Stop e j → length body ≡ list_in o code body
-  list_stop {e} q =
-      let z : (own_part o y body).ended ≡ Fault e = sym ended ∙ ap shown_end q in
-      sym (ap (list_start (has_list_in o y body) (length body)) z)
+  pub list_stop : {e : Reason} → y ≡ Err e → length body ≡ list_in o code body
+  list_stop e = subst Starts e list_told
 
 pub list_le : (o : Order) (code : ℕ) (body : List ℕ) {n : ℕ} → n ≡ list_in o code body → n ≤ length body
 list_le o code body e = rw e (go (own_part o (container_body code) body).ended refl (has_list_in o (container_body code) body))
@@ -109,25 +118,3 @@ list_le o code body e = rw e (go (own_part o (container_body code) body).ended r
     go (Fault x) q list = omega arith
     go (At p) q true = omega (arith, values_le o Container code body p q)
     go (At p) q false = omega arith
-
--- ---- by the class
-module _ (o : Order) (c : Class) (code len s : ℕ) (f : List ℕ) where
-  pub next_opaque : c ≡ Opaque → s + len ≡ next_by o c code len s f
-  next_opaque e = rw e
-
-  pub next_end : c ≡ End → s + len ≡ next_by o c code len s f
-  next_end e = rw e
-
-  pub next_container : {n : ℕ} → c ≡ Container → n ≡ list_in o code (take (s + len - s) (drop s f)) → s + n ≡ next_by o c code len s f
-  next_container e q = let l : s + len - s ≡ len = omega arith in rw (e, q, l)
-
-  pub next_fixed : c ≡ Fixed → s + len ≡ next_by o c code len s f
-  next_fixed e = rw e
-
-  pub next_attributes : c ≡ Attributes → s + len ≡ next_by o c code len s f
-  next_attributes e = rw e
-
--- for the order's number and the class of the code
-pub next_named : (order level : ℕ) (o : Order) (c : Class) (code len s : ℕ) (f : List ℕ) {n : ℕ} → o ≡ order_named order → c ≡ class_at level code → n ≡ next_by o c code len s f
-    → n ≡ next_by (order_named order) (class_at level code) code len s f
-next_named order level o c code len s f p q e = e ∙ rw (p, q)

@@ -10,6 +10,7 @@ use Rattle.format.specs.Bits.{AllBytes, Order}
 use Rattle.format.specs.FileAndTags.{Class, Tag, Outcome, whole, fault}
 use Rattle.format.specs.Reasons.{walk_file, accepted, refused}
 use Rattle.format.proofs.Absurd.{clash}
+use Rattle.reasons.specs.Numbers.{number_of}
 use Rattle.answers.specs.declared.Answer.{Answer}
 use Rattle.answers.specs.declared.Answer.TheVariants.{Accepted, Refused}
 use Rattle.answers.specs.Answers.{answer_of}
@@ -56,7 +57,7 @@ by_answer order level t f a r q e = go (is_full t) refl (walk_file order level f
     go false h whole w (Accepted n) q e =
         let m : accepted n ≡ accepted (length f) = sym (ap answer_of q) ∙ ap (λ (l : Left). l.answer) e in
         record { room = h; good = w; long = cc; adds = ap (λ (l : Left). l.tally) e }
-    go false h whole w (Refused x n) q e = let m : refused x n ≡ accepted (length f) = sym (ap answer_of q) ∙ ap (λ (l : Left). l.answer) e in clash cc
+    go false h whole w (Refused x n) q e = let m : refused (number_of x) n ≡ accepted (length f) = sym (ap answer_of q) ∙ ap (λ (l : Left). l.answer) e in clash cc
     go false h (fault x y) w (Accepted n) q e = let m : accepted n ≡ refused x y = sym (ap answer_of q) ∙ ap (λ (l : Left). l.answer) e in clash cc
     go false h (fault x y) w (Refused x' n) q e = record { keeps = ap (λ (l : Left). l.tally) e }
 

@@ -1,11 +1,12 @@
 -- The place of the next tag in file order, as the code finds it in a file that was judged: a container's list starts behind its own part, and any other
 -- tag's body has no tag in it.
-use Rattle.std.specs.Prelude.{ℕ, ◌+◌, ◌≤◌, Bool, List, length, get_or, take, drop}
+use Rattle.std.specs.Prelude.{ℕ, ◌+◌, ◌≤◌, ◌≡◌, Bool, List, length, get_or, take, drop}
 use Rattle.format.specs.Tests.{pick}
 use Rattle.format.specs.Bits.{Order}
 use Rattle.format.specs.Reading.{Ending, At, Fault}
 use Rattle.format.specs.Items.{to_byte}
 use Rattle.format.specs.Bodies.{Body}
+use Rattle.format.specs.FileAndTags.{class_of, Tag, Walk, whole, file, walk_list}
 use Rattle.bodies.specs.Leaf.{container_body, has_list_in, own_part}
 use Rattle.classes.specs.declared.Class.{Class}
 use Rattle.classes.specs.declared.Class.TheVariants.{Opaque, End, Container, Fixed, Attributes}
@@ -32,3 +33,16 @@ next_by o Attributes code len s f = s + len
 -- no count is above this
 abbrev pub NoneAbove : ℕ → List ℕ → Type 0
 NoneAbove most ns = (i : ℕ) → get_or ns i 0 ≤ most
+
+-- the walk of a file behind its header, in an order
+abbrev pub walk_in : Order → ℕ → List ℕ → Walk
+walk_in o level f = walk_list o (class_of level) 8 file 9 (drop 9 f)
+
+abbrev pub tags_in : Order → ℕ → List ℕ → List Tag
+tags_in o level f = (walk_in o level f).tags
+
+-- the file was judged, and it is good
+pub record Good (o : Order) (level : ℕ) (f : List ℕ) : Type 0 where
+  pub ended : (walk_in o level f).ended ≡ whole
+  pub long : 9 ≤ length f
+  pub limit : length f ≤ 16777216

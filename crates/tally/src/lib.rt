@@ -2,27 +2,33 @@
 #![tactic(auto)]
 
 ghost use Rattle.std.specs.Prelude.{◌≡◌, ◌+◌, ◌<◌, ◌≤◌, length};
-ghost use Rattle.format.specs.FileAndTags.{whole};
-ghost use Rattle.format.specs.Reasons.{IsFile, walk_file};
+ghost use Rattle.format.specs.Reasons.{IsFile};
 ghost use Rattle.bits.specs.Places.{order_of};
 ghost use Rattle.tally.specs.Adding.{at_zero, with_file, is_full, adding, leaves};
-ghost use Rattle.tally.specs.Places.{list_in, next_by, NoneAbove};
+ghost use Rattle.tally.specs.Places.{list_in, next_by, NoneAbove, Good, tags_in};
 
 use answers::Answer;
-use bits::{BytePlace, Order};
-use bodies::Shown;
+use bits::{BitPlace, BytePlace, Order};
 use classes::Class;
-use headers::{Head, Header};
+use headers::Header;
+use reasons::Reason;
+use table::Reader;
+
+// A tally whose header count has come to this, or with a count above that, takes no file.
+const HEADERS_LIMIT: u64 = 9000000;
+
+const COUNT_LIMIT: u64 = 16777216000000;
 
 // A count for each of the 1,024 codes, and one for file headers, in bytes.
-#[derive(Clone, Copy)]
+#[derive(Clone, Copy, Debug, PartialEq, Eq)]
 pub struct Tally {
     pub counts: [u64; 1024],
     pub headers: u64,
 }
 
 // The tally afterwards, and the answer: accepted with the file's length, or refused with reason and number.
-#[derive(Clone, Copy)]
+// Stays: document 01 hands a tally on by value.
+#[derive(Clone, Copy, Debug, PartialEq, Eq)]
 pub struct Added {
     pub tally: Tally,
     pub answer: Answer,
@@ -33,9 +39,8 @@ impl Tally {
     pub fn new() -> Self
         ensures { result ≡ at_zero }
     {
-        let counts = [0u64; 1024];
         Tally {
-            counts: counts,
+            counts: [0; 1024],
             headers: 0,
         }
     }
@@ -45,18 +50,7 @@ impl Tally {
 fn is_full(tally: Tally) -> bool
     ensures { result ≡ is_full tally }
 {
-    if 9000000 <= tally.headers {
-        return true;
-    }
-    let counts = tally.counts;
-    let mut i = 0;
-    while i < 1024 {
-        if 16777216000000 < counts[i] {
-            return true;
-        }
-        i += 1;
-    }
-    false
+    HEADERS_LIMIT <= tally.headers || tally.counts.iter().any(|&count| COUNT_LIMIT < count)
 }
 
 // Where a container's list starts in its body: behind its own part; where the body ends, if it has none.
@@ -64,11 +58,16 @@ fn list_in(order: Order, code: u32, body: &[u8]) -> usize
     requires { length body.now ≤ 16777216 }
     ensures { result ≡ list_in (order_of order) code body.now }
 {
-    let mut none = [0u64; 1];
-    match bodies::read_container(order, code, body, &mut none[..0], 0) {
-        Shown::Open(list, _) => list.0,
-        Shown::Done(_, _) => body.len(),
-        Shown::Stop(_, _) => body.len(),
+    let mut reader = Reader {
+        order,
+        body,
+        place: BitPlace(0),
+        table: &mut [],
+        index: 0,
+    };
+    match bodies::read_container(&mut reader, code) {
+        Ok(Some(list)) => list.0,
+        _ => body.len(),
     }
 }
 
@@ -80,36 +79,30 @@ fn next_place(order: Order, class: Class, header: Header, file: &[u8], place: us
     let start = place + header.size as usize;
     let stop = start + header.length as usize;
     match class {
-        Class::Opaque => stop,
-        Class::End => stop,
         Class::Container => start + list_in(order, header.code, &file[start..stop]),
-        Class::Fixed => stop,
-        Class::Attributes => stop,
+        _ => stop,
     }
 }
 
 // Adds a file that was judged: the bytes from each tag's place to the next one's, which are its own, to its code's count.
-fn with_file(tally: Tally, level: u32, order: u32, file: &[u8]) -> Tally
-    requires { ((walk_file order level file.now).ended ≡ whole) × IsFile file.now × NoneAbove 16777216000000 tally.counts × (tally.headers < 9000000) }
-    ensures { result ≡ with_file tally (walk_file order level file.now).tags }
+fn with_file(tally: Tally, level: u32, order: Order, file: &[u8]) -> Tally
+    requires { Good (order_of order) level file.now × IsFile file.now × NoneAbove 16777216000000 tally.counts × (tally.headers < 9000000) }
+    ensures { result ≡ with_file tally (tags_in (order_of order) level file.now) }
 {
-    let named = bits::order_named(order);
     let classes = classes::all();
     let mut counts = tally.counts;
     let mut place = 9;
     while place < file.len() {
-        let Head::Tag(header) = headers::raw_head(file, BytePlace(place)) else {
-            return tally;
-        };
+        let header = headers::raw_head(file, BytePlace(place)).unwrap();
         let code = header.code;
         let listed = classes[(code / 32) as usize][(code % 32) as usize];
         let class = classes::at_level(level, code, listed);
-        let next = next_place(named, class, header, file, place);
+        let next = next_place(order, class, header, file, place);
         counts[code as usize] += (next - place) as u64;
         place = next;
     }
     Tally {
-        counts: counts,
+        counts,
         headers: tally.headers + 9,
     }
 }
@@ -120,24 +113,23 @@ pub fn add(tally: Tally, level: u32, order: u32, file: &[u8]) -> Added
 {
     if is_full(tally) {
         return Added {
-            tally: tally,
-            answer: Answer::Refused(25, 0),
+            tally,
+            answer: Answer::Refused(Reason::TallyFull, 0),
         };
     }
-    let mut none = [0u32; 1];
-    let judged = reader::tags(level, order, file, &mut none[..0]);
-    if let Answer::Refused(why, _) = judged {
-        if why != 19 {
+    let judged = reader::tags(level, order, file, &mut []);
+    if let Answer::Refused(reason, _) = judged {
+        if reason != Reason::TableTooShort {
             return Added {
-                tally: tally,
+                tally,
                 answer: judged,
             };
         }
     }
     answers::is_file(file);
-    let after = with_file(tally, level, order, file);
+    let named = Order::try_from(order).unwrap();
     Added {
-        tally: after,
+        tally: with_file(tally, level, named, file),
         answer: Answer::Accepted(file.len() as u64),
     }
 }

@@ -1,115 +1,104 @@
 -- Values and keyframed content: the formats of their parts, and what a `match` tells.
-use Prim.Native.Nat.{ℕ, zero, suc, ◌+◌, ◌*◌, ◌^◌, ◌≤◌, ◌<◌}
-use mathlib.Core.Bool.{true, false}
-use mathlib.Core.List.{List, [], ◌∷◌, ◌++◌}
-use mathlib.Core.Path.{◌≡◌, refl, ap, ap₂, sym, ◌∙◌}
+use Rattle.std.proofs.Common.{◌≡◌, ℕ, zero, suc, ◌+◌, ◌*◌, ◌^◌, ◌<◌, ◌≤◌, Bool, true, false, List, [], ◌∷◌, ◌++◌, refl, sym, ap, ap₂, ◌∙◌, arith, Result, Ok, IfOk}
+use mathlib.Core.Path.{subst}
 use native.Mathlib.Nat.{mul-le-mul}
 use native.Mathlib.Numerals.{add-one}
-use native.Mathlib.Omega.{arith}
 use borrow.Author.Tests.{eq-eqb, ne_eqb}
+use lib.Dec.{eqb}
 use Rattle.format.specs.Tests.{pick}
-use Rattle.format.specs.Bits.{Order}
+use Rattle.format.specs.Bits.{Order, ub}
 use Rattle.format.specs.Reading.{Ending, At, Fault, Reading, shows, stop, follow}
 use Rattle.format.specs.Formats.{Item, Format, nothing, item, ◌▹◌, ◌▸◌, times, the}
-use Rattle.format.specs.Items.{run, read_item, Num, map_num, show_num, read_ub, byte, uint16, time, float, point, color, count, scaled, coordinates, alpha_stop, color_stop}
+use Rattle.format.specs.Items.{run, read_item, skipped, Num, num, bad, map_num, show_num, read_ub, byte, uint16, time, color, count, scaled, coordinates, alpha_stop, color_stop, gradient_color}
 use Rattle.format.specs.Bodies as bodies
-use Rattle.format.specs.Bodies.{value, values, interpolations, how_many, curves, aligned, spatial, has_spatial}
-use Rattle.format.proofs.SizeLaws.{Fair, fair_seq, fair_times, fair_aligned, fair_value, fair_values, fair_interpolations}
-use Rattle.table.specs.State.{State, shown_over}
-use Rattle.bits.specs.Places.{num_of}
-use Rattle.bits.specs.declared.BitPlace.{BitPlace}
-use Rattle.bits.specs.declared.Got.{Got}
-use Rattle.bits.specs.declared.Got.TheVariants.{Value, Fault as GotFault}
+use Rattle.format.specs.Bodies.{values, interpolations, how_many, aligned, spatial, has_spatial}
+use Rattle.bits.specs.Places.{order_of}
+use Rattle.bits.specs.declared.Order.{Order as Code}
 use Rattle.bits.proofs.FieldLaws.{IsField, ub_got}
-use Rattle.items.specs.declared.Item.TheVariants.{Uint16, Byte}
-use Rattle.table.specs.Fields.{field_of, announced, Fits}
-use Rattle.table.proofs.RunLaws.{fair_kind}
+use Rattle.reasons.specs.declared.Reason.{Reason}
+use Rattle.items.specs.Kinds.{format_of}
+use Rattle.items.specs.declared.Item.TheVariants.{Count}
+use Rattle.items.proofs.ItemLaws.{count_range}
+use Rattle.table.specs.Fields.{field_of, announced}
+use Rattle.table.specs.Readers.{state_of, Reads, Room}
+use Rattle.table.specs.State.{State, shown_over}
 use Rattle.table.specs.declared.fields.Field.TheVariants.{Verb, Interpolation, SpatialFlag}
-use Rattle.table.proofs.EngineLaws.{Alike, state, after_none, none_then, never_then, then_never, alike_nothing, alike_assoc, alike_after}
+use Rattle.table.specs.declared.reader.Reader.{Reader}
+use Rattle.table.proofs.EngineLaws.{Alike, none_then, alike_nothing, alike_assoc, alike_after}
 use Rattle.table.proofs.FieldLaws.{announced_verbs, announced_frames, announced_points}
-use Rattle.attributes.specs.Contents.{interpolated, layout_by, values_by}
-use Rattle.attributes.specs.Rows.{type_of}
-use Rattle.attributes.specs.declared.DataType.{DataType}
-use Rattle.attributes.specs.declared.Layout.{Layout}
-use Rattle.attributes.proofs.ContentLaws.{interpolations_some, interpolations_none, values_told}
+use Rattle.table.proofs.ReaderLaws.{reading, reads_as, on_start, on_done}
+use Rattle.attributes.specs.Contents.{interpolated}
+use Rattle.attributes.proofs.ContentLaws.{interpolations_some, interpolations_none}
 use Rattle.values.specs.Parts.{announcing, frames_of, stop_of, stops_of, after_alphas}
-use Rattle.values.specs.Single.{compound_of}
 
--- ---- what a `match` tells
-pub format_of_lem : (o : Order) (b t : List ℕ) (k p : ℕ) {f g : Format} {x : State} → f ≡ g → x ≡ shown_over t k (run o b f p) → x ≡ shown_over t k (run o b g p)
-format_of_lem o b t k p e f = f ∙ ap (λ (g : Format). shown_over t k (run o b g p)) e
+-- ---- a format under another name
+pub reads_is : {A : Type 0} {a b : Reader} {r : Result A Reason} {f g : Format} → f ≡ g → Reads a b r f → Reads a b r g
+reads_is {a = a} {b = b} {r = r} e h = subst (Reads a b r) e h
 
-pub compound_of_lem : (o : Order) (b t : List ℕ) (k p : ℕ) {what : DataType} {x : State} (told : DataType) → what ≡ told → x ≡ shown_over t k (run o b (compound_of told) p)
-    → x ≡ shown_over t k (run o b (compound_of what) p)
-compound_of_lem o b t k p told e f = format_of_lem o b t k p (ap compound_of (sym e)) f
+-- nothing was read
+pub reads_nothing : {A : Type 0} {a : Reader} {x : A} → Room a → Reads a a (Ok x) nothing
+reads_nothing z = on_done (on_start z refl) refl
 
--- a TagBlock has nothing in the block, and one item is no compound
-pub no_value : (o : Order) (b t : List ℕ) (k p : ℕ) → state t k (At p) ≡ shown_over t k (run o b nothing p)
-unfolding run
-no_value o b t k p = sym (after_none t k p)
+-- what was shown, and where it ended, is the reading
+pub reads_shows : {A : Type 0} {a b : Reader} {r : Result A Reason} {f : Format} {xs : List ℕ} {x : A} → Reads a b r f → r ≡ Ok x → (reading a f).shown ≡ xs → reading a f ≡ shows xs b.place.0
+unfolding shown_over
+reads_shows {b = b} h e shown = ap₂ (λ (ys : List ℕ) (z : Ending). record { shown = ys; ended = z }) shown (ap (λ (s : State). s.ended) (sym h.left ∙ ap (state_of b) e))
 
-pub values_of_lem : (o : Order) (b t : List ℕ) (k n p : ℕ) (kind : bodies.Kind) (d : bodies.DataType) {y : Layout} {x : State} (told : Layout) → y ≡ layout_by kind d → y ≡ told
-    → x ≡ shown_over t k (run o b (values_by d n told) p) → x ≡ shown_over t k (run o b (values kind d n) p)
-values_of_lem o b t k n p kind d told e h f = f ∙ ap (λ (g : Format). shown_over t k (run o b g p)) (sym (values_told kind d n told e h))
+-- a count is not above 4,096
+pub count_few : {a b : Reader} {r : Result ℕ Reason} {v : ℕ} (lo : ℕ) → Reads a b r (format_of (Count lo)) → r ≡ Ok v → (reading a (format_of (Count lo))).shown ≡ v ∷ [] → v ≤ 4096
+count_few {a = a} lo h e shown = (count_range (order_of a.order) a.body.now a.place.0 lo (reads_shows h e shown)).1
 
 -- ---- fields that announce others
-pub announced_of : (o : Order) (b t : List ℕ) (k q : ℕ) {m n : ℕ} {x : State} → m ≡ n → x ≡ shown_over t k (run o b (scaled m) q) → x ≡ shown_over t k (run o b (scaled n) q)
-announced_of o b t k q e f = f ∙ ap (λ (m : ℕ). shown_over t k (run o b (scaled m) q)) e
 
 -- a path after its count of n verbs; the sixth part after its skip
 pub path_is : (n : ℕ) → announcing Verb 3 n ≡ times n (item (Item.UB 3)) ▹ (λ verbs. scaled (coordinates verbs))
 path_is n = λ i. times n (item (Item.UB 3)) ▹ λ verbs. scaled (announced_verbs verbs i)
 
-pub path_of : (o : Order) (b t : List ℕ) (k n p : ℕ) {x : State} → x ≡ shown_over t k (run o b (announcing Verb 3 n) p)
-    → x ≡ shown_over t k (run o b (times n (item (Item.UB 3)) ▹ λ verbs. scaled (coordinates verbs)) p)
-path_of o b t k n p e = e ∙ ap (λ (g : Format). shown_over t k (run o b g p)) (path_is n)
-
 pub spatial_is : (n : ℕ) → aligned ▸ announcing SpatialFlag 1 (n * 2) ≡ spatial n
 spatial_is n = λ i. aligned ▸ times (n * 2) (item (Item.UB 1)) ▹ λ flags. scaled (announced_points flags i)
 
 -- hasSpatial is not set, or it is
-pub spatial_none : (o : Order) (b t : List ℕ) (k φ n p : ℕ) → (φ ≡ 7 → ⊥) → state t k (At p) ≡ shown_over t k (run o b (pick (has_spatial φ) (spatial n) nothing) p)
-unfolding run
-spatial_none o b t k φ n p h = rw (ne_eqb φ 7 h) (sym (after_none t k p))
+pub spatial_none : (φ n : ℕ) → (φ ≡ 7 → ⊥) → nothing ≡ pick (has_spatial φ) (spatial n) nothing
+spatial_none φ n h = rw (ne_eqb φ 7 h)
 
-pub spatial_some : (o : Order) (b t : List ℕ) (k φ n p : ℕ) {x : State} → φ ≡ 7 → x ≡ shown_over t k (run o b (aligned ▸ announcing SpatialFlag 1 (n * 2)) p)
-    → x ≡ shown_over t k (run o b (pick (has_spatial φ) (spatial n) nothing) p)
-spatial_some o b t k φ n p h e = rw (eq-eqb φ 7 h) (e ∙ ap (λ (g : Format). shown_over t k (run o b g p)) (spatial_is n))
+pub spatial_some : (φ n : ℕ) → φ ≡ 7 → aligned ▸ announcing SpatialFlag 1 (n * 2) ≡ pick (has_spatial φ) (spatial n) nothing
+spatial_some φ n h = rw (eq-eqb φ 7 h) (spatial_is n)
 
--- ---- the interpolations of n frames: what they leave, and how many easing numbers they announce for a curve
-module _ (o : Order) (b t : List ℕ) (k n p : ℕ) (kind : bodies.Kind) where
-  abbrev pub Announces : State → ℕ → Type 0
-  Announces x m = (x ≡ shown_over t k (run o b (aligned ▸ interpolations kind n) p)) × ((m ≡ how_many 2 (run o b (aligned ▸ interpolations kind n) p).shown * 4) × (m ≤ 6 * n))
+-- ---- the interpolations of n frames, behind the skip to a whole byte: how many easing numbers they announce for a curve
 
-  -- a skipped bit is not zero
-  pub frames_never : run o b aligned p ≡ stop 15 → Announces (state t k (Fault 15)) 0
-  frames_never e = (then_never o b t k aligned (λ xs. interpolations kind n) p e, (rw (never_then o b aligned (λ xs. interpolations kind n) p 15 e), omega arith))
+-- a skip shows nothing
+skip_shows : (o : Order) (b : List ℕ) (p : ℕ) → (run o b aligned p).shown ≡ []
+unfolding run read_item
+skip_shows o b p = go (eqb (ub o b p (skipped p)) 0)
+  where
+    go : (t : Bool) → (pick t (shows [] (p + skipped p)) (stop 15)).shown ≡ []
+    go true = refl
+    go false = refl
 
-  -- a kind that has none
-  pub frames_none : {q : ℕ} → false ≡ interpolated kind → run o b aligned p ≡ shows [] q → Announces (state t k (At q)) 0
-  unfolding run
-  frames_none {q} none e =
-      let f : run o b (aligned ▸ interpolations kind n) p ≡ shows [] q =
-      none_then o b aligned (λ xs. interpolations kind n) p q e ∙ ap (λ (g : Format). run o b g q) (interpolations_none kind n none) in
-      (rw f (sym (after_none t k q)), (rw f, omega arith))
+module _ {A : Type 0} {a b : Reader} {r : Result A Reason} {x : A} (h : Reads a b r aligned) (e : r ≡ Ok x) where
+  -- what follows it is read from there
+  pub past_skip : (g : Format) → reading a (aligned ▸ g) ≡ reading b g
+  past_skip g =
+      none_then (order_of a.order) a.body.now aligned (λ xs. g) a.place.0 b.place.0 (reads_shows h e (skip_shows (order_of a.order) a.body.now a.place.0))
+      ∙ sym (ap₂ (λ (o : Code) (y : List ℕ). run (order_of o) y g b.place.0) h.same.order h.same.body)
 
-  -- they are fields of two bits
-  pub frames_some : {q m : ℕ} {x : State} → true ≡ interpolated kind → run o b aligned p ≡ shows [] q → x ≡ shown_over t k (run o b (times n (field_of Interpolation 2)) q)
-      → (m ≡ announced Interpolation (run o b (times n (field_of Interpolation 2)) q).shown) × (m ≤ 6 * n) → Announces x m
-  frames_some {q} some e f g =
-      let h : run o b (aligned ▸ interpolations kind n) p ≡ run o b (times n (field_of Interpolation 2)) q =
-      none_then o b aligned (λ xs. interpolations kind n) p q e ∙ ap (λ (g : Format). run o b g q) (interpolations_some kind n some) in
-      (rw h f, (rw h (g.0 ∙ announced_frames (run o b (times n (field_of Interpolation 2)) q).shown), g.1))
+  module _ (kind : bodies.Kind) (n : ℕ) where
+    pub eases_none : false ≡ interpolated kind → (0 ≡ how_many 2 (reading a (aligned ▸ interpolations kind n)).shown * 4) × (0 ≤ 6 * n)
+    unfolding run
+    eases_none none = (rw (past_skip (interpolations kind n), interpolations_none kind n none), omega arith)
+
+    pub eases_some : (s : Result ℕ Reason) → true ≡ interpolated kind
+        → IfOk s (λ m. (m ≡ announced Interpolation (reading b (times n (field_of Interpolation 2))).shown) × (m ≤ 6 * n))
+        → IfOk s (λ m. (m ≡ how_many 2 (reading a (aligned ▸ interpolations kind n)).shown * 4) × (m ≤ 6 * n))
+    eases_some s some k =
+        let f : reading a (aligned ▸ interpolations kind n) ≡ reading b (times n (field_of Interpolation 2)) = past_skip (interpolations kind n) ∙ ap (reading b) (interpolations_some kind n some) in
+        subst (λ (z : ℕ). IfOk s (λ m. (m ≡ z) × (m ≤ 6 * n))) (announced_frames _ ∙ ap (λ (y : Reading). how_many 2 y.shown * 4) (sym f)) k
+
+-- the easing numbers of n frames are few
+pub easing_small : {m c : ℕ} (n : ℕ) → m ≤ 6 * n → c ≤ 2 → n ≤ 4096 → m * c ≤ 49152
+easing_small {m} {c} n h l e = let f : m * c ≤ 24576 * 2 = mul-le-mul {n₂ = 24576} (omega arith) l in omega (arith, f)
 
 -- ---- the parts of keyframed content
-pub fair_part : (o : Order) (kind : bodies.Kind) (d : bodies.DataType) (n : ℕ) → Fair o 0 (aligned ▸ values kind d n)
-fair_part o kind d n = fair_aligned o (values kind d n) (fair_values o kind d n)
-
-pub fair_times_of : (o : Order) (n : ℕ) → Fair o 0 (times n time)
-fair_times_of o n = fair_times o n time (fair_value o bodies.Times)
-
-pub fair_frames : (o : Order) (kind : bodies.Kind) (n : ℕ) → Fair o 0 (aligned ▸ interpolations kind n)
-fair_frames o kind n = fair_aligned o (interpolations kind n) (fair_interpolations o kind n)
 
 -- the parts as the code reads them, each with the skip before it
 pub alike_parts : (f g h e : Format) → Alike (f ▸ (aligned ▸ g) ▸ ((aligned ▸ h) ▸ e)) (f ▸ aligned ▸ g ▸ aligned ▸ h ▸ e)
@@ -117,20 +106,11 @@ alike_parts f g h e =
     alike_after f _ _ (λ o b p. alike_assoc aligned g ((aligned ▸ h) ▸ e) o b p ∙ alike_after aligned _ _ (alike_after g _ _ (alike_assoc aligned h e)) o b p)
 
 -- the code counts n + 1
-pub frames_is : (o : Order) (kind : bodies.Kind) (d : bodies.DataType) (φ : ℕ) (b t : List ℕ) (k n m p : ℕ) {x : State}
-    → x ≡ shown_over t k (run o b (times (n + 1) time ▸ (aligned ▸ values kind d (n + 1)) ▸ ((aligned ▸ scaled m) ▸ pick (has_spatial φ) (spatial n) nothing)) p)
-    → x ≡ shown_over t k (run o b (frames_of kind d φ n m) p)
-frames_is o kind d φ b t k n m p e =
-    e ∙ ap (λ (i : ℕ). shown_over t k (run o b (times i time ▸ (aligned ▸ values kind d i) ▸ ((aligned ▸ scaled m) ▸ pick (has_spatial φ) (spatial n) nothing)) p)) (add-one n)
-    ∙ ap (shown_over t k) (alike_parts (times (suc n) time) (values kind d (suc n)) (scaled m) (pick (has_spatial φ) (spatial n) nothing) o b p)
-
-pub easing_of : (o : Order) (kind : bodies.Kind) (d : bodies.DataType) (φ : ℕ) (b t : List ℕ) (k n q : ℕ) {m c z w : ℕ} {x : State} → m ≡ w → c ≡ curves kind d → z ≡ m * c
-    → x ≡ shown_over t k (run o b (frames_of kind d φ n z) q) → x ≡ shown_over t k (run o b (frames_of kind d φ n (w * curves kind d)) q)
-easing_of o kind d φ b t k n q e f g h = h ∙ ap (λ (z : ℕ). shown_over t k (run o b (frames_of kind d φ n z) q)) (g ∙ ap₂ (λ (x y : ℕ). x * y) e f)
-
--- the easing numbers of n frames are few
-pub easing_small : {m c : ℕ} (n : ℕ) → m ≤ 6 * n → c ≤ 2 → n ≤ 4096 → m * c ≤ 49152
-easing_small {m} {c} n h l e = let f : m * c ≤ 24576 * 2 = mul-le-mul {n₂ = 24576} (omega arith) l in omega (arith, f)
+pub frames_is : {A : Type 0} {a b : Reader} {r : Result A Reason} (kind : bodies.Kind) (d : bodies.DataType) (φ n m : ℕ)
+    → Reads a b r (times (n + 1) time ▸ (aligned ▸ values kind d (n + 1)) ▸ ((aligned ▸ scaled m) ▸ pick (has_spatial φ) (spatial n) nothing)) → Reads a b r (frames_of kind d φ n m)
+frames_is {a = a} kind d φ n m h =
+    reads_as (alike_parts (times (suc n) time) (values kind d (suc n)) (scaled m) (pick (has_spatial φ) (spatial n) nothing) (order_of a.order) a.body.now a.place.0)
+    (reads_is (ap (λ (i : ℕ). times i time ▸ (aligned ▸ values kind d i) ▸ ((aligned ▸ scaled m) ▸ pick (has_spatial φ) (spatial n) nothing)) (add-one n)) h)
 
 -- ---- GradientColors: a stop as the code reads it is one of the paper's
 alike_stop : (n : ℕ) (f : Format) → Alike (times n byte) f → Alike (stop_of n) (uint16 ▸ uint16 ▸ f)
@@ -162,42 +142,35 @@ unfolding run
 alike_stops n m o b p =
     rw (alike_times (stop_of 1) alpha_stop n alike_alpha o b p) (alike_after (times n alpha_stop) (times m (stop_of 3)) (times m color_stop) (alike_times (stop_of 3) color_stop m alike_color) o b p)
 
--- a GradientColor after its count of alpha stops
+-- a GradientColor after its count of alpha stops, and as a whole
 pub alike_gradient : (n : ℕ) → Alike (after_alphas n) (count 0 4096 ▹ λ colors. times n alpha_stop ▸ times (the colors) color_stop)
 alike_gradient n = alike_each (count 0 4096) (λ colors. stops_of n (the colors)) (λ colors. times n alpha_stop ▸ times (the colors) color_stop) (λ colors. alike_stops n (the colors))
 
-pub stops_are : (o : Order) (b t : List ℕ) (k n p : ℕ) {x : State} → x ≡ shown_over t k (run o b (after_alphas n) p)
-    → x ≡ shown_over t k (run o b (count 0 4096 ▹ λ colors. times n alpha_stop ▸ times (the colors) color_stop) p)
-stops_are o b t k n p e = e ∙ ap (shown_over t k) (alike_gradient n o b p)
+pub gradient_is : {A : Type 0} {a b : Reader} {r : Result A Reason} → Reads a b r (count 0 4096 ▹ λ alphas. after_alphas (the alphas)) → Reads a b r gradient_color
+gradient_is {a = a} h =
+    reads_as (alike_each (count 0 4096) (λ alphas. after_alphas (the alphas)) (λ alphas. count 0 4096 ▹ λ colors. times (the alphas) alpha_stop ▸ times (the colors) color_stop) (λ alphas. alike_gradient (the alphas)) (order_of a.order) a.body.now a.place.0) h
 
 -- ---- a bit field, and the length of dashes, from the code's answer
-module _ (o : Order) (b : List ℕ) (p n : ℕ) {r : Got} (read : num_of r ≡ read_ub o b p n) where
-  pub ub_one : {v : ℕ} {q : BitPlace} → r ≡ Value v q → run o b (item (Item.UB n)) p ≡ shows (v ∷ []) q.0
+module _ (o : Order) (b : List ℕ) (p : ℕ) where
+  pub ub_one : (n : ℕ) {v q : ℕ} → num v q ≡ read_ub o b p n → run o b (item (Item.UB n)) p ≡ shows (v ∷ []) q
   unfolding run read_item
-  ub_one e = sym (ap (λ (z : Got). show_num (num_of z)) (sym e) ∙ ap show_num read)
+  ub_one n e = ap show_num (sym e)
 
-  pub ub_stop : {e : ℕ} → r ≡ GotFault e → run o b (item (Item.UB n)) p ≡ stop e
+  pub ub_stop : (n : ℕ) {e : ℕ} → bad e ≡ read_ub o b p n → run o b (item (Item.UB n)) p ≡ stop e
   unfolding run read_item
-  ub_stop e = sym (ap (λ (z : Got). show_num (num_of z)) (sym e) ∙ ap show_num read)
+  ub_stop n e = ap show_num (sym e)
 
-  -- it takes n bits
-  pub ub_fits : {v k : ℕ} {q : BitPlace} → 1 ≤ n → r ≡ Value v q → Fits b p k → Fits b q.0 (k + 1) × (v < 2 ^ n)
-  ub_fits l e f =
-      let i : IsField o (λ x. x) b p n _ _ = ub_got o b p n (ap num_of (sym e) ∙ read) in
-      (((i.inside, f.0.1), omega (arith, i.next, f.1)), omega (arith, i.value, i.below))
-
-module _ (o : Order) (b : List ℕ) (p : ℕ) {r : Got} (read : num_of r ≡ read_ub o b p 3) where
-  pub dash_one : {v : ℕ} {q : BitPlace} → r ≡ Value v q → run o b (item Item.dash_length) p ≡ shows ((v + 1) ∷ []) q.0
+  pub dash_one : {v q : ℕ} → num v q ≡ read_ub o b p 3 → run o b (item Item.dash_length) p ≡ shows ((v + 1) ∷ []) q
   unfolding run read_item
-  dash_one {v} {q} e =
-      rw (add-one v) (sym (ap (λ (z : Got). show_num (map_num suc (num_of z))) (sym e) ∙ ap (λ (z : Num). show_num (map_num suc z)) read))
+  dash_one {v} {q} e = rw (add-one v) (ap (λ (z : Num). show_num (map_num suc z)) (sym e))
 
-  pub dash_stop : {e : ℕ} → r ≡ GotFault e → run o b (item Item.dash_length) p ≡ stop e
+  pub dash_stop : {e : ℕ} → bad e ≡ read_ub o b p 3 → run o b (item Item.dash_length) p ≡ stop e
   unfolding run read_item
-  dash_stop e = sym (ap (λ (z : Got). show_num (map_num suc (num_of z))) (sym e) ∙ ap (λ (z : Num). show_num (map_num suc z)) read)
+  dash_stop e = ap (λ (z : Num). show_num (map_num suc z)) (sym e)
 
-pub fair_stop : (o : Order) (n : ℕ) → Fair o 0 (stop_of n)
-fair_stop o n = fair_seq o (uint16 ▸ uint16) (times n byte) (fair_seq o uint16 uint16 (fair_kind o Uint16) (fair_kind o Uint16)) (fair_times o n byte (fair_kind o Byte))
+  -- its number ends behind its place, and fits its bits
+  pub ub_behind : (n : ℕ) {v q : ℕ} → 1 ≤ n → num v q ≡ read_ub o b p n → (p < q) × (v < 2 ^ n)
+  ub_behind n l e = let i : IsField o (λ x. x) b p n _ _ = ub_got o b p n e in (omega (arith, i.next), omega (arith, i.value, i.below))
 
 -- ---- Points in turn are twice as many Floats
 pub alike_pairs : (f : Format) (n : ℕ) → Alike (times (n * 2) f) (times n (f ▸ f))
@@ -206,11 +179,3 @@ alike_pairs f zero o b p = refl
 alike_pairs f (suc n) o b p =
     let e : suc n * 2 ≡ suc (suc (n * 2)) = omega arith in
     rw e (sym (alike_assoc f f (times (n * 2) f) o b p) ∙ alike_after (f ▸ f) (times (n * 2) f) (times n (f ▸ f)) (alike_pairs f n) o b p)
-
-pub points_are : (o : Order) (b t : List ℕ) (k n p : ℕ) {x : State} → x ≡ shown_over t k (run o b (times (n * 2) float) p) → x ≡ shown_over t k (run o b (times n point) p)
-points_are o b t k n p e = e ∙ ap (shown_over t k) (alike_pairs float n o b p)
-
--- values in turn, by what a `match` tells
-pub in_turn_of : (o : Order) (b t : List ℕ) (k n p : ℕ) {what : DataType} {x : State} (told : DataType) → what ≡ told → x ≡ shown_over t k (run o b (times n (value (type_of told))) p)
-    → x ≡ shown_over t k (run o b (times n (value (type_of what))) p)
-in_turn_of o b t k n p told e f = f ∙ ap (λ (z : DataType). shown_over t k (run o b (times n (value (type_of z))) p)) (sym e)

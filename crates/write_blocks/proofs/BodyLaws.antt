@@ -9,6 +9,7 @@ use lib.ListN.{length, take, drop, length-append}
 use lib.Pow.{pow_pos}
 use lib.Seq.{sets, length-sets}
 use lib.Dec.{leb, eqb}
+use Rattle.std.specs.Prelude.{Result, Ok, Err}
 use borrow.Author.Tests.{leb-true, leb-false, le-leb, lt-leb}
 use Rattle.format.specs.Tests.{pick}
 use Rattle.format.specs.Bits.{Order}
@@ -25,21 +26,21 @@ use Rattle.format.proofs.Absurd.{clash}
 use Rattle.sink.specs.Lain.{Lain, lain, lies, lain_as, longest}
 use Rattle.sink.specs.Laying.{State, mk, at, lay, Holds, Skipped}
 use Rattle.bits.specs.declared.BytePlace.{BytePlace}
-use Rattle.sink.specs.declared.Body.{Body}
-use Rattle.sink.specs.declared.Body.TheVariants.{To, No as BodyNo}
+use Rattle.bits.specs.Places.{order_of}
+use Rattle.sink.specs.declared.Impossible.{Impossible}
 use Rattle.sink.specs.declared.Sink.{Sink}
 use Rattle.sink.proofs.LayingLaws.{lay_append, lay_bytes_of, lay_place, lay_ok}
 use Rattle.table.proofs.EngineLaws.{sets_append}
 use Rattle.spelling.specs.Ends.{concluded}
-use Rattle.spelling.specs.Writing.{Seen, here, ran, Fine}
+use Rattle.spelling.specs.Writing.{Seen, here, ran}
+use Rattle.spelling.specs.Writer.{state}
+use Rattle.spelling.specs.declared.writer.Writer.{Writer}
 use Rattle.spelling.proofs.EndLaws.{front, front_law}
 use Rattle.spelling.proofs.ShiftLaws.{shift, whole_bytes_lem}
 use Rattle.write_heads.proofs.StoreLaws.{sets_comm, sets_cover, sets_taken}
-use Rattle.write_blocks.specs.Flags.{flag_spelling, joined, flag_bits, flag_bytes, has_flag, any_flag, HasFlags, bits_of, Held}
-use Rattle.write_blocks.specs.Filling.{Both, both, both_of, fills, filled, Ready, under_flags}
-use Rattle.write_blocks.specs.declared.Filled.{Filled}
-use Rattle.write_blocks.specs.declared.Filled.TheVariants.{With, No}
-use Rattle.write_blocks.specs.declared.Flags.{Flags}
+use Rattle.write_blocks.specs.Flags.{flag_spelling, joined, flag_bits, flag_bytes, has_flag, any_flag, HasFlags, bits_of}
+use Rattle.write_blocks.specs.Filling.{Both, both, both_of, fills, filled, under_flags}
+use Rattle.write_blocks.specs.declared.field.Flags.{Flags}
 use Rattle.write_blocks.proofs.WholeLaws.{adjoin_twice, onward_adjoin, whole_rows}
 
 -- ---- all flags, one for each attribute
@@ -339,46 +340,44 @@ lies_between out a (this xs) u stop e = go (leb (a + length xs) longest) refl e
     go true q d = let z : stop ≡ a + length xs = cc in (omega arith, omega (arith, leb-true (a + length xs) longest q))
     go false q d = clash cc
 
-module _ (o : Order) (ks : List Attribute) (t : List ℕ) (has : HasFlags ks) (out : List ℕ) (a : ℕ) (u : List ℕ) (R : Filled)
-    {q : ℕ} (first : q ≡ 8 * (a + 1)) (from : (filled o u R ≡ fills o ks t (mk out q 0)) × Ready R) where
-  e : (filled o u R ≡ fills o ks t (mk out (8 * (a + 1)) 0)) × Ready R
-  e = (from.0 ∙ ap (λ (k : ℕ). fills o ks t (mk out k 0)) first, from.1)
+module _ (o : Order) (ks : List Attribute) (t : List ℕ) (has : HasFlags ks) (out : List ℕ) (a : ℕ) (b : Writer) (R : Result Flags Impossible)
+    {q p : ℕ} (first : q ≡ 8 * (a + 1)) (clear : p ≡ 0) (from : filled o b R ≡ fills o ks t (mk out q p)) where
+  e : filled o b R ≡ fills o ks t (mk out (8 * (a + 1)) 0)
+  e = from ∙ ap₂ (λ (k x : ℕ). fills o ks t (mk out k x)) first clear
 
-  pub block_gone : R ≡ No → cannot ≡ lies out a (write_body o (attributes ks) t)
-  block_gone d = sym (block_law o ks t has out a ∙ ap (finished o (length t) a) (sym e.0 ∙ ap (filled o u) d))
+  pub block_gone : {z : Impossible} → R ≡ Err z → cannot ≡ lies out a (write_body o (attributes ks) t)
+  block_gone d = sym (block_law o ks t has out a ∙ ap (finished o (length t) a) (sym e ∙ ap (filled o b) d))
 
-  module _ (f : Flags) (s : Sink) (k : ℕ) (d : R ≡ With f s k) where
-    ready : Held f × (f.width ≤ 32) × Fine s
-    ready = subst Ready d e.1
+  module _ (f : Flags) (d : R ≡ Ok f) where
+    is : this (both (bits_of o f) (state b) b.index) ≡ fills o ks t (mk out (8 * (a + 1)) 0)
+    is = ap (filled o b) (sym d) ∙ e
 
-    pub block_fine : Fine s
-    block_fine = ready.2
-
-    is : this (both (bits_of o f) (at u s) k) ≡ fills o ks t (mk out (8 * (a + 1)) 0)
-    is = ap (filled o u) (sym d) ∙ e.0
-
-    parts : (flag_bits o ks (flags_in o ks t) ≡ this (bits_of o f)) × (ran o t (mk out (8 * (a + 1)) 0) 0 (rows ks (flags_in o ks t)) ≡ this (here (at u s) k))
-    parts = both_is (flag_bits o ks (flags_in o ks t)) (ran o t (mk out (8 * (a + 1)) 0) 0 (rows ks (flags_in o ks t))) (bits_of o f) (at u s) k is
+    parts : (flag_bits o ks (flags_in o ks t) ≡ this (bits_of o f)) × (ran o t (mk out (8 * (a + 1)) 0) 0 (rows ks (flags_in o ks t)) ≡ this (here (state b) b.index))
+    parts = both_is (flag_bits o ks (flags_in o ks t)) (ran o t (mk out (8 * (a + 1)) 0) 0 (rows ks (flags_in o ks t))) (bits_of o f) (state b) b.index is
 
     -- C is how the contents end
-    module _ (v : List ℕ) (C : Body) (h : lain_as v C ≡ concluded o (length t) (this (here (at u s) k))) where
+    module _ (v : List ℕ) (C : Result BytePlace Impossible) (order : order_of b.order ≡ o) (values : b.values.now ≡ t)
+        (told : lain_as v C ≡ concluded (order_of b.order) (length b.values.now) (this (here (state b) b.index))) where
+      h : lain_as v C ≡ concluded o (length t) (this (here (state b) b.index))
+      h = told ∙ ap₂ (λ (x : Order) (xs : List ℕ). concluded x (length xs) (this (here (state b) b.index))) order values
+
       ends : lies out a (write_body o (attributes ks) t) ≡ closed a (flag_bytes o (bits_of o f)) (lain_as v C)
       ends = block_law o ks t has out a ∙ ap (finished o (length t) a) (sym is) ∙ ap (closed a (flag_bytes o (bits_of o f))) (sym h)
 
-      pub block_stop : C ≡ BodyNo → cannot ≡ lies out a (write_body o (attributes ks) t)
+      pub block_stop : {z : Impossible} → C ≡ Err z → cannot ≡ lies out a (write_body o (attributes ks) t)
       block_stop z = sym (ends ∙ rw z)
 
-      module _ (end : BytePlace) (z : C ≡ To end) where
+      module _ (end : BytePlace) (z : C ≡ Ok end) where
         abbrev stop : ℕ
         stop = end.0
 
-        pub block_room : Held f × (0 < f.width) × (f.width ≤ 32) × (a + 1 ≤ stop) × (stop ≤ longest)
+        pub block_room : (0 < f.width) × (a + 1 ≤ stop) × (stop ≤ longest)
         block_room =
             let some : 0 < length (bits_of o f) = rw parts.0 at (some_flags o ks (flags_in o ks t) has.any) in
             let at-end : this (lain v stop) ≡ lies out (a + 1) (whole_bytes o (unrun o (front (rows ks (flags_in o ks t))) t 0)) =
             ap (lain_as v) (sym z) ∙ h ∙ ap (concluded o (length t)) (sym parts.1) ∙ sym (front_law o (rows ks (flags_in o ks t)) t out (a + 1)) in
             let between = lies_between out (a + 1) (whole_bytes o (unrun o (front (rows ks (flags_in o ks t))) t 0)) v stop at-end in
-            (ready.0, omega (arith, some, length_dig o f.width f.bits), ready.1, between.0, between.1)
+            (omega (arith, some, length_dig o f.width f.bits), between.0, between.1)
 
-        pub block_done : {x : Possible Lain} → x ≡ under_flags v a (flag_bytes o (bits_of o f)) (stop - (a + 1)) → x ≡ lies out a (write_body o (attributes ks) t)
-        block_done q = q ∙ sym (ends ∙ rw z)
+        pub block_done : {x : Possible Lain} {o' : Order} → o' ≡ o → x ≡ under_flags v a (flag_bytes o' (bits_of o' f)) (stop - (a + 1)) → x ≡ lies out a (write_body o (attributes ks) t)
+        block_done same q = q ∙ ap (λ (y : Order). under_flags v a (flag_bytes y (bits_of y f)) (stop - (a + 1))) same ∙ sym (ends ∙ rw z)

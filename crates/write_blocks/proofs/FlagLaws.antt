@@ -1,27 +1,21 @@
--- Flag numbers as bits, gathered in one number; and what a `match` tells of a content.
+-- Flag numbers as bits, gathered in one number.
 use Prim.Native.Nat.{ℕ, zero, suc, ◌+◌, ◌/◌, ◌%◌, ◌^◌, ◌≤◌, ◌<◌}
 use mathlib.Core.List.{List, [], ◌++◌, append-nil, append_assoc}
 use mathlib.Core.Path.{◌≡◌, refl, sym, ap, ap₂, ◌∙◌}
 use mathlib.Core.Bool.{Bool, true, false}
 use native.Mathlib.Omega.{arith}
 use lib.Dec.{eqb}
+use Rattle.std.specs.Prelude.{Result, Ok, Err}
 use borrow.Author.Tests.{eq-eqb, ne_eqb, eqb-true}
 use Rattle.format.specs.Tests.{pick}
 use Rattle.format.specs.Bits.{Order}
-use Rattle.format.specs.Formats.{Format, nothing}
 use Rattle.format.specs.Bodies as bodies
 use Rattle.format.specs.Possible.{Possible, this, cannot}
 use Rattle.format.specs.WritingItems.{dig, glue, before, spell_flag}
 use Rattle.format.proofs.BitLaws.{dig_append}
-use Rattle.attributes.specs.Rows.{kind_of}
-use Rattle.attributes.specs.declared.Kind.{Kind}
-use Rattle.sink.specs.Laying.{State}
-use Rattle.spelling.specs.Writing.{Seen, here, ran, limit}
-use Rattle.spelling.proofs.RunLaws.{ran_nothing}
-use Rattle.write_blocks.specs.Flags.{flag_spelling, most_bits, bits_of, Held, noted, Grown, Longer}
-use Rattle.write_blocks.specs.declared.Flags.{Flags}
-use Rattle.write_blocks.specs.declared.Flagged.{Flagged}
-use Rattle.write_blocks.specs.declared.Flagged.TheVariants.{With, No}
+use Rattle.sink.specs.declared.Impossible.{Impossible}
+use Rattle.write_blocks.specs.Flags.{flag_spelling, bits_of, noted, Grown, Longer}
+use Rattle.write_blocks.specs.declared.field.Flags.{Flags}
 
 -- ---- one flag bit
 pub flag_in : (o : Order) (v : ℕ) → v ≤ 1 → spell_flag o v 1 ≡ this (dig o 1 v)
@@ -88,33 +82,33 @@ before_append xs ys (this bs) = ap this (append_assoc xs ys bs)
 before_append xs ys cannot = refl
 
 -- ---- bits after those that were gathered, m more at most
-abbrev pub Adds : ℕ → Order → Flags → Possible (List Bool) → Flagged → Type 0
+abbrev pub Adds : ℕ → Order → Flags → Possible (List Bool) → Result Flags Impossible → Type 0
 Adds m o f b r = (noted o r ≡ before (bits_of o f) b) × Grown m f.width r
 
-longer_bits : (o : Order) (f g : Flags) (n x : ℕ) → Held f → x < 2 ^ n → Longer o f n x g → bits_of o g ≡ bits_of o f ++ dig o n x
-longer_bits o f g n x h s m = rw (m.longer, m.glued) (dig_append o f.width n f.bits x h s)
+longer_bits : (o : Order) (f g : Flags) (n x : ℕ) → x < 2 ^ n → Longer o f n x g → bits_of o g ≡ bits_of o f ++ dig o n x
+longer_bits o f g n x s m = rw (m.longer, m.glued) (dig_append o f.width n f.bits x f.held s)
 
 module _ (m : ℕ) (o : Order) (f : Flags) {b : Possible (List Bool)} where
   -- n bits more, as the field x
-  pub add_in : (n x : ℕ) {g : Flags} → Held f → n ≤ m → x < 2 ^ n → Longer o f n x g → b ≡ this (dig o n x) → Adds m o f b (With g)
-  add_in n x {g} h l s z e = (rw e (ap this (longer_bits o f g n x h s z)), (z.held, omega (arith, z.longer)))
+  pub add_in : (n x : ℕ) {g : Flags} → n ≤ m → x < 2 ^ n → Longer o f n x g → b ≡ this (dig o n x) → Adds m o f b (Ok g)
+  add_in n x {g} l s z e = (rw e (ap this (longer_bits o f g n x s z)), omega (arith, z.longer))
 
-  pub add_none : {g : Flags} → Held f → g ≡ f → b ≡ this [] → Adds m o f b (With g)
-  add_none h d e = rw (d, e) (ap this (sym (append-nil (bits_of o f))), (h, omega arith))
+  pub add_none : b ≡ this [] → Adds m o f b (Ok f)
+  add_none e = (rw e (ap this (sym (append-nil (bits_of o f)))), omega arith)
 
-  pub add_no : b ≡ cannot → Adds m o f b No
-  add_no e = rw e (refl, tt)
+  pub add_no : (z : Impossible) → b ≡ cannot → Adds m o f b (Err z)
+  add_no z e = (rw e refl, tt)
 
 -- m bits more at most are n more at most
-wide : (m n w v : ℕ) (r : Flagged) → w + m ≤ v + n → Grown m w r → Grown n v r
-wide m n w v (With g) l h = (h.0, omega (arith, h.1))
-wide m n w v No l h = tt
+wide : (m n w v : ℕ) (r : Result Flags Impossible) → w + m ≤ v + n → Grown m w r → Grown n v r
+wide m n w v (Ok g) l h = omega arith
+wide m n w v (Err e) l h = tt
 
 -- an exist bit was added, and then the flags after it
-pub add_after : (o : Order) (f g : Flags) (v w : ℕ) (r : Flagged) → Held f → (v ≡ 0 → ⊥) → (v % 2 ≡ 0 → ⊥) → w ≡ v / 2 → Longer o f 1 1 g → Adds 2 o g (spell_flag o w 2) r → Adds 3 o f (spell_flag o v 3) r
-add_after o f g v w r h a e d l k =
+pub add_after : (o : Order) (f g : Flags) (v w : ℕ) (r : Result Flags Impossible) → (v ≡ 0 → ⊥) → (v % 2 ≡ 0 → ⊥) → w ≡ v / 2 → Longer o f 1 1 g → Adds 2 o g (spell_flag o w 2) r → Adds 3 o f (spell_flag o v 3) r
+add_after o f g v w r a e d l k =
     let p : before (bits_of o g) (spell_flag o w 2) ≡ before (bits_of o f) (spell_flag o v 3) =
-    ap₂ (λ (xs : List Bool) (u : ℕ). before xs (spell_flag o u 2)) (longer_bits o f g 1 1 h (omega arith) l) d
+    ap₂ (λ (xs : List Bool) (u : ℕ). before xs (spell_flag o u 2)) (longer_bits o f g 1 1 (omega arith) l) d
     ∙ before_append (bits_of o f) (dig o 1 1) (spell_flag o (v / 2) 2) ∙ ap (before (bits_of o f)) (sym (flag_odd o 2 v a e)) in
     (k.0 ∙ p, wide 2 3 g.width f.width r (omega (arith, l.longer)) k.1)
 
@@ -124,15 +118,3 @@ fixed_in o v e = rw (eq-eqb v 1 e)
 
 pub fixed_no : (o : Order) (v : ℕ) → (v ≡ 1 → ⊥) → flag_spelling o bodies.Fixed v ≡ cannot
 fixed_no o v e = rw (ne_eqb v 1 e)
-
-pub told : (o : Order) (f : Flags) (v : ℕ) {kind : Kind} (r : Flagged) (arm : Kind) → kind ≡ arm → Adds (most_bits (kind_of arm)) o f (flag_spelling o (kind_of arm) v) r → Adds (most_bits (kind_of kind)) o f (flag_spelling o (kind_of kind) v) r
-told o f v r arm e d = rw e d
-
--- ---- contents
-module _ (o : Order) (t : List ℕ) (st : State) (k : ℕ) where
-  -- none
-  pub content_none : (f : Format) → f ≡ nothing → st.place ≤ limit → this (here st k) ≡ ran o t st k f
-  content_none f e l = sym (ap (ran o t st k) e ∙ ran_nothing o t st k l)
-
-  pub content_is : {x : Possible Seen} (f g : Format) → g ≡ f → x ≡ ran o t st k f → x ≡ ran o t st k g
-  content_is f g e d = d ∙ ap (ran o t st k) (sym e)

@@ -1,5 +1,5 @@
 -- Flag numbers as bits: of one attribute, of all, and as the code gathers them.
-use Rattle.std.specs.Prelude.{ℕ, ◌+◌, ◌/◌, ◌^◌, ◌≤◌, ◌<◌, List, [], ◌∷◌, ◌++◌, Bool, true, false, ◌≡◌, eqb, length}
+use Rattle.std.specs.Prelude.{ℕ, ◌+◌, ◌/◌, ◌≤◌, List, [], ◌∷◌, ◌++◌, Bool, true, false, ◌≡◌, eqb, length, Result, Ok, Err}
 use Rattle.format.specs.Tests.{pick}
 use Rattle.format.specs.Bits.{Order}
 use Rattle.format.specs.Items.{skipped}
@@ -7,9 +7,8 @@ use Rattle.format.specs.Bodies.{Kind, Value, Fixed, BitFlag, Simple, Discrete, M
 use Rattle.format.specs.Possible.{Possible, this, cannot}
 use Rattle.format.specs.WritingItems.{dig, glue, before, spell_flag}
 use Rattle.format.specs.WritingBodies.{bytes_of}
-use Rattle.write_blocks.specs.declared.Flags.{Flags}
-use Rattle.write_blocks.specs.declared.Flagged.{Flagged}
-use Rattle.write_blocks.specs.declared.Flagged.TheVariants.{With, No}
+use Rattle.sink.specs.declared.Impossible.{Impossible}
+use Rattle.write_blocks.specs.declared.field.Flags.{Flags}
 
 -- the bits of an attribute's flag number
 abbrev pub flag_spelling : Order → Kind → ℕ → Possible (List Bool)
@@ -76,20 +75,16 @@ pub record HasFlags (ks : List Attribute) : Type 0 where
 abbrev pub bits_of : Order → Flags → List Bool
 bits_of o f = dig o f.width f.bits
 
-abbrev pub Held : Flags → Type 0
-Held f = f.bits < 2 ^ f.width
-
 -- f with n bits more, the field x, behind its own
 pub record Longer (o : Order) (f : Flags) (n x : ℕ) (g : Flags) : Type 0 where
   pub glued : g.bits ≡ glue o f.width n f.bits x
   pub longer : g.width ≡ f.width + n
-  pub held : Held g
 
-abbrev pub noted : Order → Flagged → Possible (List Bool)
-noted o (With f) = this (bits_of o f)
-noted o No = cannot
+abbrev pub noted : Order → Result Flags Impossible → Possible (List Bool)
+noted o (Ok f) = this (bits_of o f)
+noted o (Err e) = cannot
 
 -- flags of w bits, with n more at most
-abbrev pub Grown : ℕ → ℕ → Flagged → Type 0
-Grown n w (With f) = Held f × (f.width ≤ w + n)
-Grown n w No = Unit {0}
+abbrev pub Grown : ℕ → ℕ → Result Flags Impossible → Type 0
+Grown n w (Ok f) = f.width ≤ w + n
+Grown n w (Err e) = Unit {0}

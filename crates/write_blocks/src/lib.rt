@@ -2,250 +2,199 @@
 // each attribute's flag number stands before its content: so one walk over them finds both, and no content is measured before it is written.
 #![tactic(auto)]
 
-ghost use Rattle.std.specs.Prelude.{◌≡◌, ◌+◌, ◌-◌, ◌^◌, ◌≤◌, ◌<◌};
+ghost use Rattle.std.specs.Prelude.{◌≡◌, ◌+◌, ◌-◌, ◌*◌, ◌^◌, ◌≤◌, ◌<◌, IfOk};
 ghost use Rattle.format.specs.WritingItems.{before, spell_flag};
 ghost use Rattle.format.specs.Bodies.{content as content_of, attributes as attributes_body};
 ghost use Rattle.format.specs.WritingBodies.{write_body};
-ghost use Rattle.bits.specs.Places.{order_of};
-ghost use Rattle.attributes.specs.Rows.{kind_of, attribute_in, rows_from};
+ghost use Rattle.format.specs.Bodies.{Fixed};
+ghost use Rattle.bits.specs.Places.{InEither, order_of};
+ghost use Rattle.attributes.specs.Rows.{kind_of, attribute_of, attributes_in};
 ghost use Rattle.sink.specs.Lain.{lies, lain_as, longest};
-ghost use Rattle.sink.specs.Laying.{at as under};
-ghost use Rattle.spelling.specs.Writing.{seen, ran, Fine};
-ghost use Rattle.write_blocks.specs.Flags.{bits_of, noted, Held, Grown, Longer, flag_spelling, flag_bytes, most_bits, HasFlags};
-ghost use Rattle.write_blocks.specs.Filling.{filled, fills, Ready, under_flags};
+ghost use Rattle.spelling.specs.Writer.{state, Onward, Writes};
+ghost use Rattle.write_blocks.specs.Flags.{bits_of, noted, Grown, Longer, flag_spelling, flag_bytes, most_bits, HasFlags};
+ghost use Rattle.write_blocks.specs.Filling.{filled, fills, under_flags};
 
-use attributes::{Block, Content, Kind};
-use bits::{BitPlace, BytePlace, Order};
-use sink::{Body, Sink};
-use spelling::Put;
+pub mod field;
 
-// Flag bits as one field; and how many they are.
-#[derive(Clone, Copy)]
-pub struct Flags {
-    pub bits: u64,
-    pub width: usize,
-}
+use crate::field::Flags;
+use attributes::{Attribute, Content, Kind};
+use bits::{BytePlace, Order};
+use sink::{Impossible, Sink};
+use spelling::writer::Writer;
 
-// The flags with those of one number more; or that number has none.
-#[derive(Clone, Copy)]
-pub enum Flagged {
-    With(Flags),
-    No,
-}
-
-// The flags of all rows, the sink after their contents, and the index of the next value; or no file has them.
-#[derive(Clone, Copy)]
-pub enum Filled {
-    With(Flags, Sink, usize),
-    No,
-}
-
-// So many bits more, as a field, behind those that were gathered.
-fn with_bits(order: Order, flags: Flags, more: u64, count: usize) -> Flags
-    requires { Held flags × (flags.width ≤ 33) × (count ≤ 2) × (more < 2 ^ count) }
-    ensures { Longer (order_of order) flags count more result }
-{
-    let bits = flags.bits;
-    let width = flags.width;
-    Flags {
-        bits: sink::glue(order, bits, width, more, count),
-        width: width + count,
-    }
-}
-
-// One flag bit.
-fn add_flag(order: Order, flags: Flags, number: u64) -> Flagged
-    requires { Held flags × (flags.width ≤ 32) }
-    ensures { (noted (order_of order) result ≡ before (bits_of (order_of order) flags) (spell_flag (order_of order) number 1)) × Grown 1 flags.width result }
-{
-    if 1 < number {
-        return Flagged::No;
-    }
-    Flagged::With(with_bits(order, flags, number, 1))
-}
-
-// An exist bit; if set, an animatable bit.
-fn add_two_flags(order: Order, flags: Flags, number: u64) -> Flagged
-    requires { Held flags × (flags.width ≤ 33) }
-    ensures { (noted (order_of order) result ≡ before (bits_of (order_of order) flags) (spell_flag (order_of order) number 2)) × Grown 2 flags.width result }
-{
-    match number {
-        0 => Flagged::With(with_bits(order, flags, 0, 1)),
-        1 => {
-            let still = sink::glue(order, 1, 1, 0, 1);
-            Flagged::With(with_bits(order, flags, still, 2))
+impl Flags {
+    // So many bits more, as a field, behind those that were gathered.
+    fn with_bits(self, order: Order, more: u64, count: usize) -> Flags
+        requires { (self.width ≤ 33) × (count ≤ 2) × (more < 2 ^ count) }
+        ensures { Longer (order_of order) self count more result }
+    {
+        Flags {
+            bits: sink::glue(order, self.bits, self.width, more, count),
+            width: self.width + count,
         }
-        3 => {
-            let moving = sink::glue(order, 1, 1, 1, 1);
-            Flagged::With(with_bits(order, flags, moving, 2))
+    }
+
+    // One flag bit.
+    fn with_flag(self, order: Order, number: u64) -> Result<Flags, Impossible>
+        requires { self.width ≤ 32 }
+        ensures { (noted (order_of order) result ≡ before (bits_of (order_of order) self) (spell_flag (order_of order) number 1)) × Grown 1 self.width result }
+    {
+        if 1 < number {
+            return Err(Impossible);
         }
-        _ => Flagged::No,
+        Ok(self.with_bits(order, number, 1))
     }
-}
 
-// An exist bit; if set, an animatable bit; if that is set too, a hasSpatial bit.
-fn add_three_flags(order: Order, flags: Flags, number: u64) -> Flagged
-    requires { Held flags × (flags.width ≤ 32) }
-    ensures { (noted (order_of order) result ≡ before (bits_of (order_of order) flags) (spell_flag (order_of order) number 3)) × Grown 3 flags.width result }
-{
-    if number == 0 {
-        return Flagged::With(with_bits(order, flags, 0, 1));
+    // An exist bit; if set, an animatable bit.
+    fn with_two_flags(self, order: Order, number: u64) -> Result<Flags, Impossible>
+        requires { self.width ≤ 33 }
+        ensures { (noted (order_of order) result ≡ before (bits_of (order_of order) self) (spell_flag (order_of order) number 2)) × Grown 2 self.width result }
+    {
+        match number {
+            0 => Ok(self.with_bits(order, 0, 1)),
+            1 => {
+                let still = sink::glue(order, 1, 1, 0, 1);
+                Ok(self.with_bits(order, still, 2))
+            }
+            3 => {
+                let moving = sink::glue(order, 1, 1, 1, 1);
+                Ok(self.with_bits(order, moving, 2))
+            }
+            _ => Err(Impossible),
+        }
     }
-    if number % 2 == 0 {
-        return Flagged::No;
-    }
-    let there = with_bits(order, flags, 1, 1);
-    add_two_flags(order, there, number / 2)
-}
 
-// The flags of one attribute; a Fixed one has no bit, and its flag number is 1.
-fn add_flags(order: Order, kind: Kind, flags: Flags, number: u64) -> Flagged
-    requires { Held flags × (flags.width ≤ 32) }
-    ensures { (noted (order_of order) result ≡ before (bits_of (order_of order) flags) (flag_spelling (order_of order) (kind_of kind) number)) × Grown (most_bits (kind_of kind)) flags.width result }
-{
-    match kind {
-        Kind::Value => add_flag(order, flags, number),
-        Kind::Fixed => if number == 1 {
-            Flagged::With(flags)
-        } else {
-            Flagged::No
-        },
-        Kind::BitFlag => add_flag(order, flags, number),
-        Kind::Simple => add_two_flags(order, flags, number),
-        Kind::Discrete => add_two_flags(order, flags, number),
-        Kind::MultiDimension => add_two_flags(order, flags, number),
-        Kind::Spatial => add_three_flags(order, flags, number),
-        Kind::Custom => add_flag(order, flags, number),
+    // An exist bit; if set, an animatable bit; if that is set too, a hasSpatial bit.
+    fn with_three_flags(self, order: Order, number: u64) -> Result<Flags, Impossible>
+        requires { self.width ≤ 32 }
+        ensures { (noted (order_of order) result ≡ before (bits_of (order_of order) self) (spell_flag (order_of order) number 3)) × Grown 3 self.width result }
+    {
+        if number == 0 {
+            return Ok(self.with_bits(order, 0, 1));
+        }
+        if number % 2 == 0 {
+            return Err(Impossible);
+        }
+        let there = self.with_bits(order, 1, 1);
+        there.with_two_flags(order, number / 2)
+    }
+
+    // No bit: a Fixed attribute's flag number is 1.
+    fn with_none(self, number: u64) -> Result<Flags, Impossible>
+        ensures fixed { InEither (λ o. noted o result ≡ before (bits_of o self) (flag_spelling o Fixed number)) }
+        ensures grown { Grown 0 self.width result }
+    {
+        let fixed = number == 1;
+        if fixed { Ok(self) } else { Err(Impossible) }
+    }
+
+    // The flags of one attribute more.
+    fn with_kind(self, order: Order, kind: Kind, number: u64) -> Result<Flags, Impossible>
+        requires { self.width ≤ 32 }
+        ensures { (noted (order_of order) result ≡ before (bits_of (order_of order) self) (flag_spelling (order_of order) (kind_of kind) number)) × Grown (most_bits (kind_of kind)) self.width result }
+    {
+        match kind {
+            Kind::Value | Kind::BitFlag => self.with_flag(order, number),
+            Kind::Fixed => self.with_none(number),
+            Kind::Simple | Kind::Discrete | Kind::MultiDimension => self.with_two_flags(
+                order, number,
+            ),
+            Kind::Spatial => self.with_three_flags(order, number),
+            Kind::Custom => self.with_flag(order, number),
+        }
     }
 }
 
 // The content of the attribute in a row, by its flag number.
-fn write_content(
-    order: Order,
-    row: u8,
-    flag: u64,
-    out: &mut [u8],
-    sink: Sink,
-    values: &[u64],
-    from: usize,
-) -> Put
-    requires { Fine sink }
-    ensures { seen out.new result ≡ ran (order_of order) values.now (under out.old sink) from (content_of (attribute_in row) flag) }
+fn write_content(row: Attribute, flag: u64, writer: &mut Writer) -> Result<(), Impossible>
+    ensures { Writes writer.old writer.new result (content_of (attribute_of row) flag) }
 {
-    let kind = attributes::kind_in(row);
+    let kind = row.kind;
+    let what = row.data_type;
     match attributes::content_of(kind, flag) {
-        Content::Nothing => Put::Done(sink, from),
-        Content::One => write_values::write_value(
-            order,
-            attributes::type_in(row),
-            out,
-            sink,
-            values,
-            from,
-        ),
-        Content::Frames => write_values::keyframes::write_keyframed(
-            order,
-            kind,
-            attributes::type_in(row),
-            flag,
-            out,
-            sink,
-            values,
-            from,
-        ),
+        Content::Nothing => Ok(()),
+        Content::One => write_values::write_value(what, writer),
+        Content::Frames => write_values::keyframes::write_keyframed(kind, what, flag, writer),
     }
 }
 
 // The contents of all rows; their flags are gathered on the way.
-fn write_contents(order: Order, block: Block, values: &[u64], out: &mut [u8], sink: Sink) -> Filled
-    requires { (block.count ≤ 12) × HasFlags (rows_from block.rows 0 block.count) × Fine sink }
-    ensures { (filled (order_of order) out.new result ≡ fills (order_of order) (rows_from block.rows 0 block.count) values.now (under out.old sink)) × Ready result }
+fn write_contents(rows: &[Attribute], writer: &mut Writer) -> Result<Flags, Impossible>
+    requires { HasFlags (attributes_in rows.now) × (writer.old.index ≡ 0) }
+    ensures onward { Onward writer.old writer.new }
+    ensures fills { filled (order_of writer.old.order) writer.new result ≡ fills (order_of writer.old.order) (attributes_in rows.now) writer.old.values.now (state writer.old) }
+    ensures few { IfOk result (λ flags. flags.width ≤ 32) }
 {
-    let rows = block.rows;
-    let count = block.count;
+    let order = writer.order;
     let mut flags = Flags { bits: 0, width: 0 };
-    let mut cur = sink;
-    let mut index = 0;
-    let mut row = 0;
-    while row < count {
-        if values.len() <= index {
-            return Filled::No;
-        }
-        let number = values[index];
-        let attribute = rows[row];
-        let kind = attributes::kind_in(attribute);
-        let flagged = add_flags(order, kind, flags, number);
-        let Flagged::With(more) = flagged else {
-            return Filled::No;
-        };
-        let put = spelling::again(write_content(
-            order,
-            attribute,
-            number,
-            out,
-            cur,
-            values,
-            index + 1,
-        ));
-        let Put::Done(next, behind) = put else {
-            return Filled::No;
-        };
-        flags = more;
-        // By its numbers: taken whole out of the answer it is loaded in other pieces than it was stored in, and the processor waits for that.
-        cur = Sink {
-            place: BitPlace(next.place.0),
-            part: next.part,
-        };
-        index = behind;
-        row += 1;
+    for row in rows {
+        let number = writer.take()?;
+        flags = flags.with_kind(order, row.kind, number)?;
+        write_content(*row, number, writer)?;
     }
-    Filled::With(flags, cur, index)
+    Ok(flags)
 }
 
 // Puts flags before contents that stand one byte after a place, up to stop; where the flags take more than that byte, the contents move up.
-fn put_flags(order: Order, flags: Flags, out: &mut [u8], at: BytePlace, stop: BytePlace) -> Body
-    requires { Held flags × (0 < flags.width) × (flags.width ≤ 32) × (at.0 + 1 ≤ stop.0) × (stop.0 ≤ longest) }
-    ensures { lain_as out.new result ≡ under_flags out.old at.0 (flag_bytes (order_of order) (bits_of (order_of order) flags)) (stop.0 - (at.0 + 1)) }
+fn put_flags(
+    flags: Flags,
+    writer: &mut Writer,
+    at: BytePlace,
+    stop: BytePlace,
+) -> Result<BytePlace, Impossible>
+    requires { (0 < flags.width) × (flags.width ≤ 32) × (at.0 + 1 ≤ stop.0) × (stop.0 ≤ longest) }
+    ensures onward { Onward writer.old writer.new }
+    ensures lain { lain_as writer.new.out.now result ≡ under_flags writer.old.out.now at.0 (flag_bytes (order_of writer.old.order) (bits_of (order_of writer.old.order) flags)) (stop.0 - (at.0 + 1)) }
 {
     let width = flags.width;
     let from = at.0 + 1;
     let more = (width + 7) / 8 - 1;
     let end = stop.0 + more;
     if 16777216 < end {
-        return Body::No;
+        return Err(Impossible);
     }
-    write_heads::move_up(out, BytePlace(from), stop.0 - from, more);
+    write_heads::move_up(writer.out, BytePlace(from), stop.0 - from, more);
+    let order = writer.order;
     let place = bits::first_bit(at);
     let sink = Sink { place, part: 0 };
-    let next = sink::put_bits(order, out, sink, flags.bits, width);
-    sink::align(order, out, next);
-    Body::To(BytePlace(end))
+    let next = sink::put_bits(order, writer.out, sink, flags.bits, width);
+    sink::align(order, writer.out, next);
+    Ok(BytePlace(end))
+}
+
+// An attribute block, by a writer that stands one byte after its place.
+fn write_at(rows: &[Attribute], writer: &mut Writer, at: BytePlace) -> Result<BytePlace, Impossible>
+    requires flags { HasFlags (attributes_in rows.now) }
+    requires first { (writer.old.index ≡ 0) × (writer.old.sink.place.0 ≡ 8 * (at.0 + 1)) × (writer.old.sink.part ≡ 0) }
+    ensures onward { Onward writer.old writer.new }
+    ensures lain { lain_as writer.new.out.now result ≡ lies writer.old.out.now at.0 (write_body (order_of writer.old.order) (attributes_body (attributes_in rows.now)) writer.old.values.now) }
+{
+    let flags = write_contents(rows, writer)?;
+    let stop = writer.conclude()?;
+    put_flags(flags, writer, at, stop)
 }
 
 // An attribute block, from a byte place on; one that has flags. No file is longer than 16,777,216 bytes.
 pub fn write_block(
     order: Order,
-    block: Block,
+    rows: &[Attribute],
     values: &[u64],
     out: &mut [u8],
     at: BytePlace,
-) -> Body
-    requires { (block.count ≤ 12) × HasFlags (rows_from block.rows 0 block.count) }
-    ensures { lain_as out.new result ≡ lies out.old at.0 (write_body (order_of order) (attributes_body (rows_from block.rows 0 block.count)) values.now) }
+) -> Result<BytePlace, Impossible>
+    requires { HasFlags (attributes_in rows.now) }
+    ensures { lain_as out.new result ≡ lies out.old at.0 (write_body (order_of order) (attributes_body (attributes_in rows.now)) values.now) }
 {
     if 16777216 <= at.0 {
-        return Body::No;
+        return Err(Impossible);
     }
-    let from = at.0 + 1;
-    let place = bits::first_bit(BytePlace(from));
-    let sink = Sink { place, part: 0 };
-    let filled = write_contents(order, block, values, out, sink);
-    let Filled::With(flags, next, behind) = filled else {
-        return Body::No;
+    let sink = spelling::on_byte(at.0 + 1);
+    let mut writer = Writer {
+        order,
+        out,
+        sink,
+        values,
+        index: 0,
     };
-    let concluded = spelling::conclude(order, Put::Done(next, behind), values.len(), out);
-    match concluded {
-        Body::To(stop) => put_flags(order, flags, out, at, stop),
-        Body::No => Body::No,
-    }
+    write_at(rows, &mut writer, at)
 }

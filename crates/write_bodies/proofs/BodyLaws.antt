@@ -13,7 +13,8 @@ use Rattle.format.specs.Bodies.{fixed, attributes}
 use Rattle.format.specs.Possible.{Possible}
 use Rattle.format.specs.WritingBodies.{write_body}
 use Rattle.format.proofs.Absurd.{clash}
-use Rattle.attributes.specs.Rows.{attributes_of, rows_from, Attributes}
+use Rattle.attributes.specs.Rows.{attributes_of, attributes_in}
+use Rattle.attributes.specs.declared.Attribute.{Attribute}
 use Rattle.fixed.specs.Fixed.{fixed_of}
 use Rattle.bodies.specs.Leaf.{is_block, leaf_body}
 use Rattle.sink.specs.Lain.{Lain, lies}
@@ -64,13 +65,13 @@ block_flags code h = both (any_flag (attributes_of code)) refl (leb (most_flags 
     both false p d q e = let z : true ≡ false = sym e ∙ rw p in clash cc
 
 -- ---- as the code has it
-module _ (code : ℕ) {rows : List ℕ} {count : ℕ} (block : is_block code ≡ true) (are : Attributes rows count (attributes_of code)) where
-  pub rows_flags : HasFlags (rows_from rows 0 count)
-  rows_flags = subst HasFlags (sym are.are) (block_flags code block)
+module _ (code : ℕ) (rows : List Attribute) (block : is_block code ≡ true) (are : attributes_in rows ≡ attributes_of code) where
+  pub rows_flags : HasFlags (attributes_in rows)
+  rows_flags = subst HasFlags (sym are) (block_flags code block)
 
-  pub body_block : (o : Order) (vs out : List ℕ) (a : ℕ) {x : Possible Lain} → x ≡ lies out a (write_body o (attributes (rows_from rows 0 count)) vs) → x ≡ lies out a (write_body o (leaf_body code) vs)
+  pub body_block : (o : Order) (vs out : List ℕ) (a : ℕ) {x : Possible Lain} → x ≡ lies out a (write_body o (attributes (attributes_in rows)) vs) → x ≡ lies out a (write_body o (leaf_body code) vs)
   unfolding leaf_body
-  body_block o vs out a h = rw block (h ∙ ap (λ (l : List bodies.Attribute). lies out a (write_body o (attributes l) vs)) are.are)
+  body_block o vs out a h = rw block (h ∙ ap (λ (l : List bodies.Attribute). lies out a (write_body o (attributes l) vs)) are)
 
 pub body_fixed : (o : Order) (vs out : List ℕ) (a code : ℕ) {x : Possible Lain} → is_block code ≡ false → x ≡ lies out a (write_body o (fixed (fixed_of code)) vs) → x ≡ lies out a (write_body o (leaf_body code) vs)
 unfolding leaf_body

@@ -38,9 +38,8 @@ pub fn move_up(out: &mut [u8], at: BytePlace, count: usize, by: usize)
     if by == 0 {
         return;
     }
-    let mut i = table::room_for(out.len(), at.0 + by, count);
-    while 0 < i {
-        i -= 1;
+    let room = table::room_for(out.len(), at.0 + by, count);
+    for i in (0..room).rev() {
         let from = at.0 + i;
         let to = from + by;
         out[to] = out[from];

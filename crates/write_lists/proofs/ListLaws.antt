@@ -194,7 +194,7 @@ module _ (o : Order) (classes : ℕ → paper.Class) where
       ∙ headed_high (claims (the (drop (suc k) t))) (get_or t k 0) (is_end (classes (get_or t k 0))) (within t left k (get_or t k 0)) (list left) q))
 
 -- ---- one turn: the tag at index k, with its code, the name of its class and its claim
-pub record Tag (cs t : List ℕ) (k code : ℕ) (class : Class) (claim : Bool) : Type 0 where
+pub record Tag (cs : List Class) (t : List ℕ) (k code : ℕ) (class : Class) (claim : Bool) : Type 0 where
   pub there : k < length t
   pub is : code ≡ get_or t k 0
   pub low : code < 1024
@@ -202,7 +202,7 @@ pub record Tag (cs t : List ℕ) (k code : ℕ) (class : Class) (claim : Bool) :
   pub classed : class ≡ class_in cs code
   pub claimed : claim ≡ claims (get_or t (k + 1) 0)
 
-module _ (o : Order) {cs t : List ℕ} {k code : ℕ} {class : Class} {claim : Bool} (g : Tag cs t k code class claim) (out : List ℕ) (left a : ℕ) where
+module _ (o : Order) {cs : List Class} {t : List ℕ} {k code : ℕ} {class : Class} {claim : Bool} (g : Tag cs t k code class claim) (out : List ℕ) (left a : ℕ) where
   cons : drop k t ≡ code ∷ drop (suc k) t
   cons = drop-cons t k 0 g.there ∙ ap (λ (x : ℕ). x ∷ drop (suc k) t) (sym g.is)
 

@@ -5,18 +5,22 @@ use mathlib.Core.Path.{◌≡◌, refl}
 use Rattle.format.specs.Possible.{Possible}
 use Rattle.format.proofs.OneLaws.{Same, Tells, answer_one}
 use Rattle.write_lists.specs.Stood.{Stood, stood, stood_as}
-use Rattle.write_lists.specs.declared.Wrote.{Wrote}
-use Rattle.write_lists.specs.declared.Wrote.TheVariants.{Done, Impossible}
+use Rattle.std.specs.Prelude.{Result, Ok, Err}
+use Rattle.sink.specs.declared.Impossible.{Impossible}
+use Rattle.write_lists.specs.declared.Reached.{Reached}
 
 abbrev output : Stood → List ℕ
 output (stood u a k) = u
 
-abbrev answer : Stood → Wrote
-answer (stood u a k) = Done (record { 0 = a }) k
+abbrev answer : Stood → Result Reached Impossible
+answer (stood u a k) = Ok (record { place = record { 0 = a }; index = k })
 
-tells : (u : List ℕ) (a : Wrote) → Tells output answer Impossible (stood_as u a) u a
-tells u (Done a k) = (refl, refl)
-tells u Impossible = refl
+abbrev none : Result Reached Impossible
+none = Err (record {})
 
-pub stood_one : (u : List ℕ) (a : Wrote) (v : List ℕ) (b : Wrote) {x : Possible Stood} → stood_as u a ≡ x → stood_as v b ≡ x → Same x u a v b
-stood_one = answer_one stood_as output answer Impossible tells
+tells : (u : List ℕ) (a : Result Reached Impossible) → Tells output answer none (stood_as u a) u a
+tells u (Ok r) = (refl, refl)
+tells u (Err e) = refl
+
+pub stood_one : (u : List ℕ) (a : Result Reached Impossible) (v : List ℕ) (b : Result Reached Impossible) {x : Possible Stood} → stood_as u a ≡ x → stood_as v b ≡ x → Same x u a v b
+stood_one = answer_one stood_as output answer none tells

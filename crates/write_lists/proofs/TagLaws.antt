@@ -21,17 +21,17 @@ use Rattle.classes.specs.declared.Class.TheVariants.{Opaque, End, Container, Fix
 use Rattle.bodies.specs.Leaf.{is_block, leaf_body}
 use Rattle.classes.specs.Classes.{bare}
 use Rattle.table.proofs.EngineLaws.{sets_append}
-use Rattle.sink.specs.declared.Body.{Body}
-use Rattle.sink.specs.declared.Body.TheVariants.{To, No}
+use Rattle.std.specs.Prelude.{Result, Ok, Err, IsErr}
+use Rattle.bits.specs.declared.BytePlace.{BytePlace}
+use Rattle.sink.specs.declared.Impossible.{Impossible}
 use Rattle.sink.specs.Lain.{longest, lain, lies, lain_as}
 use Rattle.write_heads.specs.Heads.{kept_bytes, under_head, Closed}
 use Rattle.write_opaque.specs.Headers.{under_header}
 use Rattle.write_heads.proofs.HeadLaws.{head_fits, head_long}
 use Rattle.write_heads.proofs.StoreLaws.{sets_taken, sets_cover}
-use Rattle.write_lists.specs.declared.Wrote.{Wrote}
-use Rattle.write_lists.specs.declared.Wrote.TheVariants.{Done, Impossible}
-use Rattle.write_lists.specs.Stood.{stood, over, stood_as}
-use Rattle.write_lists.specs.Tags.{values_in, list_in, list_by, body_in, begun, list_of, shut, head_at, ValuesThere, ValuesEnd}
+use Rattle.write_lists.specs.declared.Reached.{Reached}
+use Rattle.write_lists.specs.Stood.{Stood, stood, over, stood_as}
+use Rattle.write_lists.specs.Tags.{values_in, list_in, list_by, body_in, begun, list_of, shut, head_at, ValuesThere}
 use Rattle.write_lists.proofs.StoodLaws.{StoodBy, stood_by, Parts, parts_of}
 
 -- no tag starts after the longest file's end
@@ -205,20 +205,14 @@ module _ (o : Order) (claim : Bool) (class : Class) (t : List ℕ) (k : ℕ) whe
 
 -- ---- where a tag's values end, as the code finds it
 module _ (claim : Bool) (class : Class) (t : List ℕ) (k : ℕ) where
-  none_there : ((o : Order) → begun o claim class (drop k t) ≡ cannot) → ValuesEnd claim class t k 0
-  none_there e = (λ n. absurd (n refl), λ z o. e o)
+  pub end_few : length t - k < 3 → (o : Order) → begun o claim class (drop k t) ≡ cannot
+  end_few h o = begun_few o claim class t k h
 
-  pub end_few : length t - k < 3 → ValuesEnd claim class t k 0
-  end_few h = none_there (λ o. begun_few o claim class t k h)
+  pub end_cut : 3 ≤ length t - k → length t - k - 3 < get_or t (k + 2) 0 → (o : Order) → begun o claim class (drop k t) ≡ cannot
+  end_cut some l o = begun_cut o claim class t k some l
 
-  pub end_cut : 3 ≤ length t - k → length t - k - 3 < get_or t (k + 2) 0 → ValuesEnd claim class t k 0
-  end_cut some l = none_there (λ o. begun_cut o claim class t k some l)
-
-  pub end_state : 3 ≤ length t - k → get_or t (k + 2) 0 ≤ length t - k - 3 → (get_or t (k + 1) 0 ≡ is_read (bare class) + pick claim 2 0 → ⊥) → ValuesEnd claim class t k 0
-  end_state some fits h = none_there (λ o. begun_state o claim class t k some fits h)
-
-  pub end_there : {e : ℕ} → 3 ≤ length t - k → get_or t (k + 2) 0 ≤ length t - k - 3 → get_or t (k + 1) 0 ≡ is_read (bare class) + pick claim 2 0 → e ≡ k + 3 + get_or t (k + 2) 0 → ValuesEnd claim class t k e
-  end_there some fits right q = (λ n. record { some = some; all = fits; state = right; end = q }, λ z. absurd (omega arith))
+  pub end_state : 3 ≤ length t - k → get_or t (k + 2) 0 ≤ length t - k - 3 → (get_or t (k + 1) 0 ≡ is_read (bare class) + pick claim 2 0 → ⊥) → (o : Order) → begun o claim class (drop k t) ≡ cannot
+  end_state some fits h o = begun_state o claim class t k some fits h
 
 -- ---- whether a list follows, by the last number of the tag
 
@@ -280,31 +274,36 @@ list_by_lem o claim class t k code out b u p j h is e =
     )
 
 -- they are not all there
-pub begun_none : (o : Order) (claim : Bool) (class : Class) (t : List ℕ) (k : ℕ) {e : ℕ} (out : List ℕ) (b : ℕ) → ValuesEnd claim class t k e → e ≡ 0 → cannot ≡ over out b k (begun o claim class (drop k t))
+pub begun_none : (o : Order) (claim : Bool) (class : Class) (t : List ℕ) (k : ℕ) (out : List ℕ) (b : ℕ) → ((o : Order) → begun o claim class (drop k t) ≡ cannot) → cannot ≡ over out b k (begun o claim class (drop k t))
 unfolding over
-begun_none o claim class t k out b v z = sym (ap (over out b k) (v.1 z o))
+begun_none o claim class t k out b v = sym (ap (over out b k) (v o))
 
-pub whole_none : (o : Order) (claim : Bool) (class : Class) (code : ℕ) (t : List ℕ) (k : ℕ) {e : ℕ} (out : List ℕ) (b : ℕ) → ValuesEnd claim class t k e → e ≡ 0 → cannot ≡ over out b k (shut claim code (begun o claim class (drop k t)))
+pub whole_none : (o : Order) (claim : Bool) (class : Class) (code : ℕ) (t : List ℕ) (k : ℕ) (out : List ℕ) (b : ℕ) → ((o : Order) → begun o claim class (drop k t) ≡ cannot) → cannot ≡ over out b k (shut claim code (begun o claim class (drop k t)))
 unfolding over
-whole_none o claim class code t k out b v z = sym (ap (λ (m : Possible Made). over out b k (shut claim code m)) (v.1 z o))
+whole_none o claim class code t k out b v = sym (ap (λ (m : Possible Made). over out b k (shut claim code m)) (v o))
+
+-- where the code answers that no file has the tags
+pub err_stood : (u : List ℕ) (R : Result Reached Impossible) {x : Possible Stood} → IsErr R → cannot ≡ x → stood_as u R ≡ x
+err_stood u (Ok r) h e = cc
+err_stood u (Err z) h e = e
 
 -- ---- the answer of a function that writes a body, as that of one that writes tags up to index e
-abbrev pub standing : ℕ → Body → Wrote
-standing e (To p) = Done p e
-standing e No = Impossible
+abbrev pub standing : ℕ → Result BytePlace Impossible → Result Reached Impossible
+standing e (Ok p) = Ok (record { place = p; index = e })
+standing e (Err z) = Err z
 
-placed : (out u : List ℕ) (b k e : ℕ) (xs ys : List ℕ) (R : Body) (z : Possible (List ℕ)) → lain_as u R ≡ lies out b z → k + length xs ≡ e → stood_as u (standing e R) ≡ over out b k (body_of xs z ys)
+placed : (out u : List ℕ) (b k e : ℕ) (xs ys : List ℕ) (R : Result BytePlace Impossible) (z : Possible (List ℕ)) → lain_as u R ≡ lies out b z → k + length xs ≡ e → stood_as u (standing e R) ≡ over out b k (body_of xs z ys)
 unfolding over lies
-placed out u b k e xs ys No cannot q i = refl
-placed out u b k e xs ys (To p) cannot q i = clash cc
+placed out u b k e xs ys (Err z) cannot q i = refl
+placed out u b k e xs ys (Ok p) cannot q i = clash cc
 placed out u b k e xs ys R (this bs) q i = go R (leb (b + length bs) longest) q
   where
-    go : (R : Body) (c : Bool) → lain_as u R ≡ pick c (this (lain (sets out b bs) (b + length bs))) cannot
+    go : (R : Result BytePlace Impossible) (c : Bool) → lain_as u R ≡ pick c (this (lain (sets out b bs) (b + length bs))) cannot
         → stood_as u (standing e R) ≡ pick c (this (stood (sets out b bs) (b + length bs) (k + length xs))) cannot
-    go (To p) true w = let x : u ≡ sets out b bs = cc in let y : p.0 ≡ b + length bs = cc in rw (← x, ← y, i)
-    go (To p) false w = clash cc
-    go No true w = clash cc
-    go No false w = refl
+    go (Ok p) true w = let x : u ≡ sets out b bs = cc in let y : p.0 ≡ b + length bs = cc in rw (← x, ← y, i)
+    go (Ok p) false w = clash cc
+    go (Err z) true w = clash cc
+    go (Err z) false w = refl
 
 shut_body : (claim : Bool) (code : ℕ) (xs ys : List ℕ) (z : Possible (List ℕ)) → shut claim code (body_of xs z ys) ≡ body_of xs (under_header claim code z) ys
 shut_body claim code xs ys cannot = refl
@@ -314,10 +313,7 @@ shut_body claim code xs ys (this b) = go (fits_head claim code (length b))
     go true = refl
     go false = refl
 
-module _ (o : Order) (claim : Bool) (class : Class) (t : List ℕ) (k : ℕ) {e : ℕ} (ended : ValuesEnd claim class t k e) (found : (e ≡ 0 → ⊥)) (code : ℕ) (coded : code ≡ get_or t k 0) where
-  there : ValuesThere claim class t k e
-  there = ended.0 found
-
+module _ (o : Order) (claim : Bool) (class : Class) (t : List ℕ) (k : ℕ) {e : ℕ} (there : ValuesThere claim class t k e) (code : ℕ) (coded : code ≡ get_or t k 0) where
   abbrev vs : List ℕ
   vs = take (e - (k + 3)) (drop (k + 3) t)
 
@@ -334,14 +330,14 @@ module _ (o : Order) (claim : Bool) (class : Class) (t : List ℕ) (k : ℕ) {e 
   used = omega (arith, there.end, there.some, there.all, length-take-le (e - (k + 3)) (drop (k + 3) t) (rw length-drop (omega (arith, there.end, there.some, there.all))))
 
   -- its values were put, by the answer of `write_tag_values`
-  pub begun_put : (out u : List ℕ) (R : Body) {b p : ℕ} → p ≡ b → lain_as u R ≡ lies out p (values_in o class code vs) → stood_as u (standing e R) ≡ over out b k (begun o claim class (drop k t))
+  pub begun_put : (out u : List ℕ) (R : Result BytePlace Impossible) {b p : ℕ} → p ≡ b → lain_as u R ≡ lies out p (values_in o class code vs) → stood_as u (standing e R) ≡ over out b k (begun o claim class (drop k t))
   begun_put out u R {b} {p} q laid =
       placed out u b k e (code ∷ get_or t (k + 1) 0 ∷ get_or t (k + 2) 0 ∷ vs) (drop (e - (k + 3)) (drop (k + 3) t)) R (values_in o class code vs)
       (laid ∙ ap (λ (x : ℕ). lies out x (values_in o class code vs)) q) used
       ∙ ap (over out b k) (sym begun_body)
 
   -- an opaque tag was put whole, by the answer of `write_tag`
-  pub whole_put : (out u : List ℕ) (b : ℕ) (R : Body) → lain_as u R ≡ lies out b (under_header claim code (values_in o class code vs)) → stood_as u (standing e R) ≡ over out b k (shut claim code (begun o claim class (drop k t)))
+  pub whole_put : (out u : List ℕ) (b : ℕ) (R : Result BytePlace Impossible) → lain_as u R ≡ lies out b (under_header claim code (values_in o class code vs)) → stood_as u (standing e R) ≡ over out b k (shut claim code (begun o claim class (drop k t)))
   whole_put out u b R laid =
       placed out u b k e (code ∷ get_or t (k + 1) 0 ∷ get_or t (k + 2) 0 ∷ vs) (drop (e - (k + 3)) (drop (k + 3) t)) R (under_header claim code (values_in o class code vs)) laid used
       ∙ ap (over out b k) (sym (ap (shut claim code) begun_body ∙ shut_body claim code (code ∷ get_or t (k + 1) 0 ∷ get_or t (k + 2) 0 ∷ vs) (drop (e - (k + 3)) (drop (k + 3) t)) (values_in o class code vs)))

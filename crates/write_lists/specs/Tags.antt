@@ -1,5 +1,5 @@
 -- One tag, as this crate's functions write it: first what stands in it, then for a container its list, last the header before it.
-use Rattle.std.specs.Prelude.{ℕ, ◌+◌, ◌-◌, ◌≤◌, Bool, true, false, List, [], ◌∷◌, ◌++◌, ◌≡◌, leb, eqb, length, get_or, take, drop}
+use Rattle.std.specs.Prelude.{ℕ, ◌+◌, ◌-◌, ◌≤◌, Bool, true, false, List, [], ◌∷◌, ◌++◌, ◌≡◌, leb, eqb, length, get_or, take, drop, Result, Ok, Err}
 use Rattle.format.specs.Tests.{pick, ◌and◌}
 use Rattle.format.specs.Bits.{Order}
 use Rattle.format.specs.Bodies.{fixed}
@@ -12,6 +12,7 @@ use Rattle.classes.specs.declared.Class.TheVariants.{Opaque, End, Container, Fix
 use Rattle.classes.specs.Classes.{bare, contains}
 use Rattle.fixed.specs.Fixed.{fixed_of}
 use Rattle.bodies.specs.Leaf.{is_block, leaf_body}
+use Rattle.sink.specs.declared.Impossible.{Impossible}
 use Rattle.sink.specs.Lain.{longest}
 use Rattle.write_heads.specs.Heads.{under_head}
 use Rattle.write_lists.specs.Stood.{Stood, stood}
@@ -90,6 +91,7 @@ pub record ValuesThere (claim : Bool) (class : Class) (t : List ℕ) (k e : ℕ)
   pub state : get_or t (k + 1) 0 ≡ is_read (bare class) + pick claim 2 0
   pub end : e ≡ k + 3 + get_or t (k + 2) 0
 
--- e is 0 where it is not so: then nothing has begun
-abbrev pub ValuesEnd : Bool → Class → List ℕ → ℕ → ℕ → Type 0
-ValuesEnd claim class t k e = ((e ≡ 0 → ⊥) → ValuesThere claim class t k e) × (e ≡ 0 → (o : Order) → begun o claim class (drop k t) ≡ cannot)
+-- by the code's answer; where it is not so, nothing has begun
+abbrev pub ValuesEnd : Bool → Class → List ℕ → ℕ → Result ℕ Impossible → Type 0
+ValuesEnd claim class t k (Ok e) = ValuesThere claim class t k e
+ValuesEnd claim class t k (Err z) = (o : Order) → begun o claim class (drop k t) ≡ cannot

@@ -11,7 +11,7 @@ ghost use Rattle.write_opaque.specs.Filling.{filled};
 ghost use Rattle.write_opaque.specs.Headers.{under_header};
 
 use bits::BytePlace;
-use sink::Body;
+use sink::Impossible;
 
 // The eight bytes of a number, by one store.
 fn put_eight(out: &mut [u8], at: usize, number: u64)
@@ -33,11 +33,9 @@ fn put_few(out: &mut [u8], at: usize, number: u64, count: usize)
     requires { (at + count ≤ length out.old) × (count < 8) }
     ensures { out.new ≡ sets out.old at (take count (eight_of number)) }
 {
-    let mut i = 0;
-    while i < count {
+    for i in 0..count {
         let index = at + i;
         out[index] = ((number >> (8 * i) as u64) % 256) as u8;
-        i += 1;
     }
 }
 
@@ -46,10 +44,8 @@ fn lay_eights(values: &[u64], out: &mut [u8], from: usize, count: usize)
     requires { (1 + count ≤ length values.now) × (8 * count ≤ length out.old - from) }
     ensures { out.new ≡ sets out.old from (spread (take count (drop 1 values.now))) }
 {
-    let mut i = 0;
-    while i < count {
+    for i in 0..count {
         put_eight(out, from + 8 * i, values[1 + i]);
-        i += 1;
     }
 }
 
@@ -67,24 +63,24 @@ fn is_filled(values: &[u64], len: usize) -> bool
 
 // The body, where its count of numbers and the filling of the last one fit its length. What there is no room for is not laid: the run that measures
 // looks at the length and the last number alone.
-fn unpack_bytes(values: &[u64], out: &mut [u8], at: BytePlace) -> Body
+fn unpack_bytes(values: &[u64], out: &mut [u8], at: BytePlace) -> Result<BytePlace, Impossible>
     requires { at.0 ≤ longest }
     ensures { lain_as out.new result ≡ lies out.old at.0 (unpacked_as values.now) }
 {
     let from = at.0;
     if values.len() == 0 {
-        return Body::No;
+        return Err(Impossible);
     }
     let length = values[0];
     if ((16777216 - from) as u64) < length {
-        return Body::No;
+        return Err(Impossible);
     }
     let len = length as usize;
     if values.len() != 1 + (len + 7) / 8 {
-        return Body::No;
+        return Err(Impossible);
     }
     if !is_filled(values, len) {
-        return Body::No;
+        return Err(Impossible);
     }
     let stop = from + len;
     let room = table::room_for(out.len(), from, len);
@@ -92,32 +88,38 @@ fn unpack_bytes(values: &[u64], out: &mut [u8], at: BytePlace) -> Body
     lay_eights(values, out, from, whole);
     let left = room % 8;
     if left == 0 {
-        return Body::To(BytePlace(stop));
+        return Ok(BytePlace(stop));
     }
     put_few(out, from + 8 * whole, values[1 + whole], left);
-    Body::To(BytePlace(stop))
+    Ok(BytePlace(stop))
 }
 
 // The whole tag: its header, of the length that its first number says, and the body behind it. A claimed header is for bodies below 63 bytes.
-pub fn write_tag(code: u32, claimed: bool, values: &[u64], out: &mut [u8], place: BytePlace) -> Body
+pub fn write_tag(
+    code: u32,
+    claimed: bool,
+    values: &[u64],
+    out: &mut [u8],
+    place: BytePlace,
+) -> Result<BytePlace, Impossible>
     requires { (place.0 ≤ longest) × (code < 1024) }
     ensures { lain_as out.new result ≡ lies out.old place.0 (under_header claimed code (unpacked_as values.now)) }
 {
     if values.len() == 0 {
-        return Body::No;
+        return Err(Impossible);
     }
     let length = values[0];
     if 16777216 < length {
-        return Body::No;
+        return Err(Impossible);
     }
     if claimed {
         if 62 < length {
-            return Body::No;
+            return Err(Impossible);
         }
     }
     let at = write_heads::put_head(out, place, claimed, code, length as usize);
     if 16777216 < at.0 {
-        return Body::No;
+        return Err(Impossible);
     }
     unpack_bytes(values, out, at)
 }

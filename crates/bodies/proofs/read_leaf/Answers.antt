@@ -1,10 +1,12 @@
-use Rattle.bits.specs.Places.{order_of}
+-- `bodies::read_leaf` meets its contract: the items, and then the end.
+use mathlib.Core.Bool.{false}
+use Rattle.reasons.proofs.NumberLaws.{passed_on}
 use Rattle.bodies.specs.Leaf.{body_by}
-use Rattle.bodies.proofs.BodyLaws.{part_inside, leaf_shows}
+use Rattle.bodies.proofs.BodyLaws.{leaf_lays, either_stop}
 use Rattle.bodies.proofs.read_leaf.Goals as goal
 
-pub finish-requires : goal.finish-requires
-finish-requires c = let a = c.args in part_inside (order_of a.order) a.body.now a.table.now a.from (body_by a.block a.code) c.read_part-items.result c.read_part-items.ensures c.requires.0
+pub returns-in_err-read_part : goal.returns-in_err-read_part
+returns-in_err-read_part c = either_stop (body_by c.args.block c.args.code) c.read_part.ensures false c.in_err-read_part.was (passed_on c.from_residual.result c.from_residual.ensures.1)
 
 pub returns : goal.returns
-returns c = let a = c.args in leaf_shows (order_of a.order) a.body.now a.table.now a.from a.code c.read_part-items.result a.block c.read_part-items.ensures c.finish.ensures
+returns c = leaf_lays (body_by c.args.block c.args.code) c.read_part.ensures c.in_ok-read_part.was c.end_body.ensures

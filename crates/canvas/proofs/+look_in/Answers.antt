@@ -1,139 +1,66 @@
-use mathlib.Core.Path.{refl}
+-- `canvas::look_in` meets its contract: what judging a tag tells, the list inside a container, and its end.
+use mathlib.Core.Path.{refl, sym, ap, ◌∙◌}
 use native.Mathlib.Omega.{arith}
-use Rattle.bits.specs.Places.{order_of}
-use Rattle.lists.specs.Lists.{owner_of}
-use Rattle.canvas.proofs.LookLaws.{tells, going_start, used_up_lem, tell_none, tell_faulty, tell_canvas, tell_stops, tell_ends, tell_last, tell_next, open_places, open_bounds, open_next, open_fault, open_found}
+use Rattle.std.proofs.Common.{Ok}
+use Rattle.reasons.proofs.NumberLaws.{passed_on}
+use Rattle.canvas.proofs.LookLaws.{used_up_lem, tell_refused, tell_canvas, tell_stops, tell_ends, tell_whole, tell_over, tell_next, open_places, open_inside, open_few, open_refused, open_found, open_whole}
 use Rattle.canvas.proofs.+look_in.Goals as goal
 
-pub loop-place-init : goal.loop-place-init
-loop-place-init t c = let a = c.args in going_start (order_of a.order) a.classes.now a.depths (owner_of a.owner) a.at.0 a.room.now a.before
+pub returns-in-Err : goal.returns-in-Err
+returns-in-Err t c = tell_refused _ _ _ _ _ _ _ c.requires.tabled c.loop-place-test.true c.loop-place.invariant c.judge_tag.ensures c.in-Err.is
 
-pub overflow_add-tag : goal.overflow_add-tag
-overflow_add-tag t c = omega (arith, c.loop-place.invariant.inside, c.requires.1.place)
+pub overflow_add-result-in-Ok-Canvas : goal.overflow_add-result-in-Ok-Canvas
+overflow_add-result-in-Ok-Canvas t c = omega (arith, c.args.list.now.inside, (tell_stops _ _ _ _ _ _ _ c.requires.tabled c.loop-place-test.true c.loop-place.invariant c.judge_tag.ensures (c.in-Ok-Canvas.is ∙ ap Ok c.in-Ok-Canvas.field-0-is)).1)
 
-pub overflow_add-passed : goal.overflow_add-passed
-overflow_add-passed t c = omega (arith, c.loop-place.invariant.headers, c.loop-place.invariant.few, c.loop-place.invariant.inside, c.requires.1.headers, c.requires.1.place, c.requires.1.depth)
+pub returns-in-Ok-Canvas : goal.returns-in-Ok-Canvas
+returns-in-Ok-Canvas t c = tell_canvas _ _ _ _ _ _ _ c.requires.tabled c.loop-place-test.true c.loop-place.invariant c.judge_tag.ensures (c.in-Ok-Canvas.is ∙ ap Ok c.in-Ok-Canvas.field-0-is)
 
-pub judge_tag-requires : goal.judge_tag-requires
-judge_tag-requires t c = (c.requires.0.classed.size, c.loop-place.invariant.inside, omega (arith, c.requires.1.place))
+pub ends_at-requires : goal.ends_at-requires
+ends_at-requires t c = tell_ends _ _ _ _ _ _ _ c.requires.tabled c.loop-place-test.true c.loop-place.invariant c.judge_tag.ensures (c.in-Ok-Last.is ∙ ap Ok c.in-Ok-Last.field-0-is)
 
-pub returns-in-NoTag : goal.returns-in-NoTag
-returns-in-NoTag t c = let a = c.args in tell_none (order_of a.order) a.classes.now a.depths (owner_of a.owner) a.at.0 a.room.now a.before c.loop-place.invariant c.judge_tag.result (let a = c.args in
-    tells (order_of a.order) a.classes.now a.depths (owner_of a.owner) a.at.0 a.room.now c.requires.0 c.loop-place-test.true c.judge_tag.result c.judge_tag.ensures) c.in-NoTag.is refl
+pub returns-in_err-ends_at-in-Ok-Last : goal.returns-in_err-ends_at-in-Ok-Last
+returns-in_err-ends_at-in-Ok-Last t c = tell_over _ _ _ _ _ _ _ c.requires.tabled c.loop-place-test.true c.loop-place.invariant c.judge_tag.ensures c.args.list.now.owner refl (c.in-Ok-Last.is ∙ ap Ok c.in-Ok-Last.field-0-is) c.ends_at.result c.ends_at.ensures c.in_err-ends_at-in-Ok-Last.was (passed_on c.from_residual.result c.from_residual.ensures.1)
 
-pub returns-in-Faulty : goal.returns-in-Faulty
-returns-in-Faulty t c = let a = c.args in tell_faulty (order_of a.order) a.classes.now a.depths (owner_of a.owner) a.at.0 a.room.now a.before c.loop-place.invariant c.judge_tag.result (let a = c.args in
-    tells (order_of a.order) a.classes.now a.depths (owner_of a.owner) a.at.0 a.room.now c.requires.0 c.loop-place-test.true c.judge_tag.result c.judge_tag.ensures) c.in-Faulty.is refl
+pub returns-in-Ok-Last : goal.returns-in-Ok-Last
+returns-in-Ok-Last t c = tell_whole _ _ _ _ _ _ _ c.requires.tabled c.loop-place-test.true c.loop-place.invariant c.judge_tag.ensures c.args.list.now.owner refl (c.in-Ok-Last.is ∙ ap Ok c.in-Ok-Last.field-0-is) c.ends_at.result c.ends_at.ensures c.in_ok-ends_at-in-Ok-Last.was
 
-pub overflow_add-start : goal.overflow_add-start
-overflow_add-start t c = let a = c.args in omega (
-  arith,
-  (tell_stops (order_of a.order) a.classes.now a.depths (owner_of a.owner) a.at.0 a.room.now a.before c.loop-place.invariant c.judge_tag.result (let a = c.args in
-      tells (order_of a.order) a.classes.now a.depths (owner_of a.owner) a.at.0 a.room.now c.requires.0 c.loop-place-test.true c.judge_tag.result c.judge_tag.ensures) c.in-Canvas.is).0,
-  c.requires.1.place,
-)
+pub loop-place-preserved-in-Ok-Next : goal.loop-place-preserved-in-Ok-Next
+loop-place-preserved-in-Ok-Next t c = (tell_next _ _ _ _ _ _ _ c.requires.tabled c.loop-place-test.true c.loop-place.invariant c.judge_tag.ensures (c.in-Ok-Next.is ∙ ap Ok c.in-Ok-Next.field-0-is)).1
 
-pub overflow_add-stop : goal.overflow_add-stop
-overflow_add-stop t c = let a = c.args in omega (
-  arith,
-  (tell_stops (order_of a.order) a.classes.now a.depths (owner_of a.owner) a.at.0 a.room.now a.before c.loop-place.invariant c.judge_tag.result (let a = c.args in
-      tells (order_of a.order) a.classes.now a.depths (owner_of a.owner) a.at.0 a.room.now c.requires.0 c.loop-place-test.true c.judge_tag.result c.judge_tag.ensures) c.in-Canvas.is).1,
-  c.requires.1.place,
-)
+pub overflow_add-inner : goal.overflow_add-inner
+overflow_add-inner t c = let u = open_places _ _ _ _ _ _ _ c.requires.tabled c.loop-place-test.true c.loop-place.invariant c.judge_tag.ensures (c.in-Ok-Open.is ∙ ap Ok c.in-Ok-Open.field-0-is) in omega (arith, c.args.list.now.inside, u.2, u.3)
 
-pub returns-in-Canvas : goal.returns-in-Canvas
-returns-in-Canvas t c = let a = c.args in tell_canvas (order_of a.order) a.classes.now a.depths (owner_of a.owner) a.at.0 a.room.now a.before c.loop-place.invariant c.judge_tag.result (let a = c.args in
-    tells (order_of a.order) a.classes.now a.depths (owner_of a.owner) a.at.0 a.room.now c.requires.0 c.loop-place-test.true c.judge_tag.result c.judge_tag.ensures) c.in-Canvas.is _ refl refl refl
+pub slice_bounds-inner-count : goal.slice_bounds-inner-count
+slice_bounds-inner-count t c = (open_places _ _ _ _ _ _ _ c.requires.tabled c.loop-place-test.true c.loop-place.invariant c.judge_tag.ensures (c.in-Ok-Open.is ∙ ap Ok c.in-Ok-Open.field-0-is)).2
 
-pub after_end-requires : goal.after_end-requires
-after_end-requires t c = let a = c.args in omega (
-  arith,
-  tell_ends (order_of a.order) a.classes.now a.depths (owner_of a.owner) a.at.0 a.room.now a.before c.loop-place.invariant c.judge_tag.result (let a = c.args in
-      tells (order_of a.order) a.classes.now a.depths (owner_of a.owner) a.at.0 a.room.now c.requires.0 c.loop-place-test.true c.judge_tag.result c.judge_tag.ensures) c.in-Last.is,
-  c.requires.1.place,
-)
+pub slice_bounds-inner-start : goal.slice_bounds-inner-start
+slice_bounds-inner-start t c = (open_places _ _ _ _ _ _ _ c.requires.tabled c.loop-place-test.true c.loop-place.invariant c.judge_tag.ensures (c.in-Ok-Open.is ∙ ap Ok c.in-Ok-Open.field-0-is)).2
 
-pub returns-in-Last : goal.returns-in-Last
-returns-in-Last t c = let a = c.args in tell_last (order_of a.order) a.classes.now a.depths (owner_of a.owner) a.at.0 a.room.now a.before c.loop-place.invariant c.judge_tag.result (let a = c.args in
-    tells (order_of a.order) a.classes.now a.depths (owner_of a.owner) a.at.0 a.room.now c.requires.0 c.loop-place-test.true c.judge_tag.result c.judge_tag.ensures) a.owner refl c.in-Last.is c.after_end.result c.after_end.ensures
+pub slice_bounds-inner-end : goal.slice_bounds-inner-end
+slice_bounds-inner-end t c = (open_places _ _ _ _ _ _ _ c.requires.tabled c.loop-place-test.true c.loop-place.invariant c.judge_tag.ensures (c.in-Ok-Open.is ∙ ap Ok c.in-Ok-Open.field-0-is)).3
 
-pub loop-place-smaller-in-Next : goal.loop-place-smaller-in-Next
-loop-place-smaller-in-Next t c = let a = c.args in omega (
-  arith,
-  (tell_next (order_of a.order) a.classes.now a.depths (owner_of a.owner) a.at.0 a.room.now a.before c.loop-place.invariant c.judge_tag.result (let a = c.args in
-      tells (order_of a.order) a.classes.now a.depths (owner_of a.owner) a.at.0 a.room.now c.requires.0 c.loop-place-test.true c.judge_tag.result c.judge_tag.ensures) c.in-Next.is).0,
-  (tell_next (order_of a.order) a.classes.now a.depths (owner_of a.owner) a.at.0 a.room.now a.before c.loop-place.invariant c.judge_tag.result (let a = c.args in
-      tells (order_of a.order) a.classes.now a.depths (owner_of a.owner) a.at.0 a.room.now c.requires.0 c.loop-place-test.true c.judge_tag.result c.judge_tag.ensures) c.in-Next.is).1.inside,
-)
-
-pub loop-place-preserved-in-Next : goal.loop-place-preserved-in-Next
-loop-place-preserved-in-Next t c = let a = c.args in (tell_next (order_of a.order) a.classes.now a.depths (owner_of a.owner) a.at.0 a.room.now a.before c.loop-place.invariant c.judge_tag.result (let a = c.args in
-    tells (order_of a.order) a.classes.now a.depths (owner_of a.owner) a.at.0 a.room.now c.requires.0 c.loop-place-test.true c.judge_tag.result c.judge_tag.ensures) c.in-Next.is).1
-
-pub overflow_add-home : goal.overflow_add-home
-overflow_add-home t c = let a = c.args in omega (
-  arith,
-  (open_places (order_of a.order) a.classes.now a.depths (owner_of a.owner) a.at.0 a.room.now a.before c.loop-place.invariant c.judge_tag.result (let a = c.args in
-      tells (order_of a.order) a.classes.now a.depths (owner_of a.owner) a.at.0 a.room.now c.requires.0 c.loop-place-test.true c.judge_tag.result c.judge_tag.ensures) c.in-Open.is).2,
-  (open_places (order_of a.order) a.classes.now a.depths (owner_of a.owner) a.at.0 a.room.now a.before c.loop-place.invariant c.judge_tag.result (let a = c.args in
-      tells (order_of a.order) a.classes.now a.depths (owner_of a.owner) a.at.0 a.room.now c.requires.0 c.loop-place-test.true c.judge_tag.result c.judge_tag.ensures) c.in-Open.is).3,
-  c.requires.1.place,
-)
-
-pub slice_bounds-part-count : goal.slice_bounds-part-count
-slice_bounds-part-count t c = let a = c.args in (open_places (order_of a.order) a.classes.now a.depths (owner_of a.owner) a.at.0 a.room.now a.before c.loop-place.invariant c.judge_tag.result (let a = c.args in
-    tells (order_of a.order) a.classes.now a.depths (owner_of a.owner) a.at.0 a.room.now c.requires.0 c.loop-place-test.true c.judge_tag.result c.judge_tag.ensures) c.in-Open.is).2
-
-pub slice_bounds-part-start : goal.slice_bounds-part-start
-slice_bounds-part-start t c = let a = c.args in (open_places (order_of a.order) a.classes.now a.depths (owner_of a.owner) a.at.0 a.room.now a.before c.loop-place.invariant c.judge_tag.result (let a = c.args in
-    tells (order_of a.order) a.classes.now a.depths (owner_of a.owner) a.at.0 a.room.now c.requires.0 c.loop-place-test.true c.judge_tag.result c.judge_tag.ensures) c.in-Open.is).2
-
-pub slice_bounds-part-end : goal.slice_bounds-part-end
-slice_bounds-part-end t c = let a = c.args in (open_places (order_of a.order) a.classes.now a.depths (owner_of a.owner) a.at.0 a.room.now a.before c.loop-place.invariant c.judge_tag.result (let a = c.args in
-    tells (order_of a.order) a.classes.now a.depths (owner_of a.owner) a.at.0 a.room.now c.requires.0 c.loop-place-test.true c.judge_tag.result c.judge_tag.ensures) c.in-Open.is).3
-
-pub overflow_sub-depths : goal.overflow_sub-depths
-overflow_sub-depths t c = let a = c.args in (open_places (order_of a.order) a.classes.now a.depths (owner_of a.owner) a.at.0 a.room.now a.before c.loop-place.invariant c.judge_tag.result (let a = c.args in
-    tells (order_of a.order) a.classes.now a.depths (owner_of a.owner) a.at.0 a.room.now c.requires.0 c.loop-place-test.true c.judge_tag.result c.judge_tag.ensures) c.in-Open.is).0
+pub invariant_of-inner-clause-inside : goal.invariant_of-inner-clause-inside
+invariant_of-inner-clause-inside t c = open_inside _ _ _ _ _ _ _ c.requires.tabled c.loop-place-test.true c.loop-place.invariant c.judge_tag.ensures (c.in-Ok-Open.is ∙ ap Ok c.in-Ok-Open.field-0-is) c.args.list.now.inside
 
 pub look_in-requires : goal.look_in-requires
-look_in-requires t c = let a = c.args in (
-  omega (
-    arith,
-    c.decreases,
-    (open_places (order_of a.order) a.classes.now a.depths (owner_of a.owner) a.at.0 a.room.now a.before c.loop-place.invariant c.judge_tag.result (let a = c.args in
-        tells (order_of a.order) a.classes.now a.depths (owner_of a.owner) a.at.0 a.room.now c.requires.0 c.loop-place-test.true c.judge_tag.result c.judge_tag.ensures) c.in-Open.is).0,
-  ),
-  (
-    c.requires.0,
-    open_bounds (order_of a.order) a.classes.now a.depths (owner_of a.owner) a.at.0 a.room.now a.before c.loop-place.invariant c.judge_tag.result (let a = c.args in
-        tells (order_of a.order) a.classes.now a.depths (owner_of a.owner) a.at.0 a.room.now c.requires.0 c.loop-place-test.true c.judge_tag.result c.judge_tag.ensures) c.in-Open.is c.requires.1,
-  ),
+look_in-requires t c = (
+  omega (arith, c.decreases, (open_places _ _ _ _ _ _ _ c.requires.tabled c.loop-place-test.true c.loop-place.invariant c.judge_tag.ensures (c.in-Ok-Open.is ∙ ap Ok c.in-Ok-Open.field-0-is)).0),
+  (c.requires.tabled, open_few _ _ _ _ _ _ _ c.requires.tabled c.loop-place-test.true c.loop-place.invariant c.judge_tag.ensures (c.in-Ok-Open.is ∙ ap Ok c.in-Ok-Open.field-0-is) c.args.list.now.deep c.args.list.now.inside c.requires.few),
 )
 
-pub returns-in-Found : goal.returns-in-Found
-returns-in-Found t c = let a = c.args in open_found (order_of a.order) a.classes.now a.depths (owner_of a.owner) a.at.0 a.room.now a.before c.loop-place.invariant c.judge_tag.result (let a = c.args in
-    tells (order_of a.order) a.classes.now a.depths (owner_of a.owner) a.at.0 a.room.now c.requires.0 c.loop-place-test.true c.judge_tag.result c.judge_tag.ensures) c.in-Open.is c.look_in.result c.look_in.ensures c.in-Found.is
+pub returns-in_err-found-in-Ok-Open : goal.returns-in_err-found-in-Ok-Open
+returns-in_err-found-in-Ok-Open t c = open_refused _ _ _ _ _ _ _ c.requires.tabled c.loop-place-test.true c.loop-place.invariant c.judge_tag.ensures (c.in-Ok-Open.is ∙ ap Ok c.in-Ok-Open.field-0-is) c.look_in.ensures c.in_err-found-in-Ok-Open.was (passed_on c.from_residual-in_err-found-in-Ok-Open.result c.from_residual-in_err-found-in-Ok-Open.ensures.1)
 
-pub returns-in-Fault : goal.returns-in-Fault
-returns-in-Fault t c = let a = c.args in open_fault (order_of a.order) a.classes.now a.depths (owner_of a.owner) a.at.0 a.room.now a.before c.loop-place.invariant c.judge_tag.result (let a = c.args in
-    tells (order_of a.order) a.classes.now a.depths (owner_of a.owner) a.at.0 a.room.now c.requires.0 c.loop-place-test.true c.judge_tag.result c.judge_tag.ensures) c.in-Open.is c.look_in.result c.look_in.ensures c.in-Fault.is
+pub returns-then-is_some : goal.returns-then-is_some
+returns-then-is_some t c = open_found _ _ _ _ _ _ _ c.requires.tabled c.loop-place-test.true c.loop-place.invariant c.judge_tag.ensures (c.in-Ok-Open.is ∙ ap Ok c.in-Ok-Open.field-0-is) c.look_in.ensures c.in_ok-found-in-Ok-Open.found c.in_ok-found-in-Ok-Open.was (sym c.is_some.ensures ∙ c.if-is_some.true)
 
 pub loop-place-smaller : goal.loop-place-smaller
-loop-place-smaller t c = let a = c.args in omega (
-  arith,
-  (open_next (order_of a.order) a.classes.now a.depths (owner_of a.owner) a.at.0 a.room.now a.before c.loop-place.invariant c.judge_tag.result (let a = c.args in
-      tells (order_of a.order) a.classes.now a.depths (owner_of a.owner) a.at.0 a.room.now c.requires.0 c.loop-place-test.true c.judge_tag.result c.judge_tag.ensures) c.in-Open.is c.look_in.result c.look_in.ensures c.requires.0 c.in-Whole.is).0,
-  (open_next (order_of a.order) a.classes.now a.depths (owner_of a.owner) a.at.0 a.room.now a.before c.loop-place.invariant c.judge_tag.result (let a = c.args in
-      tells (order_of a.order) a.classes.now a.depths (owner_of a.owner) a.at.0 a.room.now c.requires.0 c.loop-place-test.true c.judge_tag.result c.judge_tag.ensures) c.in-Open.is c.look_in.result c.look_in.ensures c.requires.0 c.in-Whole.is).1.inside,
-)
+loop-place-smaller t c =
+    let u = open_whole _ _ _ _ _ _ _ c.requires.tabled c.loop-place-test.true c.loop-place.invariant c.judge_tag.ensures (c.in-Ok-Open.is ∙ ap Ok c.in-Ok-Open.field-0-is) c.look_in.ensures c.in_ok-found-in-Ok-Open.found c.in_ok-found-in-Ok-Open.was (sym c.is_some.ensures ∙ c.if-is_some.false) in
+    omega (arith, u.0, u.1.inside)
 
 pub loop-place-preserved : goal.loop-place-preserved
-loop-place-preserved t c = let a = c.args in (open_next (order_of a.order) a.classes.now a.depths (owner_of a.owner) a.at.0 a.room.now a.before c.loop-place.invariant c.judge_tag.result (let a = c.args in
-    tells (order_of a.order) a.classes.now a.depths (owner_of a.owner) a.at.0 a.room.now c.requires.0 c.loop-place-test.true c.judge_tag.result c.judge_tag.ensures) c.in-Open.is c.look_in.result c.look_in.ensures c.requires.0 c.in-Whole.is).1
-
-pub overflow_add-over : goal.overflow_add-over
-overflow_add-over t c = omega (arith, c.requires.1.place)
+loop-place-preserved t c = (open_whole _ _ _ _ _ _ _ c.requires.tabled c.loop-place-test.true c.loop-place.invariant c.judge_tag.ensures (c.in-Ok-Open.is ∙ ap Ok c.in-Ok-Open.field-0-is) c.look_in.ensures c.in_ok-found-in-Ok-Open.found c.in_ok-found-in-Ok-Open.was (sym c.is_some.ensures ∙ c.if-is_some.false)).1
 
 pub returns : goal.returns
-returns t c = let a = c.args in used_up_lem (order_of a.order) a.classes.now a.depths (owner_of a.owner) a.at.0 a.room.now a.before c.loop-place.invariant c.loop-place-test.false c.blame.ensures
+returns t c = used_up_lem _ _ _ _ _ _ _ c.loop-place.invariant c.loop-place-test.false c.refuses.ensures

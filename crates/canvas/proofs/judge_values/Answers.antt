@@ -1,21 +1,16 @@
-use mathlib.Core.Path.{refl}
+-- `canvas::judge_values` meets its contract, by the class that the `match` tells.
+use Rattle.std.proofs.Common.{rules}
 use Rattle.bits.specs.Places.{order_of}
-use Rattle.bodies.specs.declared.Shown.TheVariants.{Done}
-use Rattle.classes.specs.declared.Class.TheVariants.{Opaque, End, Container, Fixed, Attributes}
-use Rattle.canvas.proofs.JudgeLaws.{values_told, values_by_lem}
+use Rattle.reasons.proofs.NumberLaws.{passed_on}
+use Rattle.classes.specs.declared.Class.TheVariants.{Container}
+use Rattle.canvas.proofs.JudgeLaws.{valued, valued_told, leaf_ok, leaf_err}
 use Rattle.canvas.proofs.judge_values.Goals as goal
 
-pub returns-in-Opaque : goal.returns-in-Opaque
-returns-in-Opaque c = let a = c.args in values_told (order_of a.order) a.body.now a.code (Done (record { 0 = 0 }) 0) Opaque c.in-Opaque.is (refl, refl)
-
-pub returns-in-End : goal.returns-in-End
-returns-in-End c = let a = c.args in values_told (order_of a.order) a.body.now a.code (Done (record { 0 = 0 }) 0) End c.in-End.is (refl, refl)
-
 pub returns-in-Container : goal.returns-in-Container
-returns-in-Container c = let a = c.args in values_told (order_of a.order) a.body.now a.code c.read_container.result Container c.in-Container.is (values_by_lem _ 0 c.read_container.result c.read_container.ensures)
+returns-in-Container c = let a = c.args in valued_told (order_of a.order) a.body.now a.code _ Container c.in-Container.is (valued c.read_container.ensures)
 
-pub returns-in-Fixed : goal.returns-in-Fixed
-returns-in-Fixed c = let a = c.args in values_told (order_of a.order) a.body.now a.code c.read_leaf.result Fixed c.in-Fixed.is (values_by_lem _ 0 c.read_leaf.result c.read_leaf.ensures)
+pub returns-in_err-read_leaf-in-Fixed : goal.returns-in_err-read_leaf-in-Fixed
+returns-in_err-read_leaf-in-Fixed c = leaf_err c.args.code c.args.class c.in-Fixed.is (λ e. search rules) (λ e. search rules) c.read_leaf.ensures c.in_err-read_leaf-in-Fixed.was (passed_on c.from_residual.result c.from_residual.ensures.1)
 
-pub returns-in-Attributes : goal.returns-in-Attributes
-returns-in-Attributes c = let a = c.args in values_told (order_of a.order) a.body.now a.code c.read_leaf-in-Attributes.result Attributes c.in-Attributes.is (values_by_lem _ 0 c.read_leaf-in-Attributes.result c.read_leaf-in-Attributes.ensures)
+pub returns-in_ok-read_leaf-in-Fixed : goal.returns-in_ok-read_leaf-in-Fixed
+returns-in_ok-read_leaf-in-Fixed c = leaf_ok c.args.code c.args.class c.in-Fixed.is (λ e. search rules) (λ e. search rules) c.read_leaf.ensures c.in_ok-read_leaf-in-Fixed.was

@@ -1,24 +1,19 @@
+-- `fixed::read_fonts` meets its contract: the count, and then its Strings.
 use mathlib.Core.Path.{sym}
 use native.Mathlib.Omega.{arith}
 use Rattle.bits.specs.Places.{order_of}
-use Rattle.format.specs.Formats.{times, ◌▸◌, the}
-use Rattle.format.specs.Items.{string, count}
-use Rattle.items.proofs.ItemLaws.{got_value, got_fault, count_range}
-use Rattle.items.specs.declared.Item.TheVariants.{Count}
-use Rattle.table.proofs.EngineLaws.{then_one, then_never}
-use Rattle.table.proofs.RunLaws.{one_fits}
-use Rattle.fixed.proofs.FixedLaws.{left_as, pairs}
+use Rattle.format.specs.Items.{string}
+use Rattle.reasons.proofs.NumberLaws.{passed_on}
+use Rattle.table.proofs.ReaderLaws.{reads_stop, reads_item, reads_as}
+use Rattle.fixed.proofs.FixedLaws.{fonts_few, pairs}
 use Rattle.fixed.proofs.read_fonts.Goals as goal
 
+pub returns-in_err-count : goal.returns-in_err-count
+returns-in_err-count c = reads_stop _ c.item.ensures.reads c.in_err-count.was (passed_on c.from_residual.result c.from_residual.ensures.1)
+
 pub overflow_mul-count : goal.overflow_mul-count
-overflow_mul-count c = let a = c.args in omega (arith, count_range (order_of a.order) a.body.now a.at.0 0 (got_value c.read_item-counted.ensures c.in-Value.is))
+overflow_mul-count c = omega (arith, fonts_few c.item.ensures.reads c.in_ok-count.was c.in_ok-count.ensures.shown)
 
-pub read_strings-requires : goal.read_strings-requires
-read_strings-requires c = let a = c.args in one_fits (order_of a.order) (Count 0) a.body.now a.at.0 (got_value c.read_item-counted.ensures c.in-Value.is) c.requires
-
-pub returns-in-Value : goal.returns-in-Value
-returns-in-Value c = let a = c.args in then_one (order_of a.order) a.body.now a.table.now a.from (count 0 4096) (λ n. times (the n) (string ▸ string)) a.at.0 (got_value c.read_item-counted.ensures c.in-Value.is) c.put.ensures
-    (left_as _ _ (sym (pairs _ string (order_of a.order) a.body.now _)) c.read_strings.ensures)
-
-pub returns-in-Fault : goal.returns-in-Fault
-returns-in-Fault c = let a = c.args in then_never (order_of a.order) a.body.now a.table.now a.from (count 0 4096) (λ n. times (the n) (string ▸ string)) a.at.0 (got_fault c.read_item-counted.ensures c.in-Fault.is)
+pub returns : goal.returns
+returns c = let b = c.item.new.self in
+    reads_item _ c.item.ensures.reads c.in_ok-count.was c.in_ok-count.ensures.shown (reads_as (sym (pairs c.in_ok-count.count string (order_of b.order) b.body.now b.place.0)) c.in_turn.ensures)

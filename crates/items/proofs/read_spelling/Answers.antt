@@ -1,11 +1,9 @@
 -- `items::read_spelling` meets its contract: each arm's callee reads what `spelt` says of its kind.
+use Rattle.std.proofs.Common.{inl, inr}
 use Rattle.items.proofs.read_spelling.Goals as goal
 
 pub returns-in-U32 : goal.returns-in-U32
-returns-in-U32 c = λ o. rw c.in-U32.is (c.read_u32.ensures o)
-
-pub returns-in-Count : goal.returns-in-Count
-returns-in-Count c = λ o. rw c.in-Count.is (c.read_u32-in-Count.ensures o)
+returns-in-U32 c = λ o. elim c.in-U32.is [ inl e ↦ rw e (c.read_u32.ensures o) | inr e ↦ rw e.1 (c.read_u32.ensures o) ]
 
 pub returns-in-I32 : goal.returns-in-I32
 returns-in-I32 c = λ o. rw c.in-I32.is (c.read_i32.ensures o)
@@ -20,10 +18,4 @@ pub returns-in-Uint16 : goal.returns-in-Uint16
 returns-in-Uint16 c = λ o. rw c.in-Uint16.is (c.read_uint16.ensures o)
 
 pub returns-in-Byte : goal.returns-in-Byte
-returns-in-Byte c = λ o. rw c.in-Byte.is (c.read_byte.ensures o)
-
-pub returns-in-Enum : goal.returns-in-Enum
-returns-in-Enum c = λ o. rw c.in-Enum.is (c.read_byte-in-Enum.ensures o)
-
-pub returns-in-BlendMode : goal.returns-in-BlendMode
-returns-in-BlendMode c = λ o. rw c.in-BlendMode.is (c.read_byte-in-BlendMode.ensures o)
+returns-in-Byte c = λ o. elim c.in-Byte.is [ inl e ↦ rw e (c.read_byte.ensures o) | inr (inl e) ↦ rw e.1 (c.read_byte.ensures o) | inr (inr e) ↦ rw e (c.read_byte.ensures o) ]

@@ -1,5 +1,6 @@
 use native.Mathlib.Omega.{arith}
+use Rattle.listing.proofs.TextLaws.{laid_so}
 use Rattle.listing.proofs.put_too_long.Goals as goal
 
 pub returns : goal.returns
-returns c = (c.put_word.ensures.0, omega (arith, c.put_word.ensures.1))
+returns c = (laid_so c.word.ensures, omega (arith, c.word.ensures.used))

@@ -1,15 +1,13 @@
+use mathlib.Core.Path.{sym, ◌∙◌}
+use native.Mathlib.Omega.{arith}
 use Rattle.path_singles.proofs.PathLaws.{attribute_none, attribute_one, attribute_frames}
-use lib.ListN.{get_or-eq_default}
 use Rattle.path_singles.proofs.convert_attribute.Goals as goal
 
-pub returns-then-values-at : goal.returns-then-values-at
-returns-then-values-at c = attribute_none _ _ (get_or-eq_default c.args.values.now 0 c.if-values-at.true)
+pub returns-in-0 : goal.returns-in-0
+returns-in-0 c = attribute_none _ _ (sym c.number_at.ensures ∙ c.in-0.is)
 
-pub returns-then-flag-eq0 : goal.returns-then-flag-eq0
-returns-then-flag-eq0 c = attribute_none _ _ c.if-flag-eq0.true
+pub returns-in-1 : goal.returns-in-1
+returns-in-1 c = attribute_one _ _ (sym c.number_at.ensures ∙ c.in-1.is) c.convert_paths.ensures
 
-pub returns-then-flag-eq1 : goal.returns-then-flag-eq1
-returns-then-flag-eq1 c = attribute_one _ _ c.if-flag-eq1.true c.convert_paths.ensures
-
-pub returns : goal.returns
-returns c = attribute_frames _ _ c.if-flag-eq0.false c.if-flag-eq1.false c.convert_frames.ensures
+pub returns-in_default : goal.returns-in_default
+returns-in_default c = attribute_frames _ _ (λ e. omega (arith, c.number_at.ensures)) (λ e. omega (arith, c.number_at.ensures)) c.convert_frames.ensures

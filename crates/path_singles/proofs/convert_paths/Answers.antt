@@ -1,24 +1,18 @@
-use Rattle.path_singles.proofs.PathLaws.{turns_from, turns, turned, from_end, from_zero}
+use Prim.Native.Nat.{◌-◌}
+use mathlib.Core.Path.{◌≡◌}
 use native.Mathlib.Omega.{arith}
+use Rattle.path_singles.proofs.StepLaws.{or_is}
+use Rattle.path_singles.proofs.PathLaws.{turns_from, turns, turned, from_end, from_zero}
 use Rattle.path_singles.proofs.convert_paths.Goals as goal
 
-pub loop-left-init : goal.loop-left-init
-loop-left-init c = turns_from _ c.requires.0
+pub loop-init : goal.loop-init
+loop-init c = let z : c.args.count - 0 ≡ c.args.count = omega arith in rw z (turns_from _ c.requires.0)
 
-pub convert_path-path-requires : goal.convert_path-path-requires
-convert_path-path-requires c = (omega (arith, c.if-index-values.true), omega (arith, c.loop-left.invariant.size, c.requires.1))
+pub loop-preserved : goal.loop-preserved
+loop-preserved c = turns _ c.loop.invariant (omega (arith, c.loop-test.true)) c.if-values-index.false c.convert_path-path.ensures.converted c.convert_path-path.ensures.ended (or_is c.loop.beyond c.convert_path-path.result.beyond)
 
-pub loop-left-preserved : goal.loop-left-preserved
-loop-left-preserved c = turns _ c.loop-left.invariant c.loop-left-test.true c.if-index-values.true c.convert_path-path.ensures.converted c.convert_path-path.ensures.ended c.either-beyond.ensures
+pub returns-after-loop : goal.returns-after-loop
+returns-after-loop c = turned _ c.loop.invariant (from_zero _ _ _ (omega (arith, c.loop-test.false)))
 
-pub shape_of-values-else-index-values : goal.shape_of-values-else-index-values
-shape_of-values-else-index-values c = c.loop-left.invariant.size
-
-pub returns-else-index-values : goal.returns-else-index-values
-returns-else-index-values c = turned _ c.loop-left.invariant (from_end _ _ _ c.if-index-values.false)
-
-pub shape_of-values-after-loop-left : goal.shape_of-values-after-loop-left
-shape_of-values-after-loop-left c = c.loop-left.invariant.size
-
-pub returns-after-loop-left : goal.returns-after-loop-left
-returns-after-loop-left c = turned _ c.loop-left.invariant (from_zero _ _ _ c.loop-left-test.false)
+pub returns-then-values-index : goal.returns-then-values-index
+returns-then-values-index c = turned _ c.loop.invariant (from_end _ _ _ c.if-values-index.true)

@@ -1,21 +1,15 @@
+use mathlib.Core.Path.{refl, ap, ◌∙◌}
 use mathlib.Core.Bool.{Bool}
-use mathlib.Core.Path.{ap, ◌∙◌}
-use Rattle.format.specs.Tests.{◌or◌}
 use native.Mathlib.Omega.{arith}
-use Rattle.path_singles.proofs.StepLaws.{starts, goes, gone}
+use Rattle.format.specs.Tests.{◌or◌}
+use Rattle.path_singles.proofs.StepLaws.{or_is, starts, goes, gone}
 use Rattle.path_singles.proofs.convert_steps.Goals as goal
 
-pub loop-i-init : goal.loop-i-init
-loop-i-init c = starts _ c.requires.0
+pub loop-step-init : goal.loop-step-init
+loop-step-init c = starts c.args.steps.now
 
-pub convert_step-requires : goal.convert_step-requires
-convert_step-requires c = omega (arith, c.loop-i.invariant.size)
-
-pub loop-i-preserved : goal.loop-i-preserved
-loop-i-preserved c = goes _ c.loop-i.invariant c.loop-i-test.true c.requires.1 c.convert_step.ensures.0 (c.either-beyond.ensures ∙ ap (λ (b : Bool). c.loop-i.beyond or b) c.convert_step.ensures.1)
-
-pub shape_of-values : goal.shape_of-values
-shape_of-values c = c.loop-i.invariant.size
+pub loop-step-preserved : goal.loop-step-preserved
+loop-step-preserved c = goes _ c.loop-step.invariant c.loop-step-test.true (rw c.convert_step-beyond.ensures.0 refl) (or_is c.loop-step.beyond c.convert_step-beyond.result ∙ ap (λ (b : Bool). c.loop-step.beyond or b) c.convert_step-beyond.ensures.1)
 
 pub returns : goal.returns
-returns c = gone _ c.loop-i.invariant c.loop-i-test.false
+returns c = gone _ c.loop-step.invariant (omega arith)

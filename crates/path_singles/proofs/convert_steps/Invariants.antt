@@ -1,9 +1,5 @@
-use Prim.Native.Nat.{◌-◌}
 use Rattle.path_singles.proofs.StepLaws.{Going}
 use Rattle.path_singles.proofs.convert_steps.Given as goal
 
-abbrev pub invariant-loop-i : goal.invariant-loop-i
-invariant-loop-i l = Going l.initial.values l.start l.end l.values l.i l.beyond
-
-abbrev pub decreases-loop-i : goal.decreases-loop-i
-decreases-loop-i l = l.end - l.i
+abbrev pub invariant-loop-step : goal.invariant-loop-step
+invariant-loop-step l = Going l.initial.steps l.steps l.step-index l.beyond

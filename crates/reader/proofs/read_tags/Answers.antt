@@ -1,21 +1,24 @@
 -- `reader::read_tags` meets its contract: the classes that are made here are those of the walk.
-use Prim.Native.Nat.{ℕ}
-use native.Mathlib.Omega.{arith}
-use lib.ListN.{length-replicate}
+use mathlib.Core.Path.{sym, ap, ◌∙◌}
+use Rattle.std.proofs.Common.{Result, rules}
 use Rattle.bits.specs.Places.{order_of}
-use Rattle.classes.proofs.NumberLaws.{classed}
-use Rattle.reader.proofs.FileLaws.{tags_bounds, tags_read}
+use Rattle.classes.proofs.FillLaws.{classed}
+use Rattle.reasons.proofs.NumberLaws.{passed_on}
+use Rattle.lists.specs.Lists.{walked_of, ended_by}
+use Rattle.lists.specs.declared.Fault.{Fault}
+use Rattle.reader.specs.Survey.{counted}
+use Rattle.reader.proofs.FileLaws.{tags_read, left_is}
 use Rattle.reader.proofs.read_tags.Goals as goal
 
-pub number_first-requires : goal.number_first-requires
-number_first-requires c = omega (arith, length-replicate {A = ℕ} 1024 0)
+pub read_list-requires-clause-tabled : goal.read_list-requires-clause-tabled
+read_list-requires-clause-tabled c = let a = c.args in record { scope = a.scope; level = a.level; classed = classed a.scope a.level c.fill_first.ensures }
 
-pub read_list-requires : goal.read_list-requires
-read_list-requires c =
-    let a = c.args in
-    (record { scope = a.scope; level = a.level; classed = classed a.scope a.level c.number_first.ensures }, tags_bounds 0 a.level a.file.now c.requires.0 c.requires.1)
+pub returns-in_err-read_list-clause-filled : goal.returns-in_err-read_list-clause-filled
+returns-in_err-read_list-clause-filled c = let a = c.args in
+    tags_read 0 a.level a.file.now (order_of a.order) a.scope a.table.now a.rows.now _ (classed a.scope a.level c.fill_first.ensures)
+    (left_is 0 a.level a.file.now (let e = sym c.read_list.ensures.same.table in search rules) (let e = sym c.read_list.ensures.same.rows in search rules) (ap counted (passed_on c.from_residual.result c.from_residual.ensures.1) ∙ sym (ap (λ (r : Result Unit Fault). walked_of c.read_list.new.lent.index c.read_list.new.lent.row (ended_by r)) c.in_err-read_list.was)) c.read_list.ensures.left)
 
-pub returns : goal.returns
-returns c =
-    let a = c.args in
-    tags_read 0 a.level a.file.now (order_of a.order) a.scope a.table.now a.rows.now _ (classed a.scope a.level c.number_first.ensures) c.read_list.ensures
+pub returns-clause-filled : goal.returns-clause-filled
+returns-clause-filled c = let a = c.args in
+    tags_read 0 a.level a.file.now (order_of a.order) a.scope a.table.now a.rows.now _ (classed a.scope a.level c.fill_first.ensures)
+    (left_is 0 a.level a.file.now (let e = sym c.read_list.ensures.same.table in search rules) (let e = sym c.read_list.ensures.same.rows in search rules) (sym (ap (λ (r : Result Unit Fault). walked_of c.read_list.new.lent.index c.read_list.new.lent.row (ended_by r)) c.in_ok-read_list.was)) c.read_list.ensures.left)

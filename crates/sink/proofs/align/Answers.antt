@@ -8,7 +8,7 @@ use Rattle.sink.proofs.LayingLaws.{skip_none, skip_some}
 use Rattle.sink.proofs.align.Goals as goal
 
 pub returns-then-used-eq0 : goal.returns-then-used-eq0
-returns-then-used-eq0 c = skip_none (order_of c.args.order) c.args.out.now c.args.sink.place.0 c.args.sink.part c.requires.0 c.next_byte.ensures.0 c.next_byte.ensures.1 c.if-used-eq0.true
+returns-then-used-eq0 c = skip_none (order_of c.args.order) c.args.out.now c.args.sink.place.0 c.args.sink.part c.requires.0 c.next_byte.ensures c.next_byte.result.same c.if-used-eq0.true
 
 pub glue-requires : goal.glue-requires
 glue-requires c = (omega arith, c.requires.0, pow_pos _)
@@ -20,4 +20,4 @@ put_byte-requires c =
 
 pub returns : goal.returns
 returns c =
-    skip_some (order_of c.args.order) c.args.out.now c.args.sink.place.0 c.args.sink.part c.requires.0 c.next_byte-2.ensures.0 c.next_byte-2.ensures.1 c.glue.result c.if-used-eq0.false c.glue.ensures.0 c.put_byte.ensures
+    skip_some (order_of c.args.order) c.args.out.now c.args.sink.place.0 c.args.sink.part c.requires.0 c.next_byte-2.ensures c.next_byte-2.result.same c.glue.result c.if-used-eq0.false c.glue.ensures.0 c.put_byte.ensures

@@ -19,20 +19,20 @@ glue-waiting-requires c = (omega arith, c.requires.0, c.requires.3)
 pub loop-count-init : goal.loop-count-init
 loop-count-init c = (refl, omega arith, c.glue-waiting.ensures.1, omega arith, refl)
 
-pub split-rest-requires : goal.split-rest-requires
-split-rest-requires c = let whole : 8 + (c.loop-count.count - 8) ≡ c.loop-count.count = omega (arith, c.loop-count-test.true) in
+pub split-byte-requires : goal.split-byte-requires
+split-byte-requires c = let whole : 8 + (c.loop-count.count - 8) ≡ c.loop-count.count = omega (arith, c.loop-count-test.true) in
     (omega arith, rw whole c.loop-count.invariant.2)
 
 pub put_byte-requires : goal.put_byte-requires
-put_byte-requires c = c.split-rest.ensures.first
+put_byte-requires c = c.split-byte.ensures.first
 
 pub loop-count-preserved : goal.loop-count-preserved
 loop-count-preserved c = (
   c.put_byte.auto.out ∙ c.loop-count.invariant.0,
   omega (arith, c.loop-count.invariant.1),
-  c.split-rest.ensures.last,
+  c.split-byte.ensures.last,
   omega (arith, c.loop-count.invariant.3, c.loop-count-test.true),
-  c.loop-count.invariant.4 ∙ flow_next (order_of c.args.order) c.loop-count.out c.loop-count.i c.loop-count.count c.loop-count.waiting c.split-rest.result.first c.split-rest.result.last (omega (arith, c.loop-count-test.true)) c.split-rest.ensures c.put_byte.ensures,
+  c.loop-count.invariant.4 ∙ flow_next (order_of c.args.order) c.loop-count.out c.loop-count.i c.loop-count.count c.loop-count.waiting c.split-byte.result.0 c.split-byte.result.1 (omega (arith, c.loop-count-test.true)) c.split-byte.ensures c.put_byte.ensures,
 )
 
 pub shape_of-out-then-out-i : goal.shape_of-out-then-out-i

@@ -14,13 +14,13 @@ pub returns-then-out-byte : goal.returns-then-out-byte
 returns-then-out-byte c = let a = c.args in word_laid (order_of a.order) a.out.now _ a.byte a.value c.first_bit-place.result.0 c.put_bits.result.place.0 c.put_bits.result.part c.first_bit-place.ensures c.put_bits.ensures
 
 pub bounds-out-byte-2 : goal.bounds-out-byte-2
-bounds-out-byte-2 c = let a = c.args in let u = a.out.now in omega (arith, c.if-out-byte.false, length-set u a.byte c.split-first.result.first)
+bounds-out-byte-2 c = let a = c.args in let u = a.out.now in omega (arith, c.if-out-byte.false, length-set u a.byte c.split-first.result.0)
 
 pub bounds-out-byte-3 : goal.bounds-out-byte-3
-bounds-out-byte-3 c = let a = c.args in let u = a.out.now in let u1 = set u a.byte c.split-first.result.first in omega (arith, c.if-out-byte.false, length-set u a.byte c.split-first.result.first, length-set u1 (a.byte + 1) c.split-second.result.first)
+bounds-out-byte-3 c = let a = c.args in let u = a.out.now in let u1 = set u a.byte c.split-first.result.0 in omega (arith, c.if-out-byte.false, length-set u a.byte c.split-first.result.0, length-set u1 (a.byte + 1) c.split-second.result.0)
 
 pub bounds-out-byte-4 : goal.bounds-out-byte-4
-bounds-out-byte-4 c = let a = c.args in let u = a.out.now in let u1 = set u a.byte c.split-first.result.first in let u2 = set u1 (a.byte + 1) c.split-second.result.first in omega (arith, c.if-out-byte.false, length-set u a.byte c.split-first.result.first, length-set u1 (a.byte + 1) c.split-second.result.first, length-set u2 (a.byte + 2) c.split-third.result.first)
+bounds-out-byte-4 c = let a = c.args in let u = a.out.now in let u1 = set u a.byte c.split-first.result.0 in let u2 = set u1 (a.byte + 1) c.split-second.result.0 in omega (arith, c.if-out-byte.false, length-set u a.byte c.split-first.result.0, length-set u1 (a.byte + 1) c.split-second.result.0, length-set u2 (a.byte + 2) c.split-third.result.0)
 
 pub returns : goal.returns
 returns c = let a = c.args in word_stored (order_of a.order) a.out.now a.byte a.value c.split-first.ensures c.split-second.ensures c.split-third.ensures

@@ -1,10 +1,6 @@
-use Prim.Native.Nat.{◌-◌, ◌≤◌}
 use Rattle.table.proofs.StoringLaws.{Storing}
 use Rattle.tags.proofs.TagLaws.{eights_of}
 use Rattle.tags.proofs.pack_bytes.Given as goal
 
 abbrev pub invariant-loop-i : goal.invariant-loop-i
-invariant-loop-i l = Storing l.initial.table (eights_of l.body) l.first l.table l.i × (l.i ≤ l.stored)
-
-abbrev pub decreases-loop-i : goal.decreases-loop-i
-decreases-loop-i l = l.stored - l.i
+invariant-loop-i l = Storing l.initial.table (eights_of l.body) l.first l.table l.i

@@ -1,10 +1,15 @@
+-- `values::read_in_turn` meets its contract: Points in turn are twice as many Floats.
+use Rattle.std.proofs.Common.{sym, ap}
+use Rattle.format.specs.Formats.{times}
+use Rattle.format.specs.Items.{float}
+use Rattle.format.specs.Bodies.{value}
 use Rattle.bits.specs.Places.{order_of}
-use Rattle.attributes.specs.declared.DataType.TheVariants.{Float, Point}
-use Rattle.values.proofs.ValueLaws.{in_turn_of, points_are}
+use Rattle.attributes.specs.Rows.{type_of}
+use Rattle.attributes.specs.declared.DataType.{DataType}
+use Rattle.table.proofs.ReaderLaws.{reads_as}
+use Rattle.values.proofs.ValueLaws.{reads_is, alike_pairs}
 use Rattle.values.proofs.read_in_turn.Goals as goal
 
-pub returns-in-Float : goal.returns-in-Float
-returns-in-Float c = let a = c.args in in_turn_of (order_of a.order) a.body.now a.table.now a.from a.count a.at.0 Float c.in-Float.is c.read_floats.ensures
-
 pub returns-in-Point : goal.returns-in-Point
-returns-in-Point c = let a = c.args in in_turn_of (order_of a.order) a.body.now a.table.now a.from a.count a.at.0 Point c.in-Point.is (points_are (order_of a.order) a.body.now a.table.now a.from a.count a.at.0 c.read_floats-in-Point.ensures)
+returns-in-Point c = let a = c.args.reader.now in
+    reads_is (ap (λ (d : DataType). times c.args.count (value (type_of d))) (sym c.in-Point.is)) (reads_as (alike_pairs float c.args.count (order_of a.order) a.body.now a.place.0) c.floats-in-Point.ensures)

@@ -1,17 +1,15 @@
-use mathlib.Core.Path.{refl}
-use native.Mathlib.Omega.{arith}
-use lib.Dec.{lit≤}
+-- `values::read_offset_flag` meets its contract: one bit, and another if it is set.
+use Rattle.std.proofs.Common.{lit≤}
 use Rattle.bits.specs.Places.{order_of}
-use Rattle.format.specs.Formats.{Item, item, times, the}
-use Rattle.table.proofs.EngineLaws.{then_one, then_never}
-use Rattle.values.proofs.ValueLaws.{ub_one, ub_stop, ub_fits}
+use Rattle.reasons.proofs.NumberLaws.{passed_on}
+use Rattle.table.proofs.ReaderLaws.{reads_first, reads_ok, reads_err}
+use Rattle.values.proofs.ValueLaws.{ub_one, ub_behind}
 use Rattle.values.proofs.read_offset_flag.Goals as goal
 
-pub read_fields-fields-requires : goal.read_fields-fields-requires
-read_fields-fields-requires c = let a = c.args in let f = ub_fits (order_of a.order) a.body.now a.at.0 1 c.read_ub-got.ensures (lit≤ tt) c.in-Value.is c.requires in (f.0, lit≤ tt, lit≤ tt, omega (arith, f.1), refl)
+pub returns-in_err-fields : goal.returns-in_err-fields
+returns-in_err-fields c = let a = c.args.reader.now in let k = ub_behind (order_of a.order) a.body.now a.place.0 1 (lit≤ tt) c.in_ok-exist.ensures in
+    reads_first _ c.requires k.0 c.show.ensures (ub_one (order_of a.order) a.body.now a.place.0 1 c.in_ok-exist.ensures) (reads_err c.in_err-fields.was (passed_on c.from_residual-in_err-fields.result c.from_residual-in_err-fields.ensures.1) c.fields.ensures.reads)
 
-pub returns-in-Value : goal.returns-in-Value
-returns-in-Value c = let a = c.args in then_one (order_of a.order) a.body.now a.table.now a.from (item (Item.UB 1)) (λ exist. times (the exist) (item (Item.UB 1))) a.at.0 (ub_one (order_of a.order) a.body.now a.at.0 1 c.read_ub-got.ensures c.in-Value.is) c.put.ensures c.read_fields-fields.ensures.states
-
-pub returns-in-Fault : goal.returns-in-Fault
-returns-in-Fault c = let a = c.args in then_never (order_of a.order) a.body.now a.table.now a.from (item (Item.UB 1)) (λ exist. times (the exist) (item (Item.UB 1))) a.at.0 (ub_stop (order_of a.order) a.body.now a.at.0 1 c.read_ub-got.ensures c.in-Fault.is)
+pub returns : goal.returns
+returns c = let a = c.args.reader.now in let k = ub_behind (order_of a.order) a.body.now a.place.0 1 (lit≤ tt) c.in_ok-exist.ensures in
+    reads_first _ c.requires k.0 c.show.ensures (ub_one (order_of a.order) a.body.now a.place.0 1 c.in_ok-exist.ensures) (reads_ok c.in_ok-fields.was c.fields.ensures.reads)

@@ -1,11 +1,8 @@
-use Prim.Native.Nat.{◌-◌, ◌≤◌}
-use Rattle.bits.specs.Places.{order_of}
-use Rattle.attributes.specs.Rows.{rows_from}
+use Rattle.std.proofs.Common.{◌^◌, ◌<◌, drop}
+use Rattle.attributes.specs.Rows.{attributes_in}
 use Rattle.write_blocks.proofs.FillLaws.{Filling}
 use Rattle.write_blocks.proofs.write_contents.Given as goal
 
+-- in a loop the flags are taken apart: what their type says of them stands here
 abbrev pub invariant-loop-row : goal.invariant-loop-row
-invariant-loop-row l = (l.row ≤ l.count) × Filling (order_of l.order) (rows_from l.rows 0 l.count) l.values l.initial.out l.initial.cur l.out l.flags l.cur l.index (rows_from l.rows l.row (l.count - l.row))
-
-abbrev pub decreases-loop-row : goal.decreases-loop-row
-decreases-loop-row l = l.count - l.row
+invariant-loop-row l = (held : l.flags.0 < 2 ^ l.flags.1.0) × Filling l.initial.writer (attributes_in l.rows) l.writer (record { bits = l.flags.0; width = l.flags.1.0; held = held }) (attributes_in (drop l.row-index l.rows))

@@ -1,29 +1,11 @@
 -- `write_fixed::write_fonts` meets its contract.
-use mathlib.Core.Path.{sym, ◌∙◌}
-use native.Mathlib.Omega.{arith}
-use Rattle.bits.specs.Places.{order_of}
-use Rattle.items.specs.Kinds.{format_of}
-use Rattle.items.specs.declared.Item.TheVariants.{Count}
-use Rattle.sink.specs.Laying.{at}
-use Rattle.spelling.proofs.RunLaws.{ran_fine}
-use Rattle.spelling.proofs.NumberLaws.{counted_stop, counted_inside, counted_most}
-use Rattle.write_fixed.proofs.FixedLaws.{fonts, fonts_done}
+use Rattle.format.specs.Formats.{the}
+use Rattle.spelling.proofs.WriteLaws.{writes_failed, number_then}
+use Rattle.write_fixed.proofs.FixedLaws.{fonts, fonts_of}
 use Rattle.write_fixed.proofs.write_fonts.Goals as goal
 
-pub returns-in_default : goal.returns-in_default
-returns-in_default c = let a = c.args in counted_stop (order_of a.order) 0 fonts a.values.now (at a.out.now a.sink) a.from c.write_one-put.new.out c.write_one-put.result c.write_one-put.ensures c.in_default.is
-
-pub offset_bounds-values-from : goal.offset_bounds-values-from
-offset_bounds-values-from c = let a = c.args in let h = counted_inside (order_of a.order) 0 fonts a.values.now (at a.out.now a.sink) a.from c.write_one-put.new.out c.write_one-put.result c.write_one-put.ensures c.in-Done.next c.in-Done.behind c.in-Done.is in omega (arith, h)
-
-pub bounds-values-from : goal.bounds-values-from
-bounds-values-from c = let a = c.args in counted_inside (order_of a.order) 0 fonts a.values.now (at a.out.now a.sink) a.from c.write_one-put.new.out c.write_one-put.result c.write_one-put.ensures c.in-Done.next c.in-Done.behind c.in-Done.is
-
-pub overflow_mul-values : goal.overflow_mul-values
-overflow_mul-values c = let a = c.args in let h = counted_most (order_of a.order) 0 fonts a.values.now (at a.out.now a.sink) a.from c.write_one-put.new.out c.write_one-put.result c.write_one-put.ensures c.in-Done.next c.in-Done.behind c.in-Done.is in omega (arith, h)
-
-pub write_strings-requires : goal.write_strings-requires
-write_strings-requires c = let a = c.args in ran_fine (order_of a.order) a.values.now a.out.now a.sink a.from (format_of (Count 0)) c.write_one-put.new.out c.write_one-put.result c.requires c.write_one-put.ensures c.in-Done.next c.in-Done.behind c.in-Done.is
+pub returns-in_err-count : goal.returns-in_err-count
+returns-in_err-count c = writes_failed c.count.ensures.writes (λ n. fonts (the n)) c.in_err-count.was c.from_residual.ensures.0
 
 pub returns : goal.returns
-returns c = let a = c.args in c.write_strings.ensures ∙ sym (fonts_done (order_of a.order) a.values.now (at a.out.now a.sink) a.from c.write_one-put.new.out c.write_one-put.result c.write_one-put.ensures c.in-Done.next c.in-Done.behind c.in-Done.is)
+returns c = number_then c.count.ensures.writes fonts c.in_ok-count.was c.in_ok-count.ensures.counts.0 (fonts_of c.in_ok-count.count c.write_all.ensures.writes)

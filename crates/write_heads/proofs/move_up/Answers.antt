@@ -11,7 +11,7 @@ pub overflow_add-at : goal.overflow_add-at
 overflow_add-at c = omega (arith, c.requires.0, c.requires.2)
 
 pub loop-i-init : goal.loop-i-init
-loop-i-init c = (refl, omega (arith, c.room_for-i.ensures), move_none c.args.out.now c.args.at.0 c.args.count c.args.by c.room_for-i.result c.room_for-i.ensures)
+loop-i-init c = (refl, omega (arith, c.room_for-room.ensures), move_none c.args.out.now c.args.at.0 c.args.count c.args.by c.room_for-room.result c.room_for-room.ensures)
 
 pub overflow_add-from : goal.overflow_add-from
 overflow_add-from c = omega (arith, c.requires.0, c.requires.1, c.loop-i.invariant.1)

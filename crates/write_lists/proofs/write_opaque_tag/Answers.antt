@@ -1,34 +1,18 @@
-use mathlib.Core.Path.{sym, ap, ◌∙◌}
-use native.Mathlib.Omega.{arith}
+-- `write_lists::write_opaque_tag` meets its contract.
+use Rattle.std.proofs.Common.{sym, ap, ◌∙◌}
+use Rattle.std.specs.Prelude.{Result}
+use Rattle.bits.specs.declared.BytePlace.{BytePlace}
 use Rattle.classes.specs.declared.Class.TheVariants.{Opaque}
-use Rattle.sink.specs.declared.Body.{Body}
+use Rattle.sink.specs.declared.Impossible.{Impossible}
 use Rattle.write_lists.specs.Stood.{stood_as}
-use Rattle.write_lists.proofs.TagLaws.{standing, whole_none, whole_put}
+use Rattle.write_lists.proofs.TagLaws.{standing, whole_none, whole_put, err_stood}
 use Rattle.write_lists.proofs.write_opaque_tag.Goals as goal
 
-pub values_end-behind-requires : goal.values_end-behind-requires
-values_end-behind-requires c = c.requires.1
+pub returns-in_err-behind : goal.returns-in_err-behind
+returns-in_err-behind c = λ o. err_stood _ _ c.from_residual.ensures.0 (whole_none o c.args.claimed Opaque c.args.code c.args.table.now c.args.index c.args.out.now c.args.place.0 c.in_err-behind.ensures)
 
-pub returns-then-behind-eq0 : goal.returns-then-behind-eq0
-returns-then-behind-eq0 c = λ o. whole_none o c.args.claimed Opaque c.args.code c.args.table.now c.args.index c.args.out.now c.args.place.0 c.values_end-behind.ensures c.if-behind-eq0.true
+pub returns-in_err-next : goal.returns-in_err-next
+returns-in_err-next c = λ o. let u = c.write_tag.new.out in err_stood u _ c.from_residual-in_err-next.ensures.0 (ap (λ (R : Result BytePlace Impossible). stood_as u (standing c.in_ok-behind.behind R)) (sym c.in_err-next.was) ∙ whole_put o c.args.claimed Opaque c.args.table.now c.args.index c.in_ok-behind.ensures c.args.code c.requires.2 c.args.out.now u c.args.place.0 c.write_tag.result c.write_tag.ensures)
 
-pub overflow_add-first : goal.overflow_add-first
-overflow_add-first c = omega (arith, c.requires.1)
-
-pub slice_bounds-write_tag-count : goal.slice_bounds-write_tag-count
-slice_bounds-write_tag-count c = let v = c.values_end-behind.ensures.0 c.if-behind-eq0.false in omega (arith, v.end)
-
-pub slice_bounds-write_tag-start : goal.slice_bounds-write_tag-start
-slice_bounds-write_tag-start c = let v = c.values_end-behind.ensures.0 c.if-behind-eq0.false in omega (arith, v.end)
-
-pub slice_bounds-write_tag-end : goal.slice_bounds-write_tag-end
-slice_bounds-write_tag-end c = let v = c.values_end-behind.ensures.0 c.if-behind-eq0.false in omega (arith, v.some, v.all, v.end)
-
-pub write_tag-tag-requires : goal.write_tag-tag-requires
-write_tag-tag-requires c = (c.requires.0, c.requires.3)
-
-pub returns-in-To : goal.returns-in-To
-returns-in-To c = λ o. let u = c.write_tag-tag.new.out in ap (λ (R : Body). stood_as u (standing c.values_end-behind.result R)) (sym c.in-To.is) ∙ whole_put o c.args.claimed Opaque c.args.table.now c.args.index c.values_end-behind.ensures c.if-behind-eq0.false c.args.code c.requires.2 c.args.out.now u c.args.place.0 c.write_tag-tag.result c.write_tag-tag.ensures
-
-pub returns-in-No : goal.returns-in-No
-returns-in-No c = λ o. let u = c.write_tag-tag.new.out in ap (λ (R : Body). stood_as u (standing c.values_end-behind.result R)) (sym c.in-No.is) ∙ whole_put o c.args.claimed Opaque c.args.table.now c.args.index c.values_end-behind.ensures c.if-behind-eq0.false c.args.code c.requires.2 c.args.out.now u c.args.place.0 c.write_tag-tag.result c.write_tag-tag.ensures
+pub returns : goal.returns
+returns c = λ o. let u = c.write_tag.new.out in ap (λ (R : Result BytePlace Impossible). stood_as u (standing c.in_ok-behind.behind R)) (sym c.in_ok-next.was) ∙ whole_put o c.args.claimed Opaque c.args.table.now c.args.index c.in_ok-behind.ensures c.args.code c.requires.2 c.args.out.now u c.args.place.0 c.write_tag.result c.write_tag.ensures

@@ -1,4 +1,3 @@
-use Prim.Native.Nat.{◌-◌, ◌≤◌}
 use mathlib.Core.Path.{◌≡◌}
 use lib.ListN.{take, drop}
 use lib.Seq.{sets}
@@ -6,7 +5,4 @@ use Rattle.format.specs.TableOfNumbers.{spread}
 use Rattle.write_opaque.proofs.lay_eights.Given as goal
 
 abbrev pub invariant-loop-i : goal.invariant-loop-i
-invariant-loop-i l = (l.out ≡ sets l.initial.out l.from (spread (take l.i (drop 1 l.values)))) × (l.i ≤ l.count)
-
-abbrev pub decreases-loop-i : goal.decreases-loop-i
-decreases-loop-i l = l.count - l.i
+invariant-loop-i l = l.out ≡ sets l.initial.out l.from (spread (take l.i (drop 1 l.values)))

@@ -1,11 +1,12 @@
-use Rattle.bits.specs.Places.{order_of}
-use Rattle.sink.specs.Laying.{at}
-use Rattle.attributes.specs.declared.DataType.TheVariants.{Float, Point}
-use Rattle.write_values.proofs.ValueLaws.{in_turn_of, points_are}
+-- `write_values::write_in_turn` meets its contract.
+use Rattle.std.proofs.Common.{sym, ap}
+use Rattle.format.specs.Formats.{times}
+use Rattle.format.specs.Bodies.{value}
+use Rattle.attributes.specs.Rows.{type_of}
+use Rattle.attributes.specs.declared.DataType.{DataType}
+use Rattle.write_values.proofs.ValueLaws.{points_are}
+use Rattle.spelling.proofs.WriteLaws.{writes_is}
 use Rattle.write_values.proofs.write_in_turn.Goals as goal
 
-pub returns-in-Float : goal.returns-in-Float
-returns-in-Float c = let a = c.args in in_turn_of (order_of a.order) a.values.now (at a.out.now a.sink) a.from a.count Float c.in-Float.is c.write_items.ensures
-
 pub returns-in-Point : goal.returns-in-Point
-returns-in-Point c = let a = c.args in in_turn_of (order_of a.order) a.values.now (at a.out.now a.sink) a.from a.count Point c.in-Point.is (points_are (order_of a.order) a.values.now (at a.out.now a.sink) a.from a.count c.write_items-in-Point.ensures)
+returns-in-Point c = writes_is (ap (λ (d : DataType). times c.args.count (value (type_of d))) (sym c.in-Point.is)) (points_are c.args.count c.items.ensures.writes)

@@ -1,28 +1,13 @@
 -- `write_values::write_path` meets its contract.
-use Rattle.bits.specs.Places.{order_of}
-use Rattle.sink.specs.Laying.{at}
-use lib.Dec.{lit≤}
-use Rattle.values.specs.Parts.{announcing}
+use Rattle.format.specs.Formats.{the}
 use Rattle.table.specs.declared.fields.Field.TheVariants.{Verb}
+use Rattle.values.specs.Parts.{announcing}
 use Rattle.write_values.proofs.ValueLaws.{path_of}
-use native.Mathlib.Omega.{arith}
-use Rattle.items.specs.Kinds.{format_of}
-use Rattle.items.specs.declared.Item.TheVariants.{Count}
-use Rattle.spelling.proofs.RunLaws.{ran_fine}
-use Rattle.spelling.proofs.NumberLaws.{counted_stop, counted_inside, counted_most, counted_on}
+use Rattle.spelling.proofs.WriteLaws.{writes_failed, number_then}
 use Rattle.write_values.proofs.write_path.Goals as goal
 
-pub returns-in_default : goal.returns-in_default
-returns-in_default c = let a = c.args in path_of (order_of a.order) a.values.now (at a.out.now a.sink) a.from (counted_stop (order_of a.order) 0 (announcing Verb 3) a.values.now (at a.out.now a.sink) a.from c.write_one-put.new.out c.write_one-put.result c.write_one-put.ensures c.in_default.is)
-
-pub offset_bounds-values-from : goal.offset_bounds-values-from
-offset_bounds-values-from c = let a = c.args in let h = counted_inside (order_of a.order) 0 (announcing Verb 3) a.values.now (at a.out.now a.sink) a.from c.write_one-put.new.out c.write_one-put.result c.write_one-put.ensures c.in-Done.next c.in-Done.behind c.in-Done.is in omega (arith, h)
-
-pub bounds-values-from : goal.bounds-values-from
-bounds-values-from c = let a = c.args in counted_inside (order_of a.order) 0 (announcing Verb 3) a.values.now (at a.out.now a.sink) a.from c.write_one-put.new.out c.write_one-put.result c.write_one-put.ensures c.in-Done.next c.in-Done.behind c.in-Done.is
-
-pub write_announcing-requires : goal.write_announcing-requires
-write_announcing-requires c = let a = c.args in (ran_fine (order_of a.order) a.values.now a.out.now a.sink a.from (format_of (Count 0)) c.write_one-put.new.out c.write_one-put.result c.requires c.write_one-put.ensures c.in-Done.next c.in-Done.behind c.in-Done.is, lit≤ tt, lit≤ tt, omega (arith, counted_most (order_of a.order) 0 (announcing Verb 3) a.values.now (at a.out.now a.sink) a.from c.write_one-put.new.out c.write_one-put.result c.write_one-put.ensures c.in-Done.next c.in-Done.behind c.in-Done.is))
+pub returns-in_err-count : goal.returns-in_err-count
+returns-in_err-count c = path_of (writes_failed c.count.ensures.writes (λ n. announcing Verb 3 (the n)) c.in_err-count.was c.from_residual.ensures.0)
 
 pub returns : goal.returns
-returns c = let a = c.args in path_of (order_of a.order) a.values.now (at a.out.now a.sink) a.from (counted_on (order_of a.order) 0 (announcing Verb 3) a.values.now (at a.out.now a.sink) a.from c.write_one-put.new.out c.write_one-put.result c.write_one-put.ensures c.in-Done.next c.in-Done.behind c.in-Done.is c.write_announcing.ensures)
+returns c = path_of (number_then c.count.ensures.writes (announcing Verb 3) c.in_ok-count.was c.in_ok-count.ensures.counts.0 c.write_announcing.ensures)

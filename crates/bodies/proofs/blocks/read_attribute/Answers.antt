@@ -1,10 +1,7 @@
-use Rattle.bits.specs.Places.{order_of}
-use Rattle.format.specs.Formats.{Item, item}
-use Rattle.format.specs.Bodies.{content}
-use Rattle.attributes.specs.Rows.{attribute_in}
-use Rattle.table.proofs.EngineLaws.{then_one}
-use Rattle.bodies.proofs.ContentLaws.{echo_one}
+use Rattle.std.proofs.Common.{refl}
+use Rattle.attributes.specs.Rows.{attribute_of}
+use Rattle.bodies.proofs.ContentLaws.{attribute_read}
 use Rattle.bodies.proofs.blocks.read_attribute.Goals as goal
 
 pub returns : goal.returns
-returns c = let a = c.args in then_one (order_of a.order) a.body.now a.table.now a.from (item (Item.echo a.flag)) (λ xs. content (attribute_in a.row) a.flag) a.at.0 (echo_one (order_of a.order) a.body.now a.at.0 a.flag) c.put.ensures c.read_content.ensures
+returns c = attribute_read (attribute_of c.args.row) c.args.flag c.requires (record { order = refl; body = refl; lent = refl }) c.put.ensures refl refl c.read_content.ensures

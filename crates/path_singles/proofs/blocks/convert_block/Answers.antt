@@ -1,22 +1,15 @@
-use Rattle.path_singles.proofs.BlockLaws.{count_is, blocks_from, blocks_on, blocks_end}
-use mathlib.Core.Path.{refl}
-use native.Mathlib.Omega.{arith}
+use mathlib.Core.Path.{sym, ◌∙◌}
+use Rattle.path_singles.proofs.StepLaws.{or_is}
+use Rattle.path_singles.proofs.BlockLaws.{blocks_past, blocks_path, blocks_end}
 use Rattle.path_singles.proofs.blocks.convert_block.Goals as goal
-
-pub loop-row-init : goal.loop-row-init
-loop-row-init c = blocks_from _ _ _ _ _ c.block_of-found.ensures refl
-
-pub bounds-rows-row : goal.bounds-rows-row
-bounds-rows-row c = omega (arith, c.block_of-found.ensures.few)
-
-pub convert_row-requires : goal.convert_row-requires
-convert_row-requires c = (omega (arith, count_is c.block_of-found.ensures, c.loop-row.invariant.below), c.requires.0, omega (arith, c.loop-row.invariant.size, c.requires.1))
+use Rattle.path_singles.proofs.blocks.convert_block.Goals.{then-is_path, else-is_path}
 
 pub loop-row-preserved : goal.loop-row-preserved
-loop-row-preserved c = blocks_on _ _ _ _ _ c.loop-row.invariant c.loop-row-test.true c.convert_row.auto.values c.convert_row.ensures c.either-beyond.ensures
-
-pub shape_of-values : goal.shape_of-values
-shape_of-values c = c.loop-row.invariant.size
+loop-row-preserved c =
+    elim c.if-is_path.branch [
+      | then-is_path w ↦ blocks_path _ _ _ c.loop-row.invariant c.loop-row-test.true (sym c.is_path.ensures ∙ w.if-is_path.true) c.if-is_path.auto.values w.numbers_before-flag.ensures (rw w.values-is w.convert_attribute-beyond.ensures) (w.beyond-is ∙ or_is c.loop-row.beyond w.convert_attribute-beyond.result)
+      | else-is_path w ↦ rw (w.values-is, w.beyond-is) (blocks_past _ _ _ c.loop-row.invariant c.loop-row-test.true (sym c.is_path.ensures ∙ w.if-is_path.false))
+    ]
 
 pub returns : goal.returns
-returns c = blocks_end _ _ _ _ _ c.loop-row.invariant c.loop-row-test.false
+returns c = blocks_end _ _ _ c.block_of-rows.ensures.are c.loop-row.invariant c.loop-row-test.false

@@ -1,10 +1,7 @@
 -- `spelling::fields::judge_bare` meets its contract.
-use Rattle.std.proofs.Common.{take, drop}
-use Rattle.spelling.proofs.FieldLaws.{bare_judges}
+use Rattle.std.proofs.Common.{sym, ◌∙◌}
+use Rattle.spelling.proofs.FieldLaws.{none_announced}
 use Rattle.spelling.proofs.fields.judge_bare.Goals as goal
 
-pub all_bare-good-requires : goal.all_bare-good-requires
-all_bare-good-requires c = c.requires
-
-pub returns : goal.returns
-returns c = let a = c.args in bare_judges a.kind c.requires.3 a.width (take a.count (drop a.from a.values.now)) c.all_bare-good.result c.all_bare-good.ensures
+pub returns-then-all_bare : goal.returns-then-all_bare
+returns-then-all_bare c = let a = c.args in (sym c.all_bare.ensures ∙ c.if-all_bare.true, none_announced a.kind c.requires.2 a.numbers.now)

@@ -1,30 +1,17 @@
--- `values::keyframes::read_interpolations` meets its contract: fields of two bits, if the kind has them.
-use mathlib.Core.Path.{refl, sym, ◌∙◌}
-use native.Mathlib.Omega.{arith}
-use lib.Dec.{lit≤}
-use Rattle.bits.specs.Places.{order_of}
+-- `values::keyframes::read_interpolations` meets its contract: the skip, and then fields of two bits, if the kind has them.
+use Rattle.std.proofs.Common.{sym, ◌∙◌}
 use Rattle.attributes.specs.Rows.{kind_of}
-use Rattle.table.proofs.RunLaws.{align_none, align_never, align_fits}
-use Rattle.values.proofs.ValueLaws.{frames_never, frames_none, frames_some}
+use Rattle.attributes.proofs.ContentLaws.{interpolations_none}
+use Rattle.table.proofs.ReaderLaws.{reads_then}
+use Rattle.values.proofs.ValueLaws.{reads_is, reads_nothing, eases_some, eases_none}
 use Rattle.values.proofs.keyframes.read_interpolations.Goals as goal
 
-pub returns-in_default : goal.returns-in_default
-returns-in_default c =
-    let a = c.args in
-    let r = frames_never (order_of a.order) a.body.now a.table.now a.from a.frames a.at.0 (kind_of a.kind) (align_never (order_of a.order) a.body.now a.at.0 (sym c.align-aligned.ensures ∙ c.in_default.is)) in
-    record { states = r.0; counts = r.1.0; few = r.1.1 }
+pub returns-then-has_interpolations-clause-counts : goal.returns-then-has_interpolations-clause-counts
+returns-then-has_interpolations-clause-counts c = eases_some c.align.ensures c.in_ok-align.was (kind_of c.args.kind) c.args.frames c.fields.result (sym c.if-has_interpolations.true ∙ c.has_interpolations.ensures) c.fields.ensures.counts
 
-pub read_fields-requires : goal.read_fields-requires
-read_fields-requires c = let a = c.args in (align_fits (order_of a.order) a.body.now a.at.0 (sym c.align-aligned.ensures ∙ c.in-Clean.is) c.requires.0, lit≤ tt, lit≤ tt, omega (arith, c.requires.1), refl)
+pub returns-clause-reads : goal.returns-clause-reads
+returns-clause-reads c = let k = kind_of c.args.kind in
+    reads_then _ c.align.ensures c.in_ok-align.was (reads_is (sym (interpolations_none k c.args.frames (sym c.if-has_interpolations.false ∙ c.has_interpolations.ensures))) (reads_nothing c.in_ok-align.ensures.room))
 
-pub returns-then-has_interpolations : goal.returns-then-has_interpolations
-returns-then-has_interpolations c =
-    let a = c.args in
-    let r = frames_some (order_of a.order) a.body.now a.table.now a.from a.frames a.at.0 (kind_of a.kind) (sym c.if-has_interpolations.true ∙ c.has_interpolations.ensures) (align_none (order_of a.order) a.body.now a.at.0 (sym c.align-aligned.ensures ∙ c.in-Clean.is)) c.read_fields.ensures.states (c.read_fields.ensures.counts, c.read_fields.ensures.few) in
-    record { states = r.0; counts = r.1.0; few = r.1.1 }
-
-pub returns : goal.returns
-returns c =
-    let a = c.args in
-    let r = frames_none (order_of a.order) a.body.now a.table.now a.from a.frames a.at.0 (kind_of a.kind) (sym c.if-has_interpolations.false ∙ c.has_interpolations.ensures) (align_none (order_of a.order) a.body.now a.at.0 (sym c.align-aligned.ensures ∙ c.in-Clean.is)) in
-    record { states = r.0; counts = r.1.0; few = r.1.1 }
+pub returns-clause-counts : goal.returns-clause-counts
+returns-clause-counts c = eases_none c.align.ensures c.in_ok-align.was (kind_of c.args.kind) c.args.frames (sym c.if-has_interpolations.false ∙ c.has_interpolations.ensures)

@@ -1,10 +1,9 @@
 -- `write_values::keyframes::write_values_part` meets its contract.
-use Rattle.bits.specs.Places.{order_of}
-use Rattle.sink.specs.Laying.{at}
+use Rattle.std.proofs.Common.{refl}
 use Rattle.format.specs.Bodies.{values}
 use Rattle.attributes.specs.Rows.{kind_of, type_of}
-use Rattle.spelling.proofs.RunLaws.{align_on}
+use Rattle.spelling.proofs.WriteLaws.{writes_then}
 use Rattle.write_values.proofs.keyframes.write_values_part.Goals as goal
 
 pub returns : goal.returns
-returns c = let a = c.args in align_on (order_of a.order) a.values.now (at a.out.now a.sink) a.from c.requires.0.1 c.skip-start.ensures.0 (λ xs. values (kind_of a.kind) (type_of a.what) a.count) c.write_frame_values.ensures
+returns c = writes_then c.skip.ensures.writes (λ xs. values (kind_of c.args.kind) (type_of c.args.what) c.args.count) refl c.write_frame_values.ensures

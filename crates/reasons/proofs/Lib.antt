@@ -1,0 +1,2 @@
+-- What the proofs of the crates above cite.
+pub mod NumberLaws

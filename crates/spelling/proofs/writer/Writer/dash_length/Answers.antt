@@ -1,0 +1,8 @@
+-- `Writer::dash_length` meets its contract.
+use Rattle.bits.specs.Places.{order_of}
+use Rattle.format.specs.Formats.{Item}
+use Rattle.spelling.proofs.FieldLaws.{dash_length_is}
+use Rattle.spelling.proofs.writer.Writer.dash_length.Goals as goal
+
+pub returns-clause-writes : goal.returns-clause-writes
+returns-clause-writes c = c.less_one.ensures.writes Item.dash_length (dash_length_is (order_of c.args.self.now.order))
