@@ -36,7 +36,7 @@ pub struct Lent<'a> {
 
 // After a tag that ends at this place of the room: another tag may follow; it was End. Or it is a container, whose list has the room from the first place up to the second.
 #[derive(Clone, Copy, Debug, PartialEq, Eq)]
-enum Step {
+pub enum Step {
     Next(BytePlace),
     Last(BytePlace),
     Open(BytePlace, BytePlace),

@@ -91,7 +91,7 @@ module _ (b v₀ : List ℕ) (R : List Attribute) where
     pub size : length v ≡ length v₀
     pub same : block high b attrs attrs 0 v₀ ≡ beside c (block high b attrs (attributes_in (drop row R)) row v)
 
-  blocks_on : {v u : List ℕ} {row : ℕ} {c d : Bool} → Blocking v row c → row < length R → length u ≡ length v → left u d ≡ row_of b attrs (attribute_of (row_at R row)) row v
+  pub blocks_on : {v u : List ℕ} {row : ℕ} {c d : Bool} → Blocking v row c → row < length R → length u ≡ length v → left u d ≡ row_of b attrs (attribute_of (row_at R row)) row v
       → Blocking u (row + 1) (c or d)
   blocks_on {v} {u} {row} {c} {d} g h n p = record {
     size = n ∙ g.size;

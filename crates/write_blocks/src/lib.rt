@@ -16,7 +16,7 @@ ghost use Rattle.write_blocks.specs.Filling.{filled, fills, under_flags};
 
 pub mod field;
 
-use crate::field::Flags;
+pub use crate::field::Flags;
 use attributes::{Attribute, Content, Kind};
 use bits::{BytePlace, Order};
 use sink::{Impossible, Sink};
