@@ -11,8 +11,8 @@ use Rattle.table.specs.Readers.{state_of, Reads}
 use Rattle.table.specs.declared.reader.Reader.{Reader}
 
 -- two answers are one if their values are: whether they are refused, and why, is told
-abbrev pub OneIf : {T : Type 0} → Result T Reason → Result T Reason → Type 0
-OneIf {T} r s = ((x y : T) → r ≡ Ok x → s ≡ Ok y → x ≡ y) → r ≡ s
+abbrev pub OneIf : {T E : Type 0} → Result T E → Result T E → Type 0
+OneIf {T} {E} r s = ((x y : T) → r ≡ Ok x → s ≡ Ok y → x ≡ y) → r ≡ s
 
 -- how two readings ended tells that much of their answers, and the place where there is one
 pub ended_one : {T : Type 0} (a b : Reader) (r s : Result T Reason) → (state_of a r).ended ≡ (state_of b s).ended → OneIf r s × IfOk r (λ x. a.place.0 ≡ b.place.0)
