@@ -172,8 +172,8 @@ module _ {A : Type 0} {a b : Reader} {r : Result A Reason} (y : Body) (h : Lays 
       open_stop z d = rw is (record { lays = lays_err (open_lays e k) z d; opened = rw d tt })
 
     module _ {c : Reader} {s : Result Unit Reason} (is : list ≡ false) (k : Lays b c s (end_at (order_of b.order) b.body.now b.place.0)) where
-      pub closed_shows : {u : Unit} → s ≡ Ok u → Shows a c (Ok None) (either list) list
-      closed_shows z = rw is (record { lays = lays_ok (leaf_lays e k) None z; opened = refl })
+      pub closed_shows : {u : Unit} → s ≡ Ok u → c.place.0 ≡ 8 * length c.body.now → Shows a c (Ok None) (either list) list
+      closed_shows z at = rw is (record { lays = lays_ok (leaf_lays e k) None z; opened = (refl, omega (arith, at)) })
 
       pub closed_stop : {t : Result (Option BytePlace) Reason} {n : Reason} → s ≡ Err n → t ≡ Err n → Shows a c t (either list) list
       closed_stop z d = rw is (record { lays = lays_err (leaf_lays e k) z d; opened = rw d tt })
@@ -246,8 +246,8 @@ one_shown {a} {b} {c} {r} {s} {R} {list} h k =
         let d : p.0 ≡ q.0 = omega (arith, h.1, k.1, m) in
         λ i. Ok (Some (record { 0 = d i }))
     go (Ok None) (Ok None) z h k = refl
-    go (Ok (Some p)) (Ok None) z h k = let e : true ≡ false = sym h.0 ∙ k in clash cc
-    go (Ok None) (Ok (Some q)) z h k = let e : true ≡ false = sym k.0 ∙ h in clash cc
+    go (Ok (Some p)) (Ok None) z h k = let e : true ≡ false = sym h.0 ∙ k.0 in clash cc
+    go (Ok None) (Ok (Some q)) z h k = let e : true ≡ false = sym k.0 ∙ h.0 in clash cc
     go (Err x) (Err y) z h k = ap Err (number_one x y (let d : number_of x ≡ number_of y = cc in d))
     go (Ok x) (Err y) z h k = clash cc
     go (Err x) (Ok y) z h k = clash cc
