@@ -104,17 +104,14 @@ kinds_are code n = rw (ne_eqb code 1 n)
     or true is js f g h l = h
     or false is js f g h l = l
 
-pub rows_are : {code : ℕ} {rows : List Item} → (code ≡ 1 → ⊥) → rows ≡ kinds_of code → RowsOf code rows
-rows_are {code} {rows} n e = rw e (record { are = refl; few = (kinds_are code n).0; items = (kinds_are code n).1 })
+-- for the arm of a code that was told
+pub rows_are : {code : ℕ} {rows : List Item} (told : ℕ) → code ≡ told → (code ≡ 1 → ⊥) → rows ≡ kinds_of told → RowsOf code rows
+rows_are told e n h = let k = kinds_are told (rw e at n) in rw (e, h) (record { are = refl; few = k.0; items = k.1 })
 
--- the arm of a code that was told
-pub kinds_told : {code : ℕ} {rows : List Item} (told : ℕ) → code ≡ told → rows ≡ kinds_of told → rows ≡ kinds_of code
-kinds_told told e h = rw e h
-
--- the codes that are not told
-pub kinds_none : {code : ℕ} → (code ≡ 2 → ⊥) → (code ≡ 3 → ⊥) → (code ≡ 5 → ⊥) → (code ≡ 7 → ⊥) → (code ≡ 11 → ⊥) → (code ≡ 12 → ⊥) → [] ≡ kinds_of code
+-- for the codes that are not told
+pub rows_none : {code : ℕ} → (code ≡ 1 → ⊥) → (code ≡ 2 → ⊥) → (code ≡ 3 → ⊥) → (code ≡ 5 → ⊥) → (code ≡ 7 → ⊥) → (code ≡ 11 → ⊥) → (code ≡ 12 → ⊥) → RowsOf code []
 unfolding kinds_of
-kinds_none {code} b c d e f g = rw (ne_eqb code 2 b, ne_eqb code 3 c, ne_eqb code 5 d, ne_eqb code 7 e, ne_eqb code 11 f, ne_eqb code 12 g)
+rows_none {code} a b c d e f g = rows_are code refl a (rw (ne_eqb code 2 b, ne_eqb code 3 c, ne_eqb code 5 d, ne_eqb code 7 e, ne_eqb code 11 f, ne_eqb code 12 g))
 
 -- a code as its items or its rows are read
 pub fixed_fonts : (code : ℕ) → code ≡ 1 → fixed_of code ≡ font_tables
