@@ -17,11 +17,12 @@ use Rattle.std.specs.Prelude.{Result, Ok, Err}
 use Rattle.reasons.specs.declared.Reason.{Reason}
 use Rattle.reasons.specs.Numbers.{number_of}
 use Rattle.reasons.proofs.NumberLaws.{number_one}
+use Rattle.bits.specs.declared.BitPlace.{BitPlace}
 use Rattle.bits.specs.declared.Number.{Number}
 use Rattle.bits.specs.Places.{num_of}
 use Rattle.bits.proofs.FieldLaws.{IsField, map_got, num_one}
 use Rattle.bit_reader.specs.declared.BitReader.{BitReader}
-use Rattle.bit_reader.specs.Fields.{value_of, in_bytes, field_of}
+use Rattle.bit_reader.specs.Fields.{value_of, in_bytes, field_of, Step, step_at}
 use Rattle.bit_reader.specs.Near.{read_field}
 use Rattle.bit_reader.specs.Readers.{at_start, Taken, taken, answer_of, left}
 
@@ -91,6 +92,10 @@ module _ (order : ℕ) (s : Bool) (b : List ℕ) (p n : ℕ) (ordered : order �
 
 pub one_field : (order : ℕ) (s : Bool) (b : List ℕ) (p n : ℕ) (x y : Result Number Reason) → num_of x ≡ field_of order s b p n → num_of y ≡ field_of order s b p n → x ≡ y
 one_field order s b p n = one_answer num_of num_one (field_of order s b p n)
+
+-- the same of a field's answer with the place where a reader then stands
+pub one_step : (order : ℕ) (s : Bool) (b : List ℕ) (at : BitPlace) (n : ℕ) (x y : Step) → x ≡ step_at order s b at n → y ≡ step_at order s b at n → x ≡ y
+one_step order s b at n = one_answer (λ x. x) (λ x y e. e) (step_at order s b at n)
 
 -- the reader and the answer
 pub left_one : (r r' : BitReader) (x y : Result ℕ Reason) → left r x ≡ left r' y → (r ≡ r') × (x ≡ y)

@@ -23,7 +23,7 @@ use Rattle.bits.specs.declared.Number.{Number}
 use Rattle.bits.specs.declared.Order.{Order as Code}
 use Rattle.bits.specs.declared.whole.Whole.{Whole}
 use Rattle.reasons.specs.declared.Reason.{Reason}
-use Rattle.reasons.specs.declared.Reason.TheVariants.{OrderUnknown}
+use Rattle.reasons.specs.declared.Reason.TheVariants.{OrderUnknown, SkippedBitNotZero}
 use Rattle.reasons.specs.Numbers.{number_of}
 use Rattle.reasons.proofs.NumberLaws.{number_one}
 use Rattle.std.specs.Prelude.{Result, Ok, Err}
@@ -311,15 +311,29 @@ aligned_unclean o b p n s e = rw (s, ne_eqb (ub o b p n) 0 e)
 -- and what it tells. A place in the bytes stays in them: omega has that from the last two.
 abbrev pub AlignsTo : Order → List ℕ → ℕ → Result Whole Reason → Type 0
 AlignsTo o b p (Ok w) = (read_align o b p ≡ shows [] w.bit.0) × (p ≤ w.bit.0) × (w.bit.0 < p + 8)
-AlignsTo o b p (Err e) = read_align o b p ≡ stop (number_of e)
+AlignsTo o b p (Err e) = (e ≡ SkippedBitNotZero) × (read_align o b p ≡ stop 15)
 
 pub align_told : (o : Order) (b : List ℕ) (p : ℕ) (a : Result Whole Reason) → aligned_as a ≡ read_align o b p → AlignsTo o b p a
-align_told o b p (Err e) h = sym h
+align_told o b p (Err e) h = go (eqb (ub o b p (skipped p)) 0) refl
+  where
+    go : (t : Bool) → eqb (ub o b p (skipped p)) 0 ≡ t → AlignsTo o b p (Err e)
+    go true t = let z : Ending.Fault (number_of e) ≡ At (p + skipped p) = ap (λ (r : Reading). r.ended) (rw t at h) in clash cc
+    go false t =
+        let z : Ending.Fault (number_of e) ≡ Ending.Fault 15 = ap (λ (r : Reading). r.ended) (rw t at h) in
+        let n : number_of e ≡ 15 = cc in
+        (number_one e SkippedBitNotZero n, rw t)
 align_told o b p (Ok w) h = go (eqb (ub o b p (skipped p)) 0) refl
   where
     go : (t : Bool) → eqb (ub o b p (skipped p)) 0 ≡ t → AlignsTo o b p (Ok w)
     go true t = let k : w.bit.0 ≡ p + skipped p = let z : At w.bit.0 ≡ At (p + skipped p) = ap (λ (r : Reading). r.ended) (rw t at h) in cc in (sym h, omega arith, omega arith)
     go false t = let z : At w.bit.0 ≡ Ending.Fault 15 = ap (λ (r : Reading). r.ended) (rw t at h) in clash cc
+
+-- the two cases, the first with what the type says of both counts
+pub align_clean : (o : Order) (b : List ℕ) (p : ℕ) (w : Whole) → aligned_as (Ok w) ≡ read_align o b p → (read_align o b p ≡ shows [] w.bit.0) × (w.bit.0 ≡ 8 * w.byte.0) × (p ≤ w.bit.0) × (w.bit.0 < p + 8)
+align_clean o b p w h = let f = align_told o b p (Ok w) h in (f.0, w.same, f.1, f.2)
+
+pub align_unclean : (o : Order) (b : List ℕ) (p : ℕ) (e : Reason) → aligned_as (Err e) ≡ read_align o b p → (e ≡ SkippedBitNotZero) × (read_align o b p ≡ stop 15)
+align_unclean o b p e h = align_told o b p (Err e) h
 
 -- ---- the order that a number names: that of the definitions; any other number is above 1
 abbrev pub Named : ℕ → Result Code Reason → Type 0

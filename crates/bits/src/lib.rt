@@ -2,6 +2,7 @@
 #![tactic(auto)]
 
 ghost use Rattle.std.specs.Prelude.{◌≡◌, ◌+◌, ◌*◌, ◌^◌, ◌<◌, slice_index};
+ghost use Rattle.format.specs.Bits.{order_named};
 ghost use Rattle.format.specs.Items.{skipped, read_align};
 ghost use Rattle.bits.specs.Places.{PlaceIn, aligned_as, order_by, order_of};
 
@@ -45,6 +46,17 @@ impl TryFrom<u32> for Order {
             1 => Ok(Order::LowFirst),
             _ => Err(Reason::OrderUnknown),
         }
+    }
+}
+
+// The same order of any number: what is neither 0 nor 1 counts as low first.
+pub fn order_named(number: u32) -> Order
+    ensures { order_of result ≡ order_named number }
+{
+    if number == 0 {
+        Order::HighFirst
+    } else {
+        Order::LowFirst
     }
 }
 

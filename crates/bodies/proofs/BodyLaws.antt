@@ -9,6 +9,7 @@ use lib.Seq.{get_or-take}
 use lib.Dec.{eqb}
 use borrow.Author.Tests.{eq-eqb, ne_eqb}
 use Rattle.std.proofs.Common.{Result, Ok, Err, Option, Some, None}
+use Rattle.std.specs.Prelude.{IfOk}
 use Rattle.format.specs.Tests.{pick}
 use Rattle.format.specs.Bits.{Order as PaperOrder, ub}
 use Rattle.format.specs.Reading.{Ending, At, Fault, Reading, shows, stop, follow}
@@ -29,6 +30,7 @@ use Rattle.table.specs.Readers.{Reads, Same, state_of}
 use Rattle.table.specs.declared.reader.Reader.{Reader}
 use Rattle.table.proofs.EngineLaws.{state, resume, after_follow, after_none, one_stopped}
 use Rattle.table.proofs.ReaderLaws.{reading, same_refl, same_then}
+use Rattle.table.proofs.OneLaws.{ended_one}
 use Rattle.attributes.specs.Rows.{attributes_of}
 use Rattle.attributes.specs.Flags.{flags_as, FlagsRead}
 use Rattle.attributes.proofs.FlagLaws.{digit_at}
@@ -170,8 +172,8 @@ module _ {A : Type 0} {a b : Reader} {r : Result A Reason} (y : Body) (h : Lays 
       open_stop z d = rw is (record { lays = lays_err (open_lays e k) z d; opened = rw d tt })
 
     module _ {c : Reader} {s : Result Unit Reason} (is : list ≡ false) (k : Lays b c s (end_at (order_of b.order) b.body.now b.place.0)) where
-      pub closed_shows : {u : Unit} → s ≡ Ok u → Shows a c (Ok None) (either list) list
-      closed_shows z = rw is (record { lays = lays_ok (leaf_lays e k) None z; opened = refl })
+      pub closed_shows : {u : Unit} → s ≡ Ok u → c.place.0 ≡ 8 * length c.body.now → Shows a c (Ok None) (either list) list
+      closed_shows z at = rw is (record { lays = lays_ok (leaf_lays e k) None z; opened = (refl, omega (arith, at)) })
 
       pub closed_stop : {t : Result (Option BytePlace) Reason} {n : Reason} → s ≡ Err n → t ≡ Err n → Shows a c t (either list) list
       closed_stop z d = rw is (record { lays = lays_err (leaf_lays e k) z d; opened = rw d tt })
@@ -221,11 +223,11 @@ group_list {a} {b} {n} {r} rows count is many h e flags =
     let last : get_or (take count (flags_as n.value)) 8 0 ≡ last_of (read_part o a.body.now group 0).shown = group_last o a.body.now 0 b.place.0 (ap (λ (l : List Attribute). run o a.body.now (all_flags l) 0) (sym is) ∙ flags.0) (ap (λ (l : List Attribute). (read_block o a.body.now l 0).ended) (sym is) ∙ ended) in
     ap (λ (v : ℕ). eqb v 1) (ap last_of (end_shown o a.body.now group) ∙ sym (digit ∙ last))
 
--- ---- no second answer fits a promise on the values of a tag: what was left, seen as a state, tells the table, the index and the answer; with whether a list follows, the place of that
-pub one_laid : {a b c : Reader} {r s : Result Unit Reason} {R : Reading} → Lays a b r R → Lays a c s R → (b.table.now ≡ c.table.now) × (b.index ≡ c.index) × (r ≡ s)
+-- ---- no second answer fits a promise on the values of a tag: what was left, seen as a state, tells the table, the index and the answer, and the place where there is one; with whether a list follows, the place of that
+pub one_laid : {a b c : Reader} {r s : Result Unit Reason} {R : Reading} → Lays a b r R → Lays a c s R → (b.table.now ≡ c.table.now) × (b.index ≡ c.index) × (r ≡ s) × IfOk r (λ x. b.place.0 ≡ c.place.0)
 one_laid {a} {b} {c} {r} {s} h k =
     let e : state_of b r ≡ state_of c s = h.left ∙ sym k.left in
-    (ap (λ (s : State). s.table) e, ap (λ (s : State). s.count) e, go r s (ap (λ (s : State). s.ended) e))
+    (ap (λ (s : State). s.table) e, ap (λ (s : State). s.count) e, go r s (ap (λ (s : State). s.ended) e), (ended_one b c r s (ap (λ (s : State). s.ended) e)).1)
   where
     go : (r s : Result Unit Reason) → (state_of b r).ended ≡ (state_of c s).ended → r ≡ s
     go (Ok x) (Ok y) z = refl
@@ -233,10 +235,10 @@ one_laid {a} {b} {c} {r} {s} h k =
     go (Ok x) (Err y) z = clash cc
     go (Err x) (Ok y) z = clash cc
 
-pub one_shown : {a b c : Reader} {r s : Result (Option BytePlace) Reason} {R : Reading} {list : Bool} → Shows a b r R list → Shows a c s R list → (b.table.now ≡ c.table.now) × (b.index ≡ c.index) × (r ≡ s)
+pub one_shown : {a b c : Reader} {r s : Result (Option BytePlace) Reason} {R : Reading} {list : Bool} → Shows a b r R list → Shows a c s R list → (b.table.now ≡ c.table.now) × (b.index ≡ c.index) × (r ≡ s) × IfOk r (λ x. b.place.0 ≡ c.place.0)
 one_shown {a} {b} {c} {r} {s} {R} {list} h k =
     let e : state_of b r ≡ state_of c s = h.lays.left ∙ sym k.lays.left in
-    (ap (λ (s : State). s.table) e, ap (λ (s : State). s.count) e, go r s (ap (λ (s : State). s.ended) e) h.opened k.opened)
+    (ap (λ (s : State). s.table) e, ap (λ (s : State). s.count) e, go r s (ap (λ (s : State). s.ended) e) h.opened k.opened, (ended_one b c r s (ap (λ (s : State). s.ended) e)).1)
   where
     go : (r s : Result (Option BytePlace) Reason) → (state_of b r).ended ≡ (state_of c s).ended → Opens list b.place.0 r → Opens list c.place.0 s → r ≡ s
     go (Ok (Some p)) (Ok (Some q)) z h k =
@@ -244,8 +246,8 @@ one_shown {a} {b} {c} {r} {s} {R} {list} h k =
         let d : p.0 ≡ q.0 = omega (arith, h.1, k.1, m) in
         λ i. Ok (Some (record { 0 = d i }))
     go (Ok None) (Ok None) z h k = refl
-    go (Ok (Some p)) (Ok None) z h k = let e : true ≡ false = sym h.0 ∙ k in clash cc
-    go (Ok None) (Ok (Some q)) z h k = let e : true ≡ false = sym k.0 ∙ h in clash cc
+    go (Ok (Some p)) (Ok None) z h k = let e : true ≡ false = sym h.0 ∙ k.0 in clash cc
+    go (Ok None) (Ok (Some q)) z h k = let e : true ≡ false = sym k.0 ∙ h.0 in clash cc
     go (Err x) (Err y) z h k = ap Err (number_one x y (let d : number_of x ≡ number_of y = cc in d))
     go (Ok x) (Err y) z h k = clash cc
     go (Err x) (Ok y) z h k = clash cc

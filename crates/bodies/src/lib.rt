@@ -45,7 +45,8 @@ fn to_byte(reader: &mut Reader<'_>) -> Result<BytePlace, Reason>
 
 // After the items of a body: zero bits up to a whole byte (15), and nothing more (18).
 fn end_body(reader: &mut Reader<'_>) -> Result<(), Reason>
-    ensures { Lays reader.old reader.new result (used_up (8 * length reader.old.body.now) (read_align (order_of reader.old.order) reader.old.body.now reader.old.place.0).shown (read_align (order_of reader.old.order) reader.old.body.now reader.old.place.0).ended) }
+    ensures lays { Lays reader.old reader.new result (used_up (8 * length reader.old.body.now) (read_align (order_of reader.old.order) reader.old.body.now reader.old.place.0).shown (read_align (order_of reader.old.order) reader.old.body.now reader.old.place.0).ended) }
+    ensures byte { IfOk result (λ _. reader.new.place.0 ≡ 8 * length reader.new.body.now) }
 {
     let end = to_byte(reader)?;
     if end.0 == reader.body.len() {
@@ -58,7 +59,8 @@ fn end_body(reader: &mut Reader<'_>) -> Result<(), Reason>
 // The body of a leaf tag, an attribute block or another: its items, zero bits up to a whole byte (15), and nothing more (18).
 pub fn read_leaf(reader: &mut Reader<'_>, block: bool, code: u32) -> Result<(), Reason>
     requires { Starts reader.old }
-    ensures { Lays reader.old reader.new result (read_body (order_of reader.old.order) (body_by block code) reader.old.body.now) }
+    ensures lays { Lays reader.old reader.new result (read_body (order_of reader.old.order) (body_by block code) reader.old.body.now) }
+    ensures byte { IfOk result (λ _. reader.new.place.0 ≡ 8 * length reader.new.body.now) }
 {
     read_part(reader, block, code)?;
     end_body(reader)
@@ -67,7 +69,8 @@ pub fn read_leaf(reader: &mut Reader<'_>, block: bool, code: u32) -> Result<(), 
 // The same, by its code alone.
 pub fn read_body(reader: &mut Reader<'_>, code: u32) -> Result<(), Reason>
     requires { Starts reader.old }
-    ensures { Lays reader.old reader.new result (read_body (order_of reader.old.order) (leaf_body code) reader.old.body.now) }
+    ensures lays { Lays reader.old reader.new result (read_body (order_of reader.old.order) (leaf_body code) reader.old.body.now) }
+    ensures byte { IfOk result (λ _. reader.new.place.0 ≡ 8 * length reader.new.body.now) }
 {
     read_leaf(reader, is_block(code), code)
 }

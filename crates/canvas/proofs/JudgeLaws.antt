@@ -1,5 +1,5 @@
 -- One tag: its values, and what its header and they tell.
-use Prim.Native.Nat.{ℕ, ◌+◌, ◌-◌, ◌/◌, ◌≤◌, ◌<◌, ◌^◌}
+use Prim.Native.Nat.{ℕ, ◌+◌, ◌-◌, ◌*◌, ◌/◌, ◌≤◌, ◌<◌, ◌^◌}
 use mathlib.Core.List.{List}
 use mathlib.Core.Path.{◌≡◌, refl, ap, sym, subst, ◌∙◌}
 use mathlib.Core.Bool.{Bool, true, false}
@@ -36,7 +36,7 @@ valued {a} {b} {y} {R} {list} s = go y (ap (λ (z : State). z.ended) s.lays.left
   where
     go : (y : Result (Option BytePlace) Reason) → ending_of b.place y ≡ R.ended → Opens list b.place.0 y → Valued R.ended list y
     go (Ok (Some q)) e v = subst (λ (z : Ending). Valued z list (Ok (Some q))) e v
-    go (Ok None) e v = subst (λ (z : Ending). Valued z list (Ok None)) e v
+    go (Ok None) e v = subst (λ (z : Ending). Valued z list (Ok None)) e v.0
     go (Err x) e v = subst (λ (z : Ending). Valued z list (Err x)) e refl
 
 -- by the class that a `match` tells
@@ -57,8 +57,8 @@ module _ {a b : Reader} {y : Result (Unit {0}) Reason} (code : ℕ) (class : Cla
       go (inl e) = valued_told (order_of a.order) a.body.now code z Fixed e (subst (λ (b : Bool). Valued (read_body (order_of a.order) (body_by b code) a.body.now).ended false z) (fixed_so e) v)
       go (inr e) = valued_told (order_of a.order) a.body.now code z Attributes e (subst (λ (b : Bool). Valued (read_body (order_of a.order) (body_by b code) a.body.now).ended false z) (attributes_so e) v)
 
-  pub leaf_ok : {x : Unit {0}} → y ≡ Ok x → V (Ok None)
-  leaf_ok q = leaf_valued (Ok None) (valued (leaf_shown laid q))
+  pub leaf_ok : {x : Unit {0}} → y ≡ Ok x → b.place.0 ≡ 8 * length b.body.now → V (Ok None)
+  leaf_ok q at = leaf_valued (Ok None) (valued (leaf_shown laid q at))
 
   pub leaf_err : {e : Reason} {z : Result (Option BytePlace) Reason} → y ≡ Err e → z ≡ Err e → V z
   leaf_err {e} {z} q w = leaf_valued z (valued (leaf_refused laid q w))

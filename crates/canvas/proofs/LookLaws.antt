@@ -158,7 +158,7 @@ module _ (o : Order) (cs : List Class) (depths : ℕ) (own : paper.Owner) (a : �
   inner i l p = walk_list o (classes_in cs) (pred depths) (paper.inside (a + i)) (a + l) (piece l p r)
 
   -- what a good tag at i says of the rest of the list
-  abbrev Told : ℕ → Judged → Type 0
+  abbrev pub Told : ℕ → Judged → Type 0
   Told i (judged.Canvas b) =
       Stands o a r (a + b.start.0) (a + b.stop.0)
       × (canvas_of (from i) ≡ canvas (found (read_body o (fixed composition_attributes) (body_at a r (a + b.start.0) (a + b.stop.0))).shown) 1)
@@ -357,7 +357,7 @@ module _ (o : Order) (cs : List Class) (depths : ℕ) (own : paper.Owner) (a : �
     abbrev C : Class
     C = class_in cs (le16 (drop i r) / 64)
 
-    tells : Tells i (judged_in o cs depths r i).passed (judged_in o cs depths r i).judged
+    pub tells : Tells i (judged_in o cs depths r i).passed (judged_in o cs depths r i).judged
     tells =
         let f : read_head (classes_in cs) depths (drop i r) ≡ head_by C depths (drop i r) = head_by_lem (classes_in cs) depths (drop i r) C (with_named C (le16 (drop i r) / 64)).0 (with_named C (le16 (drop i r) / 64)).1 in
         subst (λ (j : Judgement). Tells i j.passed j.judged) (ap (judged_at o C r i) f) (go (read_head (classes_in cs) depths (drop i r)) refl)
@@ -509,7 +509,7 @@ module _ (o : Order) (cs : List Class) (depths : ℕ) (own : paper.Owner) (a : �
           counts = omega (arith, inner_looks.headers, (good is).0)
 
           -- it is whole
-          open_next : x ≡ Ok None → (i < p) × G p h''
+          pub open_next : x ≡ Ok None → (i < p) × G p h''
           open_next e =
               let s : (canvas_of (inner i l p)).seen ≡ none = sees_as e in
               let n : g.passed + (1 + (k + (canvas_of (from p)).headers)) ≡ g.passed + 1 + k + (canvas_of (from p)).headers = omega arith in (

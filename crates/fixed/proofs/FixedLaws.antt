@@ -31,7 +31,7 @@ use Rattle.table.specs.Readers.{Reads, state_of}
 use Rattle.table.specs.declared.reader.Reader.{Reader}
 use Rattle.table.proofs.ReaderLaws.{reading}
 use Rattle.table.proofs.EngineLaws.{Alike, alike_nothing, alike_assoc, alike_after}
-use Rattle.fixed.specs.Fixed.{in_order, fixed_of, RowsOf}
+use Rattle.fixed.specs.Fixed.{in_order, kinds_of, fixed_of, RowsOf}
 
 -- ---- every number takes a bit at least
 
@@ -82,16 +82,36 @@ pub items_12 : Alike (in_order (U32 ∷ Time ∷ [])) composition_reference
 unfolding in_order
 items_12 = alike_after u32 (time ▸ nothing) time (alike_nothing time)
 
+-- by the code
+abbrev Few : List Item → Format → Type 0
+Few is f = (length is ≤ 18) × Alike (in_order is) f
+
+few_none : Few [] nothing
+unfolding in_order
+few_none = (omega arith, λ o b p. refl)
+
+kinds_are : (code : ℕ) → (code ≡ 1 → ⊥) → Few (kinds_of code) (fixed_of code)
+unfolding kinds_of fixed_of
+kinds_are code n = rw (ne_eqb code 1 n)
+    (or (eqb code 2) (U32 ∷ []) _ vector_composition _ (omega arith, items_2)
+    (or (eqb code 3) (I32 ∷ I32 ∷ Time ∷ Float ∷ Byte ∷ Byte ∷ Byte ∷ []) _ composition_attributes _ (omega arith, items_3)
+    (or (eqb code 5) (Byte ∷ U32 ∷ []) _ layer_block _ (omega arith, items_5)
+    (or (eqb code 7) (Byte ∷ Byte ∷ Byte ∷ I32 ∷ I32 ∷ []) _ solid_color _ (omega arith, items_7)
+    (or (eqb code 11) (U32 ∷ []) _ image_reference _ (omega arith, items_11)
+    (or (eqb code 12) (U32 ∷ Time ∷ []) [] composition_reference nothing (omega arith, items_12) few_none))))))
+  where
+    or : (c : Bool) (is js : List Item) (f g : Format) → Few is f → Few js g → Few (pick c is js) (pick c f g)
+    or true is js f g h l = h
+    or false is js f g h l = l
+
 -- for the arm of a code that was told
-pub rows_are : {code : ℕ} {rows : List Item} (told : ℕ) → code ≡ told → Alike (in_order rows) (fixed_of told) → RowsOf code rows
-rows_are told e h = record { items = λ q b p. rw e (h q b p) }
+pub rows_are : {code : ℕ} {rows : List Item} (told : ℕ) → code ≡ told → (code ≡ 1 → ⊥) → rows ≡ kinds_of told → RowsOf code rows
+rows_are told e n h = let k = kinds_are told (rw e at n) in rw (e, h) (record { are = refl; few = k.0; items = k.1 })
 
 -- for the codes that are not told
 pub rows_none : {code : ℕ} → (code ≡ 1 → ⊥) → (code ≡ 2 → ⊥) → (code ≡ 3 → ⊥) → (code ≡ 5 → ⊥) → (code ≡ 7 → ⊥) → (code ≡ 11 → ⊥) → (code ≡ 12 → ⊥) → RowsOf code []
-unfolding fixed_of in_order
-rows_none {code} a b c d e f g = record {
-  items = λ q bytes p. rw (ne_eqb code 1 a, ne_eqb code 2 b, ne_eqb code 3 c, ne_eqb code 5 d, ne_eqb code 7 e, ne_eqb code 11 f, ne_eqb code 12 g);
-}
+unfolding kinds_of
+rows_none {code} a b c d e f g = rows_are code refl a (rw (ne_eqb code 2 b, ne_eqb code 3 c, ne_eqb code 5 d, ne_eqb code 7 e, ne_eqb code 11 f, ne_eqb code 12 g))
 
 -- a code as its items or its rows are read
 pub fixed_fonts : (code : ℕ) → code ≡ 1 → fixed_of code ≡ font_tables

@@ -1,20 +1,21 @@
 // Bodies that are no attribute blocks: their items as constant rows, walked by one reader; and font tables.
 #![tactic(auto)]
 
-ghost use Rattle.std.specs.Prelude.{◌≡◌};
+ghost use Rattle.std.specs.Prelude.{◌≡◌, get_or};
 ghost use Rattle.format.specs.Bodies.{font_tables};
 ghost use Rattle.table.specs.Readers.{Reads, Room};
-ghost use Rattle.fixed.specs.Fixed.{in_order, fixed_of, RowsOf};
+ghost use Rattle.fixed.specs.Fixed.{in_order, all_items, fixed_of, RowsOf};
+ghost use Rattle.items.specs.declared.Item.TheVariants.{U32};
 
 use items::Item;
 use reasons::Reason;
 use table::{Reader, Text};
 
-// 2: id
-const VECTOR_COMPOSITION: [Item; 1] = [Item::U32];
-
-// 3: width, height, Time, Float, Color
-const COMPOSITION_ATTRIBUTES: [Item; 7] = [
+// The items of all these bodies, one after the other.
+const ITEMS: [Item; 18] = [
+    // 2: id
+    Item::U32,
+    // 3: width, height, Time, Float, Color
     Item::I32,
     Item::I32,
     Item::Time,
@@ -22,19 +23,28 @@ const COMPOSITION_ATTRIBUTES: [Item; 7] = [
     Item::Byte,
     Item::Byte,
     Item::Byte,
+    // 5: type, id
+    Item::Byte,
+    Item::U32,
+    // 7: Color, width, height
+    Item::Byte,
+    Item::Byte,
+    Item::Byte,
+    Item::I32,
+    Item::I32,
+    // 11: id
+    Item::U32,
+    // 12: id, Time
+    Item::U32,
+    Item::Time,
 ];
 
-// 5: type, id
-const LAYER_BLOCK: [Item; 2] = [Item::Byte, Item::U32];
-
-// 7: Color, width, height
-const SOLID_COLOR: [Item; 5] = [Item::Byte, Item::Byte, Item::Byte, Item::I32, Item::I32];
-
-// 11: id
-const IMAGE_REFERENCE: [Item; 1] = [Item::U32];
-
-// 12: id, Time
-const COMPOSITION_REFERENCE: [Item; 2] = [Item::U32, Item::Time];
+// The item in a row of all of them; past their end it is a U32.
+pub fn item_at(row: usize) -> Item
+    ensures { result ≡ get_or all_items row U32 }
+{
+    ITEMS.get(row).copied().unwrap_or(Item::U32)
+}
 
 // The rows of a code other than 1: those of a container stand before its list; a code that has no items has no rows.
 pub fn rows_of(code: u32) -> &'static [Item]
@@ -42,12 +52,12 @@ pub fn rows_of(code: u32) -> &'static [Item]
     ensures { RowsOf code result.now }
 {
     match code {
-        2 => &VECTOR_COMPOSITION,
-        3 => &COMPOSITION_ATTRIBUTES,
-        5 => &LAYER_BLOCK,
-        7 => &SOLID_COLOR,
-        11 => &IMAGE_REFERENCE,
-        12 => &COMPOSITION_REFERENCE,
+        2 => &ITEMS[..1],
+        3 => &ITEMS[1..8],
+        5 => &ITEMS[8..10],
+        7 => &ITEMS[10..15],
+        11 => &ITEMS[15..16],
+        12 => &ITEMS[16..],
         _ => &[],
     }
 }

@@ -6,7 +6,7 @@ use mathlib.Core.Path.{◌≡◌, ◌∙◌, refl, ap, sym, subst}
 use native.Mathlib.Omega.{arith}
 use lib.ListN.{length, get_or, drop, length-drop}
 use lib.Dec.{ltb, eqb}
-use borrow.Author.Tests.{ne_eqb}
+use borrow.Author.Tests.{eq-eqb, ne_eqb}
 use Rattle.std.proofs.Common.{Result, Ok, Err}
 use Rattle.format.specs.Tests.{pick, ◌and◌}
 use Rattle.format.specs.FileAndTags as paper
@@ -46,22 +46,27 @@ stands_at_lem s i H at =
     record { raw = sym at; inside = omega (arith, u.1, length-drop i s); coded = u.2 }
 
 -- ---- Whether a header passes, by the name of its class.
-module _ (class : Class) (left : ℕ) (s : List ℕ) (i : ℕ) {H : Header} {rest : ℕ} (at : StandsAt s i H) (follow : rest ≡ length s - (i + H.size)) where
+module _ (class : Class) (left : ℕ) (s : List ℕ) (i : ℕ) {H : Header} {rest e : ℕ} (at : StandsAt s i H) (follow : rest ≡ length s - (i + H.size)) (fault : e ≡ fault_by class left rest H.length) where
   rests : length (drop H.size (drop i s)) ≡ rest
   rests = rw (length-drop, length-drop) (omega (arith, follow))
 
-  judged : (e : ℕ) → e ≡ fault_by class left rest H.length → (a b c : Bool) → ltb rest H.length ≡ a → (ends class and ltb 0 H.length) ≡ b → (contains class and eqb left 0) ≡ c
+  judged : (a b c : Bool) → ltb rest H.length ≡ a → (ends class and ltb 0 H.length) ≡ b → (contains class and eqb left 0) ≡ c
       → head_by class left (drop i s) ≡ pick (eqb e 0) (as_head (Ok H)) (no_head e)
-  judged e f true b c p q r = rw (at.raw, rests, f, p)
-  judged e f false true c p q r = rw (at.raw, rests, f, p, q)
-  judged e f false false true p q r = rw (at.raw, rests, f, p, q, r)
-  judged e f false false false p q r = rw (at.raw, rests, f, p, q, r)
+  judged true b c p q r = rw (at.raw, rests, fault, p)
+  judged false true c p q r = rw (at.raw, rests, fault, p, q)
+  judged false false true p q r = rw (at.raw, rests, fault, p, q, r)
+  judged false false false p q r = rw (at.raw, rests, fault, p, q, r)
 
-  pub head_passes : 0 ≡ fault_by class left rest H.length → head_by class left (drop i s) ≡ as_head (Ok H)
-  head_passes f = judged 0 f _ _ _ refl refl refl
+  pub head_passes : e ≡ 0 → head_by class left (drop i s) ≡ as_head (Ok H)
+  head_passes z = judged _ _ _ refl refl refl ∙ rw (eq-eqb e 0 z)
 
-  pub head_fails : (r : Reason) → number_of r ≡ fault_by class left rest H.length → head_by class left (drop i s) ≡ no_head (number_of r)
-  head_fails r f = judged (number_of r) f _ _ _ refl refl refl ∙ rw (ne_eqb (number_of r) 0 (above_0 r))
+  pub head_fails : (e ≡ 0 → ⊥) → head_by class left (drop i s) ≡ no_head e
+  head_fails z = judged _ _ _ refl refl refl ∙ rw (ne_eqb e 0 z)
+
+-- the same of a refusal by its name
+pub head_refused : (class : Class) (left : ℕ) (s : List ℕ) (i : ℕ) {H : Header} {rest : ℕ} → StandsAt s i H → rest ≡ length s - (i + H.size) → (r : Reason) → number_of r ≡ fault_by class left rest H.length
+    → head_by class left (drop i s) ≡ no_head (number_of r)
+head_refused class left s i at follow r f = head_fails class left s i at follow f (above_0 r)
 
 pub head_none : (left : ℕ) (r : List ℕ) (e : Reason) (class : Class) → as_head (Err e) ≡ raw_head r → head_by class left r ≡ no_head (number_of e)
 head_none left r e class at = rw (sym at)

@@ -6,10 +6,8 @@ ghost use Rattle.listing.specs.Listing.{refusal, too_long};
 ghost use Rattle.listing.specs.Steps.{laid, lays, ender, byte_fields, first_step, after_head, head_step, value_step, step, part_of, part_leaves, text_over};
 ghost use Rattle.listing.specs.Texts.{Adds, Takes};
 ghost use Rattle.format.specs.TableOfNumbers.{eight_of};
-ghost use Rattle.reasons.specs.Numbers.{number_of};
 
 use fields::Text;
-use reasons::Reason;
 
 pub mod fields;
 
@@ -196,12 +194,12 @@ impl Tables<'_> {
 }
 
 // The line of a refusal.
-pub fn put_refusal(reason: Reason, number: u64, out: &mut [u8; 64]) -> usize
-    ensures { (laid out.new result ≡ lays out.old 0 (refusal (number_of reason) number)) × (result ≤ 64) }
+pub fn put_refusal(reason: u32, number: u64, out: &mut [u8; 64]) -> usize
+    ensures { (laid out.new result ≡ lays out.old 0 (refusal reason number)) × (result ≤ 64) }
 {
     let mut text = Text { out, used: 0 };
     text.word(b"refused\t");
-    text.field(u64::from(u32::from(reason)), b'\t');
+    text.field(u64::from(reason), b'\t');
     text.field(number, b'\n');
     text.used
 }

@@ -111,7 +111,7 @@ module _ (o : Order) (class : Class) (depths a : ℕ) (r : List ℕ) (i : ℕ) (
     opens_is e = subst (Opens (list_of o class code whole) B.place.0) e ran_is.opened
 
     pub tag_shown_lem : R ≡ Ok None → stepped B.table.now g' (step_with B.index (next_by class (byte_at stop))) ≡ tag_at o class depths a r i t k g m (paper.head code len size)
-    tag_shown_lem e = tag_done (rw (e, opens_is e))
+    tag_shown_lem e = let l = (opens_is e).0 in tag_done (rw (e, l))
 
     pub tag_open : {p : BytePlace} → R ≡ Ok (Some p) → stepped B.table.now g' (step.Open (record { list = byte_at (start + p.0); stop = byte_at stop; behind = B.index })) ≡ tag_at o class depths a r i t k g m (paper.head code len size)
     tag_open {p} e =

@@ -36,21 +36,28 @@ pub struct Lent<'a> {
 
 // After a tag that ends at this place of the room: another tag may follow; it was End. Or it is a container, whose list has the room from the first place up to the second.
 #[derive(Clone, Copy, Debug, PartialEq, Eq)]
-enum Step {
+pub enum Step {
     Next(BytePlace),
     Last(BytePlace),
     Open(BytePlace, BytePlace),
 }
 
+// The second number of 7 and 11: the container's place; at depth 0 the place where it happened.
+pub fn blame(owner: Option<BytePlace>, place: BytePlace) -> BytePlace
+    ensures { result.0 ≡ blame_of (owner_of owner) place.0 }
+{
+    owner.unwrap_or(place)
+}
+
 impl TagList<'_> {
-    // 7 and 11, at a place of the room: their second number is the container's place; at depth 0 the place where it happened.
+    // 7 and 11, at a place of the room.
     pub fn refuses(&self, why: Reason, place: usize) -> Fault
         requires { place ≤ length self.now.room.now }
         ensures { (result.why ≡ why) × (result.place.0 ≡ blame_of (owner_of self.now.owner) (self.now.at.0 + place)) }
     {
         Fault {
             why,
-            place: self.owner.unwrap_or(BytePlace(self.at.0 + place)),
+            place: blame(self.owner, BytePlace(self.at.0 + place)),
         }
     }
 

@@ -50,7 +50,7 @@ module _ (o : Order) (b : List ℕ) (J : Judged o b) (R : List Attribute) (is : 
   unfolding attributes_of
   mask_is = is
 
-  six : length R ≡ 6
+  pub six : length R ≡ 6
   six = sym (rows_many R) ∙ ap length mask_is
 
   pub four_rows : length (take 4 R) ≡ 4

@@ -76,7 +76,7 @@ fn main(rt: HostRuntime) {
             Ok(Some(count)) => {
                 let added = tally::add(tally, LEVEL, HIGH_FIRST, &file[..count]);
                 if let Answer::Refused(why, number) = added.answer {
-                    printing::print_refusal(&rt, why, number);
+                    printing::print_refusal(&rt, u32::from(why), number);
                     return;
                 }
                 tally = added.tally;

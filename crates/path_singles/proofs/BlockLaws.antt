@@ -71,7 +71,7 @@ module _ (R : List Attribute) (b : List ℕ) {row : ℕ} (l : row ≤ length R) 
 
 -- ---- the loop: the whole from the start is what is left from here, beside what was beyond so far
 -- the attribute a of the block attrs, of number i: its coordinates, if it is a path
-unfoldable row_of : List ℕ → List bodies.Attribute → bodies.Attribute → ℕ → List ℕ → Singled
+unfoldable pub row_of : List ℕ → List bodies.Attribute → bodies.Attribute → ℕ → List ℕ → Singled
 row_of b attrs a i v = pick (is_path a) (behind_flag (length (earlier high b attrs i)) v) (plain v)
 
 row_then : (b : List ℕ) (attrs : List bodies.Attribute) (a : bodies.Attribute) (more : List bodies.Attribute) (i : ℕ) (v : List ℕ) → block high b attrs (a ∷ more) i v ≡ onward (row_of b attrs a i v) (block high b attrs more (suc i))
@@ -91,7 +91,7 @@ module _ (b v₀ : List ℕ) (R : List Attribute) where
     pub size : length v ≡ length v₀
     pub same : block high b attrs attrs 0 v₀ ≡ beside c (block high b attrs (attributes_in (drop row R)) row v)
 
-  blocks_on : {v u : List ℕ} {row : ℕ} {c d : Bool} → Blocking v row c → row < length R → length u ≡ length v → left u d ≡ row_of b attrs (attribute_of (row_at R row)) row v
+  pub blocks_on : {v u : List ℕ} {row : ℕ} {c d : Bool} → Blocking v row c → row < length R → length u ≡ length v → left u d ≡ row_of b attrs (attribute_of (row_at R row)) row v
       → Blocking u (row + 1) (c or d)
   blocks_on {v} {u} {row} {c} {d} g h n p = record {
     size = n ∙ g.size;

@@ -60,9 +60,9 @@ fn count_coordinates(verbs: &[u64]) -> u64
 
 // After a path: the index behind it, and whether one of its coordinates is beyond.
 #[derive(Clone, Copy, Debug, PartialEq, Eq)]
-struct Path {
-    behind: usize,
-    beyond: bool,
+pub struct Path {
+    pub behind: usize,
+    pub beyond: bool,
 }
 
 // The path at an index: verb count, verbs, width, coordinates.

@@ -9,7 +9,6 @@ ghost use Rattle.printing.specs.Singles.{singles_left};
 
 use answers::Answer;
 use listing::{Cursor, Tables};
-use reasons::Reason;
 use std::io;
 use std::io::{ErrorKind, Read};
 
@@ -43,7 +42,7 @@ pub fn write(rt: &(impl Print + Eprint), text: &[u8]) -> io::Result<()> {
 }
 
 // The line of a refusal. What cannot be written was said, and nothing follows.
-pub fn print_refusal(rt: &(impl Print + Eprint), reason: Reason, number: u64) {
+pub fn print_refusal(rt: &(impl Print + Eprint), reason: u32, number: u64) {
     let mut line = [0u8; 64];
     let count = listing::put_refusal(reason, number, &mut line);
     let _ = write(rt, &line[..count]);
@@ -104,7 +103,7 @@ pub fn print_tables(
             print_listing(rt, file, table, &rows[..row_count as usize]);
         }
         (Answer::Refused(reason, number), _) | (_, Answer::Refused(reason, number)) => {
-            print_refusal(rt, reason, number);
+            print_refusal(rt, u32::from(reason), number);
         }
     }
 }
@@ -115,7 +114,7 @@ fn print_converted(rt: &(impl Print + Eprint), file: &[u8], table: &mut [u64], r
     ensures { table.new ≡ table_of file.now (in_singles file.now (walk_file 0 1023 file.now)) }
 {
     match path_singles::tags::convert(file, rows, table) {
-        Answer::Refused(reason, number) => print_refusal(rt, reason, number),
+        Answer::Refused(reason, number) => print_refusal(rt, u32::from(reason), number),
         Answer::Accepted(_) => print_listing(rt, file, table, rows),
     }
 }
@@ -134,7 +133,7 @@ pub fn print_singles(rt: &(impl Print + Eprint), file: &[u8], table: &mut [u64],
             print_converted(rt, file, table, &rows[..row_count as usize]);
         }
         (Answer::Refused(reason, number), _) | (_, Answer::Refused(reason, number)) => {
-            print_refusal(rt, reason, number);
+            print_refusal(rt, u32::from(reason), number);
         }
     }
 }

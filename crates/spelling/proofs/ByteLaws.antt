@@ -75,7 +75,7 @@ module _ (o : Order) (kind : Item) (t out : List ℕ) (at k : ℕ) where
         go false e = let m : this (here (mk u (8 * p) 0) (k + 1)) ≡ cannot = told ∙ sym (next_none (ltb-false k (length t) e)) in clash cc
 
     -- and of what follows it
-    next_on : (rest : Format) → ran o t st k (format_of kind ▸ rest) ≡ ran o t (mk u (8 * p) 0) (k + 1) rest
+    pub next_on : (rest : Format) → ran o t st k (format_of kind ▸ rest) ≡ ran o t (mk u (8 * p) 0) (k + 1) rest
     next_on rest = ran_then o t st k (format_of kind) (λ xs. rest) ∙ ap (resume o t k (λ xs. rest)) (sym told)
 
 -- ---- of n items from index k on the one behind i others: no file has it, and so none of the rest; or the rest goes on behind it

@@ -1,5 +1,6 @@
 -- Fields, widths and runs of fields, written.
-use Rattle.std.proofs.Common.{◌≡◌, ℕ, zero, suc, pred, ◌+◌, ◌-◌, ◌*◌, ◌/◌, ◌%◌, ◌^◌, ◌<◌, ◌≤◌, Bool, true, false, not, eqb, ltb, leb, List, [], ◌∷◌, ◌++◌, length, get_or, take, drop, sym, refl, ap, ◌∙◌, subst, add-zero, mod-lt, mod-eq_of_lt, suc-mul, mul_comm, mul-pos, pow-suc, add-one, arith, length-append, length-take, drop-cons, drop_of_length-le, take_all, pow_pos, ltb-false, ltb-true, le-ltb, lt-ltb, eq-eqb, ne_eqb, eqb-true}
+use Rattle.std.proofs.Common.{◌≡◌, ℕ, zero, suc, pred, ◌+◌, ◌-◌, ◌*◌, ◌/◌, ◌%◌, ◌^◌, ◌<◌, ◌≤◌, Bool, true, false, not, eqb, ltb, leb, List, [], ◌∷◌, ◌++◌, length, get_or, take, drop, sym, refl, ap, ◌∙◌, subst, add-zero, mod-lt, mod-eq_of_lt, suc-mul, mul_comm, mul-pos, pow-suc, add-one, arith, min, length-append, length-drop, length-take, drop-cons, drop_of_length-le, take_all, pow_pos, leb-false, leb-true, ltb-false, ltb-true, le-ltb, lt-ltb, eq-eqb, ne_eqb, eqb-true}
+use Rattle.std.proofs.lemmas.List.{take_rest}
 use lib.Pow.{pow-lt, high_ones, low as lo}
 use borrow.Author.Tests.{not-true, not-false}
 use Rattle.format.specs.Tests.{pick}
@@ -205,6 +206,18 @@ behind_more vs i h = rw (drop-cons vs i 0 h, add-one)
 behind_all : (vs : List ℕ) (i : ℕ) → length vs ≤ i → drop i vs ≡ []
 behind_all vs i h = drop_of_length-le vs {i = i} h
 
+-- those from index k on; behind the last one none is left
+module _ (vs : List ℕ) (k m : ℕ) (e : m ≡ min k (length vs)) where
+  pub left_are : take (length vs - m) (drop m vs) ≡ drop k vs
+  left_are = take_rest vs m ∙ go (leb k (length vs)) refl
+    where
+      go : (c : Bool) → leb k (length vs) ≡ c → drop m vs ≡ drop k vs
+      go true q = let z : m ≡ k = omega (arith, e, leb-true k (length vs) q) in rw z
+      go false q = behind_all vs m (omega (arith, e, leb-false k (length vs) q)) ∙ sym (behind_all vs k (omega (arith, leb-false k (length vs) q)))
+
+  pub left_count : length (take (length vs - m) (drop m vs)) ≡ length vs - k
+  left_count = ap length left_are ∙ length-drop k vs
+
 -- ---- numbers are judged: of the first i each is a field
 pub record Judging (f : Field) (w : ℕ) (vs : List ℕ) (i : ℕ) : Type 0 where
   pub rest : all_fields f w vs ≡ all_fields f w (drop i vs)
@@ -383,15 +396,16 @@ fields_run o f w t few (suc n) k st l = go (is_field f w (get_or t k 0)) refl (f
     go false e more =
         times_bad o (field_of f w) (field_bits o f w) (field_is o f w) t st k (suc n) (omega arith) (omega arith) (field_bits_lem o f w st.place (get_or t k 0) (λ z. few) e) ∙ rw (one, e)
 
-module _ (o : Order) (f : Field) (w : ℕ) (t : List ℕ) (st : State) (k n : ℕ) (few : w ≤ 32) (inside : n ≤ length t - k) {j : ℕ} (size : j ≡ n) where
-  pub fields_no : all_fields f w (take j (drop k t)) ≡ false → cannot ≡ ran o t st k (times n (field_of f w))
-  fields_no h = let e : all_fields f w (take n (drop k t)) ≡ false = rw size at h in sym (fields_run o f w t few n k st inside ∙ rw e)
+-- vs are the n numbers from index k on
+module _ (o : Order) (f : Field) (w : ℕ) (t : List ℕ) (st : State) (k n : ℕ) (few : w ≤ 32) (inside : n ≤ length t - k) {vs : List ℕ} (is : vs ≡ take n (drop k t)) where
+  pub fields_no : all_fields f w vs ≡ false → cannot ≡ ran o t st k (times n (field_of f w))
+  fields_no h = let e : all_fields f w (take n (drop k t)) ≡ false = rw is at h in sym (fields_run o f w t few n k st inside ∙ rw e)
 
   -- all were put, and st' is where the last one ends
-  pub fields_done : {st' : State} {x : Possible Seen} → all_fields f w (take j (drop k t)) ≡ true → st' ≡ lay o st (dig_all o w (take j (drop k t))) → x ≡ ends st' (k + n) → x ≡ ran o t st k (times n (field_of f w))
+  pub fields_done : {st' : State} {x : Possible Seen} → all_fields f w vs ≡ true → st' ≡ lay o st (dig_all o w vs) → x ≡ ends st' (k + n) → x ≡ ran o t st k (times n (field_of f w))
   fields_done h d e =
-      let a : all_fields f w (take n (drop k t)) ≡ true = rw size at h in
-      e ∙ ap (λ (z : State). ends z (k + n)) (d ∙ ap (λ (m : ℕ). lay o st (dig_all o w (take m (drop k t)))) size) ∙ sym (fields_run o f w t few n k st inside ∙ rw a)
+      let a : all_fields f w (take n (drop k t)) ≡ true = rw is at h in
+      e ∙ ap (λ (z : State). ends z (k + n)) (d ∙ ap (λ (xs : List ℕ). lay o st (dig_all o w xs)) is) ∙ sym (fields_run o f w t few n k st inside ∙ rw a)
 
 -- ---- a number that is spelt one less, in n bits
 abbrev pub less_one : Order → ℕ → ℕ → ℕ → Possible (List Bool)

@@ -127,14 +127,15 @@ impl Writer<'_> {
     {
         let values = self.values;
         let from = self.index;
-        if values.len() - from < count {
+        // Behind the last value no number is left, and a run of none can be written.
+        let left = &values[from.min(values.len())..];
+        if left.len() < count {
             return Err(Impossible);
         }
-        let behind = from + count;
-        let numbers = &values[from..behind];
+        let numbers = &left[..count];
         let announced = judge(kind, width, numbers)?;
         let last = put_fields(self.order, width, numbers, self.out, self.sink);
-        self.go_on(last, behind)?;
+        self.go_on(last, from + count)?;
         Ok(announced)
     }
 

@@ -45,7 +45,7 @@ impl Part for Text {
     }
 }
 
-// n items from a whole byte on: they stay on whole bytes.
+// n items, one at least, from a whole byte on: they stay on whole bytes.
 fn spell_items(
     kind: Item,
     count: usize,
@@ -54,7 +54,7 @@ fn spell_items(
     values: &[u64],
     from: usize,
 ) -> Result<usize, Impossible>
-    requires { (at ≤ 16777216) × (from ≤ length values.now) }
+    requires { (at ≤ 16777216) × (0 < count) }
     ensures writes { InEither (λ o. written_to out.new result (from + count) ≡ ran o values.now (mk out.old (8 * at) 0) from (times count (format_of kind))) }
     ensures within { IfOk result (λ p. (p ≤ 16777216) × (from + count ≤ length values.now)) }
 {
@@ -113,7 +113,7 @@ impl Writer<'_> {
     {
         let values = self.values;
         let from = self.index;
-        if values.len() - from < count {
+        if values.len().saturating_sub(from) < count {
             return Err(Impossible);
         }
         let start = sink::align(self.order, self.out, self.sink);

@@ -46,7 +46,7 @@ pub fn on_byte(byte: usize) -> Sink
 }
 
 // One item in its range, from a whole byte on: the byte place behind it.
-pub(crate) fn spell_next(
+pub fn spell_next(
     kind: Item,
     out: &mut [u8],
     at: usize,
@@ -72,7 +72,7 @@ pub(crate) fn spell_next(
 impl Writer<'_> {
     // On from this sink, with the values from an index on. No file is longer than 2^27 bits.
     pub(crate) fn go_on(&mut self, sink: Sink, behind: usize) -> Result<(), Impossible>
-        requires { Holds sink.place.0 sink.part × (behind ≤ length self.old.values.now) }
+        requires { Holds sink.place.0 sink.part }
         ensures onward { Onward self.old self.new }
         ensures ended { seen_of self.new result ≡ ends (under self.old.out.now sink) behind }
         ensures placed { IfOk result (λ _. self.new.index ≡ behind) }
@@ -134,12 +134,12 @@ impl Writer<'_> {
         };
     }
 
-    // The end of a body: all values are used up, and zero bits go up to a whole byte, which is the answer.
-    pub fn conclude(&mut self) -> Result<BytePlace, Impossible>
+    // The end of a body: all n values are used up, and zero bits go up to a whole byte, which is the answer.
+    pub fn conclude(&mut self, count: usize) -> Result<BytePlace, Impossible>
         ensures onward { Onward self.old self.new }
-        ensures ended { lain_as self.new.out.now result ≡ concluded (order_of self.old.order) (length self.old.values.now) (this (here (state self.old) self.old.index)) }
+        ensures ended { lain_as self.new.out.now result ≡ concluded (order_of self.old.order) count (this (here (state self.old) self.old.index)) }
     {
-        if self.index != self.values.len() {
+        if self.index != count {
             return Err(Impossible);
         }
         let end = sink::align(self.order, self.out, self.sink);

@@ -10,16 +10,26 @@ use Rattle.table.specs.State.{State}
 use Rattle.table.specs.Readers.{state_of, Reads}
 use Rattle.table.specs.declared.reader.Reader.{Reader}
 
--- of answers without a value of their own; a number that is told besides has an equation
-pub one_run : {old a b : Reader} {f : Format} (r s : Result (Unit {0}) Reason) → Reads old a r f → Reads old b s f
-    → (a.table.now ≡ b.table.now) × (a.index ≡ b.index) × (r ≡ s) × IfOk r (λ x. a.place.0 ≡ b.place.0)
-one_run {old} {a} {b} {f} r s h k = (ap (λ (z : State). z.table) e, ap (λ (z : State). z.count) e, (go r s (ap (λ (z : State). z.ended) e)).0, (go r s (ap (λ (z : State). z.ended) e)).1)
-  where
-    e : state_of a r ≡ state_of b s
-    e = h.left ∙ sym k.left
+-- two answers are one if their values are: whether they are refused, and why, is told
+abbrev pub OneIf : {T E : Type 0} → Result T E → Result T E → Type 0
+OneIf {T} {E} r s = ((x y : T) → r ≡ Ok x → s ≡ Ok y → x ≡ y) → r ≡ s
 
-    go : (r s : Result (Unit {0}) Reason) → (state_of a r).ended ≡ (state_of b s).ended → (r ≡ s) × IfOk r (λ x. a.place.0 ≡ b.place.0)
-    go (Ok x) (Ok y) z = (refl, cc)
-    go (Ok x) (Err e) z = clash cc
-    go (Err e) (Ok x) z = clash cc
-    go (Err e) (Err d) z = let n : number_of e ≡ number_of d = cc in (ap Err (number_one e d n), tt)
+-- how two readings ended tells that much of their answers, and the place where there is one
+pub ended_one : {T : Type 0} (a b : Reader) (r s : Result T Reason) → (state_of a r).ended ≡ (state_of b s).ended → OneIf r s × IfOk r (λ x. a.place.0 ≡ b.place.0)
+ended_one a b (Ok x) (Ok y) z = (λ v. ap Ok (v x y refl refl), cc)
+ended_one a b (Ok x) (Err e) z = clash cc
+ended_one a b (Err e) (Ok x) z = clash cc
+ended_one a b (Err e) (Err d) z = let n : number_of e ≡ number_of d = cc in (λ v. ap Err (number_one e d n), tt)
+
+-- whatever an answer's value is: it is told besides, by an equation
+pub one_run : {T : Type 0} {old a b : Reader} {f : Format} (r s : Result T Reason) → Reads old a r f → Reads old b s f
+    → (a.table.now ≡ b.table.now) × (a.index ≡ b.index) × OneIf r s × IfOk r (λ x. a.place.0 ≡ b.place.0)
+one_run {T} {old} {a} {b} r s h k =
+    let e : state_of a r ≡ state_of b s = h.left ∙ sym k.left in
+    let g = ended_one a b r s (ap (λ (z : State). z.ended) e) in
+    (ap (λ (z : State). z.table) e, ap (λ (z : State). z.count) e, g.0, g.1)
+
+-- so answers without a value of their own are one
+pub one_done : {old a b : Reader} {f : Format} (r s : Result (Unit {0}) Reason) → Reads old a r f → Reads old b s f
+    → (a.table.now ≡ b.table.now) × (a.index ≡ b.index) × (r ≡ s) × IfOk r (λ x. a.place.0 ≡ b.place.0)
+one_done r s h k = let g = one_run r s h k in (g.0, g.1, g.2 (λ x y d e. refl), g.3)

@@ -127,7 +127,7 @@ module _ (o : Order) {s t₀ : List ℕ} {k i p : ℕ} {t : List ℕ} {n : ℕ} 
         }
 
     -- or there is no room for it
-    going_dropped : (b ≡ 0 → ⊥) → min (length s - i) (length t₀ - (k + 1)) ≤ n → Going o s t₀ k i p t (n + 1)
+    pub going_dropped : (b ≡ 0 → ⊥) → min (length s - i) (length t₀ - (k + 1)) ≤ n → Going o s t₀ k i p t (n + 1)
     going_dropped z l = going_stored z (sym (set_out t (k + 1 + n) b (omega (arith, g.size, l))))
 
     pub going_ends : {u : List ℕ} → b ≡ 0 → u ≡ set t k n → state u (k + 1 + n) (At (p + 8 * n + 8)) ≡ shown_over t₀ k (show_text (read_text o s p (length s)))

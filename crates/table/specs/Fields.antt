@@ -9,6 +9,8 @@ use Rattle.bits.specs.Places.{PlaceIn}
 use Rattle.table.specs.State.{State, shown_over}
 use Rattle.table.specs.declared.fields.Field.{Field}
 use Rattle.table.specs.declared.fields.Field.TheVariants.{Verb, Interpolation, SpatialFlag, Plain, ByteValue, Coordinate}
+use Rattle.table.specs.declared.fields.Stopped.{Stopped}
+use Rattle.reasons.specs.declared.Reason.{Reason}
 
 -- what a field's number may be: an interpolation is not 0, and a byte value at most 255
 abbrev pub allows : Field → ℕ → Bool
@@ -76,9 +78,19 @@ weights Coordinate = 0 ∷ 0 ∷ 0 ∷ 0 ∷ 0 ∷ 0 ∷ 0 ∷ 0 ∷ []
 abbrev pub Fits : List ℕ → ℕ → ℕ → Type 0
 Fits b p k = PlaceIn b p × (k ≤ p + 2 ^ 62)
 
+-- what the code tells of a run of fields: how many signed fields are announced, where it stopped by those before; and why it stopped
+abbrev pub sum_told : Result ℕ Stopped → ℕ
+sum_told (Ok n) = n
+sum_told (Err s) = s.announced
+
+abbrev pub reason_told : Result ℕ Stopped → Result ℕ Reason
+reason_told (Ok n) = Ok n
+reason_told (Err s) = Err s.why
+
 -- of n fields of w bits, for every n of which m stand in the bytes, those m were read from p on, and laid over the table t from index k: they announce a number of signed fields, and the others are still to
--- be read, over the table u; or only i of them, and the next is not allowed
-abbrev pub LaysFields : Order → Field → ℕ → List ℕ → List ℕ → ℕ → ℕ → ℕ → List ℕ → Result ℕ ℕ → Type 0
+-- be read, over the table u; or only i of them, which announce so many, and the next is not allowed
+abbrev pub LaysFields : Order → Field → ℕ → List ℕ → List ℕ → ℕ → ℕ → ℕ → List ℕ → Result ℕ (ℕ × ℕ) → Type 0
 LaysFields o f w b t k p m u (Ok sum) = (n : ℕ) → m ≤ n → (shown_over t k (run o b (times n (field_of f w)) p) ≡ shown_over u (k + m) (run o b (times (n - m) (field_of f w)) (p + m * w)))
     × (announced f (run o b (times n (field_of f w)) p).shown ≡ sum + announced f (run o b (times (n - m) (field_of f w)) (p + m * w)).shown) × (sum ≤ 6 * m)
-LaysFields o f w b t k p m u (Err i) = (i < m) × ((n : ℕ) → m ≤ n → ◌≡◌ {A = State} (record { table = u; count = k + i; ended = Fault 16 }) (shown_over t k (run o b (times n (field_of f w)) p)))
+LaysFields o f w b t k p m u (Err (i, sum)) = (i < m) × ((n : ℕ) → m ≤ n → (◌≡◌ {A = State} (record { table = u; count = k + i; ended = Fault 16 }) (shown_over t k (run o b (times n (field_of f w)) p)))
+    × ((sum ≡ announced f (run o b (times n (field_of f w)) p).shown) × (sum ≤ 6 * n)))

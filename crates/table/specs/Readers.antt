@@ -46,11 +46,11 @@ pub record Kept (old new : Reader) : Type 0 where
   pub index : new.index ≡ old.index
 
 -- it stops with 16 behind m fields, which were stored
-pub record Stops (old new : Reader) (m : ℕ) (a : Result ℕ Reason) : Type 0 where
+pub record Stops (old new : Reader) (m : ℕ) (a : Reason) : Type 0 where
   pub same : Same old new
   pub table : new.table.now ≡ old.table.now
   pub index : new.index ≡ old.index + m
-  pub told : a ≡ Err UnlistedValue
+  pub told : a ≡ UnlistedValue
 
 -- one number was shown
 pub record Shown (old new : Reader) (n : Number) : Type 0 where

@@ -1,10 +1,10 @@
 // Runs of bit fields: verbs, coordinates, interpolations, keyframed Bools, bytes and Points, easing, spatial flags.
-ghost use Rattle.std.specs.Prelude.{true, false, ◌≡◌, ◌+◌, ◌-◌, ◌*◌, ◌/◌, ◌≤◌, ◌<◌, ◌^◌, min, get_or, length, IfOk};
+ghost use Rattle.std.specs.Prelude.{true, false, ◌≡◌, ◌+◌, ◌-◌, ◌*◌, ◌/◌, ◌≤◌, ◌<◌, ◌^◌, min, get_or, length};
 ghost use Rattle.format.specs.Formats.{item as one_of, Item as ItemOf, times, the, ◌▹◌};
 ghost use Rattle.format.specs.Tests.{pick};
 ghost use Rattle.format.specs.Items.{run};
 ghost use Rattle.table.specs.Readers.{Reads, Room, Kept, Stops, Passable, Passes};
-ghost use Rattle.table.specs.Fields.{LaysFields, allows, signed, field_of, announced, weights, shows_all};
+ghost use Rattle.table.specs.Fields.{LaysFields, allows, signed, field_of, announced, weights, shows_all, sum_told, reason_told};
 ghost use Rattle.bits.specs.Places.{order_of};
 
 use crate::{Reader, put, room_for};
@@ -20,6 +20,30 @@ pub enum Field {
     Plain,
     ByteValue,
     Coordinate,
+}
+
+// Fields that were not all read: why, and how many signed fields those before announce.
+#[derive(Clone, Copy, Debug, PartialEq, Eq)]
+pub struct Stopped {
+    pub why: Reason,
+    pub announced: usize,
+}
+
+impl From<Stopped> for Reason {
+    ghost from_gives = { λ stopped why. why ≡ stopped.why };
+
+    fn from(stopped: Stopped) -> Reason {
+        stopped.why
+    }
+}
+
+// What is refused before any field announces nothing.
+impl From<Reason> for Stopped {
+    ghost from_gives = { λ why stopped. stopped ≡ record { why = why; announced = 0 } };
+
+    fn from(why: Reason) -> Stopped {
+        Stopped { why, announced: 0 }
+    }
 }
 
 // What the numbers 0 to 7 announce in a field of this kind: a verb its coordinates, a Bezier frame four easing numbers, a set spatial flag a Point.
@@ -91,14 +115,14 @@ fn shows_all(kind: Field, width: u64) -> bool
     }
 }
 
-// The fields that stand in the body, laid over the table: how many signed fields they announce; or how many stand before the first that is not allowed. What the loop goes by is taken out of the
+// The fields that stand in the body, laid over the table: how many signed fields they announce; or how many stand before the first that is not allowed, and how many these announce. What the loop goes by is taken out of the
 // reader before it, since a store into the table would have it loaded again.
 fn lay_fields(
     kind: Field,
     width: u64,
     there: usize,
     reader: &mut Reader<'_>,
-) -> Result<usize, usize>
+) -> Result<usize, (usize, usize)>
     requires { Room reader.old × (1 ≤ width) × (width ≤ 32) × (there < 2 ^ 32) × (reader.old.place.0 + there * width ≤ 8 * length reader.old.body.now) × (signed kind ≡ false) }
     ensures { Kept reader.old reader.new × LaysFields (order_of reader.old.order) kind width reader.old.body.now reader.old.table.now reader.old.index reader.old.place.0 there reader.new.table.now result }
 {
@@ -109,7 +133,7 @@ fn lay_fields(
     for i in 0..there {
         let value = bits::fields::field(order, body, BitPlace(first + i * width as usize), width);
         if !allowed(kind, value) {
-            return Err(i);
+            return Err((i, sum));
         }
         put(table, from + i, value);
         sum += weight(&weights, value);
@@ -119,12 +143,12 @@ fn lay_fields(
 
 impl Reader<'_> {
     // After so many fields one is not allowed (16).
-    fn stop(&mut self, passed: usize) -> Result<usize, Reason>
+    fn stop(&mut self, passed: usize) -> Reason
         requires { self.old.index + passed < 2 ^ 64 }
         ensures { Stops self.old self.new passed result }
     {
         self.index += passed;
-        Err(Reason::UnlistedValue)
+        Reason::UnlistedValue
     }
 
     // Behind the fields that stand in the body, `there` of n; one that does not is 13.
@@ -140,20 +164,23 @@ impl Reader<'_> {
         Ok(())
     }
 
-    // n fields of w bits that are not signed: the first that runs past the body is 13, the first that is not allowed 16. How many signed fields they announce is told.
-    pub fn fields(&mut self, kind: Field, width: u64, count: usize) -> Result<usize, Reason>
+    // n fields of w bits that are not signed: the first that runs past the body is 13, the first that is not allowed 16. How many signed fields they announce is told, after a refusal too.
+    pub fn fields(&mut self, kind: Field, width: u64, count: usize) -> Result<usize, Stopped>
         requires { Room self.old × (1 ≤ width) × (width ≤ 32) × (count < 2 ^ 32) × (signed kind ≡ false) }
-        ensures reads { Reads self.old self.new result (times count (field_of kind width)) }
-        ensures counts { IfOk result (λ sum. (sum ≡ announced kind (run (order_of self.old.order) self.old.body.now (times count (field_of kind width)) self.old.place.0).shown) × (sum ≤ 6 * count)) }
+        ensures reads { Reads self.old self.new (reason_told result) (times count (field_of kind width)) }
+        ensures counts { (sum_told result ≡ announced kind (run (order_of self.old.order) self.old.body.now (times count (field_of kind width)) self.old.place.0).shown) × (sum_told result ≤ 6 * count) }
     {
         let step = width as usize;
         let there = fitting(self.body.len(), self.place, step, count);
         match lay_fields(kind, width, there, self) {
-            Ok(sum) => {
-                self.pass(step, there, count)?;
-                Ok(sum)
+            Ok(announced) => match self.pass(step, there, count) {
+                Ok(()) => Ok(announced),
+                Err(why) => Err(Stopped { why, announced }),
+            },
+            Err((passed, announced)) => {
+                let why = self.stop(passed);
+                Err(Stopped { why, announced })
             }
-            Err(passed) => self.stop(passed),
         }
     }
 

@@ -80,15 +80,15 @@ pub packed_shown : {a b : Reader} → Same a b → b.table.now ≡ sets a.table.
 unfolding shown_over
 packed_shown {a} h t i p = record {
   lays = record { same = h; left = state_eq t (i ∙ omega (arith, length_eights ((length a.body.now + 7) / 8) a.body.now)) (ap At p) };
-  opened = refl;
+  opened = (refl, rw p refl);
 }
 
 pub none_shown : (a : Reader) → a.place.0 ≡ 0 → Shows a a (Ok None) (shows [] 0) false
-none_shown a p = record { lays = record { same = same_refl a; left = ap (λ (q : ℕ). record { table = a.table.now; count = a.index; ended = At q }) p ∙ sym (after_none a.table.now a.index 0) }; opened = refl }
+none_shown a p = record { lays = record { same = same_refl a; left = ap (λ (q : ℕ). record { table = a.table.now; count = a.index; ended = At q }) p ∙ sym (after_none a.table.now a.index 0) }; opened = (refl, rw p refl) }
 
 -- a body without a list
-pub leaf_shown : {a b : Reader} {r : Result Unit Reason} {x : Unit} {R : Reading} → Lays a b r R → r ≡ Ok x → Shows a b (Ok None) R false
-leaf_shown h e = record { lays = lays_ok h None e; opened = refl }
+pub leaf_shown : {a b : Reader} {r : Result Unit Reason} {x : Unit} {R : Reading} → Lays a b r R → r ≡ Ok x → b.place.0 ≡ 8 * length b.body.now → Shows a b (Ok None) R false
+leaf_shown h e at = record { lays = lays_ok h None e; opened = (refl, omega (arith, at)) }
 
 pub leaf_refused : {a b : Reader} {r : Result Unit Reason} {s : Result (Option BytePlace) Reason} {e : Reason} {R : Reading} → Lays a b r R → r ≡ Err e → s ≡ Err e → Shows a b s R false
 leaf_refused h e d = record { lays = lays_err h e d; opened = rw d tt }

@@ -102,7 +102,7 @@ module _ (o : Order) (code : ℕ) (body : List ℕ) {a b : Reader} {y : Result (
     where
       go : (y : Result (Option BytePlace) Reason) → ending_of b.place y ≡ (own_part o p body).ended → Opens list b.place.0 y → Starts y
       go (Ok (Some q)) e v = sym (ap (list_start list (length body)) (sym e) ∙ ap (λ (c : Bool). pick c (b.place.0 / 8) (length body)) v.0 ∙ omega (arith, v.1))
-      go (Ok None) e v = sym (ap (list_start list (length body)) (sym e) ∙ ap (λ (c : Bool). pick c (b.place.0 / 8) (length body)) v)
+      go (Ok None) e v = sym (ap (list_start list (length body)) (sym e) ∙ ap (λ (c : Bool). pick c (b.place.0 / 8) (length body)) v.0)
       go (Err x) e v = sym (ap (list_start list (length body)) (sym e))
 
   pub list_open : {q : BytePlace} → y ≡ Ok (Some q) → q.0 ≡ list_in o code body

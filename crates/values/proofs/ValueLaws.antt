@@ -1,5 +1,5 @@
 -- Values and keyframed content: the formats of their parts, and what a `match` tells.
-use Rattle.std.proofs.Common.{◌≡◌, ℕ, zero, suc, ◌+◌, ◌*◌, ◌^◌, ◌<◌, ◌≤◌, Bool, true, false, List, [], ◌∷◌, ◌++◌, refl, sym, ap, ap₂, ◌∙◌, arith, Result, Ok, IfOk}
+use Rattle.std.proofs.Common.{◌≡◌, ℕ, zero, suc, ◌+◌, ◌*◌, ◌^◌, ◌<◌, ◌≤◌, Bool, true, false, List, [], ◌∷◌, ◌++◌, refl, sym, ap, ap₂, ◌∙◌, arith, Result, Ok, Err}
 use mathlib.Core.Path.{subst}
 use native.Mathlib.Nat.{mul-le-mul}
 use native.Mathlib.Numerals.{add-one}
@@ -15,6 +15,7 @@ use Rattle.format.specs.Bodies.{values, interpolations, how_many, aligned, spati
 use Rattle.bits.specs.Places.{order_of}
 use Rattle.bits.specs.declared.Order.{Order as Code}
 use Rattle.bits.proofs.FieldLaws.{IsField, ub_got}
+use Rattle.reasons.specs.Numbers.{number_of}
 use Rattle.reasons.specs.declared.Reason.{Reason}
 use Rattle.items.specs.Kinds.{format_of}
 use Rattle.items.specs.declared.Item.TheVariants.{Count}
@@ -24,7 +25,7 @@ use Rattle.table.specs.Readers.{state_of, Reads, Room}
 use Rattle.table.specs.State.{State, shown_over}
 use Rattle.table.specs.declared.fields.Field.TheVariants.{Verb, Interpolation, SpatialFlag}
 use Rattle.table.specs.declared.reader.Reader.{Reader}
-use Rattle.table.proofs.EngineLaws.{Alike, none_then, alike_nothing, alike_assoc, alike_after}
+use Rattle.table.proofs.EngineLaws.{Alike, none_then, never_then, alike_nothing, alike_assoc, alike_after}
 use Rattle.table.proofs.FieldLaws.{announced_verbs, announced_frames, announced_points}
 use Rattle.table.proofs.ReaderLaws.{reading, reads_as, on_start, on_done}
 use Rattle.attributes.specs.Contents.{interpolated}
@@ -87,12 +88,20 @@ module _ {A : Type 0} {a b : Reader} {r : Result A Reason} {x : A} (h : Reads a 
     unfolding run
     eases_none none = (rw (past_skip (interpolations kind n), interpolations_none kind n none), omega arith)
 
-    pub eases_some : (s : Result ℕ Reason) → true ≡ interpolated kind
-        → IfOk s (λ m. (m ≡ announced Interpolation (reading b (times n (field_of Interpolation 2))).shown) × (m ≤ 6 * n))
-        → IfOk s (λ m. (m ≡ how_many 2 (reading a (aligned ▸ interpolations kind n)).shown * 4) × (m ≤ 6 * n))
-    eases_some s some k =
+    pub eases_some : {m : ℕ} → true ≡ interpolated kind → (m ≡ announced Interpolation (reading b (times n (field_of Interpolation 2))).shown) × (m ≤ 6 * n)
+        → (m ≡ how_many 2 (reading a (aligned ▸ interpolations kind n)).shown * 4) × (m ≤ 6 * n)
+    eases_some some k =
         let f : reading a (aligned ▸ interpolations kind n) ≡ reading b (times n (field_of Interpolation 2)) = past_skip (interpolations kind n) ∙ ap (reading b) (interpolations_some kind n some) in
-        subst (λ (z : ℕ). IfOk s (λ m. (m ≡ z) × (m ≤ 6 * n))) (announced_frames _ ∙ ap (λ (y : Reading). how_many 2 y.shown * 4) (sym f)) k
+        (k.0 ∙ announced_frames _ ∙ ap (λ (y : Reading). how_many 2 y.shown * 4) (sym f), k.1)
+
+-- a skipped bit is not zero
+pub eases_never : {A : Type 0} {a b : Reader} {r : Result A Reason} {e : Reason} → Reads a b r aligned → r ≡ Err e → (kind : bodies.Kind) (n : ℕ)
+    → (0 ≡ how_many 2 (reading a (aligned ▸ interpolations kind n)).shown * 4) × (0 ≤ 6 * n)
+unfolding shown_over
+eases_never {a = a} {b = b} {e = e} h d kind n =
+    let z : (reading a aligned).ended ≡ Fault (number_of e) = ap (λ (s : State). s.ended) (sym h.left ∙ ap (state_of b) d) in
+    let f : reading a aligned ≡ stop (number_of e) = ap₂ (λ (ys : List ℕ) (z : Ending). record { shown = ys; ended = z }) (skip_shows (order_of a.order) a.body.now a.place.0) z in
+    (rw (never_then (order_of a.order) a.body.now aligned (λ xs. interpolations kind n) a.place.0 (number_of e) f), omega arith)
 
 -- the easing numbers of n frames are few
 pub easing_small : {m c : ℕ} (n : ℕ) → m ≤ 6 * n → c ≤ 2 → n ≤ 4096 → m * c ≤ 49152

@@ -1,11 +1,12 @@
 // Keyframed content: five parts, or six where hasSpatial is set, each starting on a whole byte.
-ghost use Rattle.std.specs.Prelude.{◌≡◌, ◌*◌, ◌<◌, ◌≤◌, ◌^◌, IfOk};
+ghost use Rattle.std.specs.Prelude.{◌≡◌, ◌*◌, ◌<◌, ◌≤◌, ◌^◌};
 ghost use Rattle.format.specs.Formats.{nothing, ◌▸◌};
 ghost use Rattle.format.specs.Tests.{pick};
 ghost use Rattle.format.specs.Items.{run, scaled};
 ghost use Rattle.format.specs.Bodies.{values as values_of, interpolations as interpolations_of, how_many, aligned, spatial, has_spatial, keyframed};
 ghost use Rattle.bits.specs.Places.{order_of};
 ghost use Rattle.table.specs.Readers.{Reads, Room};
+ghost use Rattle.table.specs.Fields.{sum_told, reason_told};
 ghost use Rattle.attributes.specs.Rows.{kind_of, type_of};
 ghost use Rattle.values.specs.Parts.{frames_of};
 
@@ -14,13 +15,13 @@ use attributes::{DataType, Kind};
 use items::Item;
 use reasons::Reason;
 use table::Reader;
-use table::fields::Field;
+use table::fields::{Field, Stopped};
 
 // The interpolations of n frames, UB[2] each, if the kind has them. A Bezier frame announces four easing numbers for each of its curves.
-fn read_interpolations(reader: &mut Reader<'_>, kind: Kind, frames: usize) -> Result<usize, Reason>
+fn read_interpolations(reader: &mut Reader<'_>, kind: Kind, frames: usize) -> Result<usize, Stopped>
     requires { Room reader.old × (frames ≤ 4096) }
-    ensures reads { Reads reader.old reader.new result (aligned ▸ interpolations_of (kind_of kind) frames) }
-    ensures counts { IfOk result (λ n. (n ≡ how_many 2 (run (order_of reader.old.order) reader.old.body.now (aligned ▸ interpolations_of (kind_of kind) frames) reader.old.place.0).shown * 4) × (n ≤ 6 * frames)) }
+    ensures reads { Reads reader.old reader.new (reason_told result) (aligned ▸ interpolations_of (kind_of kind) frames) }
+    ensures counts { (sum_told result ≡ how_many 2 (run (order_of reader.old.order) reader.old.body.now (aligned ▸ interpolations_of (kind_of kind) frames) reader.old.place.0).shown * 4) × (sum_told result ≤ 6 * frames) }
 {
     reader.align()?;
     if attributes::has_interpolations(kind) {

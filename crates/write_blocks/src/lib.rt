@@ -16,7 +16,7 @@ ghost use Rattle.write_blocks.specs.Filling.{filled, fills, under_flags};
 
 pub mod field;
 
-use crate::field::Flags;
+pub use crate::field::Flags;
 use attributes::{Attribute, Content, Kind};
 use bits::{BytePlace, Order};
 use sink::{Impossible, Sink};
@@ -170,7 +170,7 @@ fn write_at(rows: &[Attribute], writer: &mut Writer, at: BytePlace) -> Result<By
     ensures lain { lain_as writer.new.out.now result ≡ lies writer.old.out.now at.0 (write_body (order_of writer.old.order) (attributes_body (attributes_in rows.now)) writer.old.values.now) }
 {
     let flags = write_contents(rows, writer)?;
-    let stop = writer.conclude()?;
+    let stop = writer.conclude(writer.values.len())?;
     put_flags(flags, writer, at, stop)
 }
 

@@ -21,7 +21,7 @@ fn write_at(code: u32, writer: &mut Writer, at: BytePlace) -> Result<BytePlace, 
     ensures lain { lain_as writer.new.out.now result ≡ lies writer.old.out.now at.0 (write_body (order_of writer.old.order) (fixed (fixed_of code)) writer.old.values.now) }
 {
     write_fixed::write_fixed(code, writer)?;
-    writer.conclude()
+    writer.conclude(writer.values.len())
 }
 
 // A body that is no attribute block, from a byte place on. No file is longer than 16,777,216 bytes.

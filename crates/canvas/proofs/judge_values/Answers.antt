@@ -10,7 +10,7 @@ pub returns-in-Container : goal.returns-in-Container
 returns-in-Container c = let a = c.args in valued_told (order_of a.order) a.body.now a.code _ Container c.in-Container.is (valued c.read_container.ensures)
 
 pub returns-in_err-read_leaf-in-Fixed : goal.returns-in_err-read_leaf-in-Fixed
-returns-in_err-read_leaf-in-Fixed c = leaf_err c.args.code c.args.class c.in-Fixed.is (λ e. search rules) (λ e. search rules) c.read_leaf.ensures c.in_err-read_leaf-in-Fixed.was (passed_on c.from_residual.result c.from_residual.ensures.1)
+returns-in_err-read_leaf-in-Fixed c = leaf_err c.args.code c.args.class c.in-Fixed.is (λ e. search rules) (λ e. search rules) c.read_leaf.ensures.lays c.in_err-read_leaf-in-Fixed.was (passed_on c.from_residual.result c.from_residual.ensures.1)
 
 pub returns-in_ok-read_leaf-in-Fixed : goal.returns-in_ok-read_leaf-in-Fixed
-returns-in_ok-read_leaf-in-Fixed c = leaf_ok c.args.code c.args.class c.in-Fixed.is (λ e. search rules) (λ e. search rules) c.read_leaf.ensures c.in_ok-read_leaf-in-Fixed.was
+returns-in_ok-read_leaf-in-Fixed c = leaf_ok c.args.code c.args.class c.in-Fixed.is (λ e. search rules) (λ e. search rules) c.read_leaf.ensures.lays c.in_ok-read_leaf-in-Fixed.was c.in_ok-read_leaf-in-Fixed.ensures.byte

@@ -6,4 +6,4 @@ use Rattle.canvas.proofs.CallLaws.{filled_is}
 use Rattle.canvas.proofs.values_in.Goals as goal
 
 pub returns : goal.returns
-returns c = let a = c.args in filled_is (order_of a.order) a.body.now c.read_body.ensures refl refl (search rules)
+returns c = let a = c.args in filled_is (order_of a.order) a.body.now c.read_body.ensures.lays refl refl (search rules)

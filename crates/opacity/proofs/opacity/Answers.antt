@@ -18,10 +18,10 @@ returns-then-body-ge1152921504606846976 c = length_refused c.args.order c.args.b
 pub returns-in_err-read_body : goal.returns-in_err-read_body
 returns-in_err-read_body c =
     ap opacity_of (passed_on c.from_residual-in_err-read_body.result c.from_residual-in_err-read_body.ensures.1)
-    ∙ mask_answered c.args.order c.args.body.now c.args.t (order_told c.args.order c.in_ok-order.ensures).1 (omega (arith, c.if-body-ge1152921504606846976.false)) (order_told c.args.order c.in_ok-order.ensures).0 (mask_refused (order_of c.in_ok-order.order) c.args.body.now c.read_body.ensures c.args.t c.in_err-read_body.was)
+    ∙ mask_answered c.args.order c.args.body.now c.args.t (order_told c.args.order c.in_ok-order.ensures).1 (omega (arith, c.if-body-ge1152921504606846976.false)) (order_told c.args.order c.in_ok-order.ensures).0 (mask_refused (order_of c.in_ok-order.order) c.args.body.now c.read_body.ensures.lays c.args.t c.in_err-read_body.was)
 
 pub invariant_of-opacity : goal.invariant_of-opacity
-invariant_of-opacity c = record { judged = mask_judged (order_of c.in_ok-order.order) c.args.body.now c.read_body.ensures (omega (arith, c.if-body-ge1152921504606846976.false)) c.in_ok-read_body.was }
+invariant_of-opacity c = record { judged = mask_judged (order_of c.in_ok-order.order) c.args.body.now c.read_body.ensures.lays (omega (arith, c.if-body-ge1152921504606846976.false)) c.in_ok-read_body.was }
 
 pub returns : goal.returns
-returns c = mask_answered c.args.order c.args.body.now c.args.t (order_told c.args.order c.in_ok-order.ensures).1 (omega (arith, c.if-body-ge1152921504606846976.false)) (order_told c.args.order c.in_ok-order.ensures).0 (c.opacity.ensures ∙ mask_shown (order_of c.in_ok-order.order) c.args.body.now c.args.t (mask_judged (order_of c.in_ok-order.order) c.args.body.now c.read_body.ensures (omega (arith, c.if-body-ge1152921504606846976.false)) c.in_ok-read_body.was))
+returns c = mask_answered c.args.order c.args.body.now c.args.t (order_told c.args.order c.in_ok-order.ensures).1 (omega (arith, c.if-body-ge1152921504606846976.false)) (order_told c.args.order c.in_ok-order.ensures).0 (c.opacity.ensures ∙ mask_shown (order_of c.in_ok-order.order) c.args.body.now c.args.t (mask_judged (order_of c.in_ok-order.order) c.args.body.now c.read_body.ensures.lays (omega (arith, c.if-body-ge1152921504606846976.false)) c.in_ok-read_body.was))

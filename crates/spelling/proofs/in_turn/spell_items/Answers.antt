@@ -5,7 +5,7 @@ use Rattle.spelling.proofs.ByteLaws.{next_inside, turn_fell, turn_on, turns_star
 use Rattle.spelling.proofs.in_turn.spell_items.Goals as goal
 
 pub loop-i-init : goal.loop-i-init
-loop-i-init c = let a = c.args in (c.requires.0, refl, omega (arith, c.requires.1), λ o. turns_start o a.kind a.values.now _ a.from a.count)
+loop-i-init c = let a = c.args in (c.requires.0, refl, λ h. absurd (omega arith), λ o. turns_start o a.kind a.values.now _ a.from a.count)
 
 pub returns-in_err-byte-clause-writes : goal.returns-in_err-byte-clause-writes
 returns-in_err-byte-clause-writes c = let a = c.args in let l = c.loop-i in λ o.
@@ -15,7 +15,7 @@ pub loop-i-preserved : goal.loop-i-preserved
 loop-i-preserved c = let a = c.args in let l = c.loop-i in let n = next_inside high a.kind a.values.now l.out l.byte (a.from + l.i) c.spell_next.new.out c.in_ok-byte.byte (c.in_ok-byte.ensures.writes high) in (
   c.in_ok-byte.ensures.within,
   c.spell_next.auto.out ∙ l.invariant.1,
-  omega (arith, n),
+  λ h. omega (arith, n),
   λ o. l.invariant.3 o ∙ turn_on o a.kind a.values.now l.out l.byte a.from a.count l.i c.loop-i-test.true c.spell_next.new.out c.in_ok-byte.byte (c.in_ok-byte.ensures.writes o),
 )
 

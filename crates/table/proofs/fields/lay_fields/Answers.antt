@@ -10,7 +10,7 @@ returns-then-not-allowed c = let a = c.args.reader.now in let w = c.args.width i
   (
     some,
     λ n l. let st : Inside w a.body.now a.place.0 n c.args.there = record { upto = l; inside = c.requires.4 } in let g = c.loop-i.invariant n l in
-        (fields_stop st g some (field_out (order_of a.order) c.args.kind a.body.now (a.place.0 + c.loop-i.i * w) w (fields_in st g some) c.field-value.ensures.0 (unsigned_shown c.args.kind w c.field-value.result c.requires.5) (sym c.allowed.ensures ∙ c.if-not-allowed.true))).0,
+        fields_stop st g some (field_out (order_of a.order) c.args.kind a.body.now (a.place.0 + c.loop-i.i * w) w (fields_in st g some) c.field-value.ensures.0 (unsigned_shown c.args.kind w c.field-value.result c.requires.5) (sym c.allowed.ensures ∙ c.if-not-allowed.true)),
   ),
 )
 

@@ -19,7 +19,7 @@ returns-then-count-eq0 c = let a = c.args.self.now in let o = order_of a.order i
 }
 
 pub spell_items-requires : goal.spell_items-requires
-spell_items-requires c = let a = c.args.self.now in let s = skip_place (order_of a.order) (state a) a.fine.1 c.align-start.ensures in (omega (arith, s.0, s.1), a.inside)
+spell_items-requires c = let a = c.args.self.now in let s = skip_place (order_of a.order) (state a) a.fine.1 c.align-start.ensures in (omega (arith, s.0, s.1), omega (arith, c.if-count-eq0.false))
 
 pub returns-in_err-end : goal.returns-in_err-end
 returns-in_err-end c = let a = c.args.self.now in let o = order_of a.order in record {

@@ -27,7 +27,7 @@ returns-then-power-less-clause-writes c = let a = c.args.self.now in let o = ord
 }
 
 pub go_on-requires : goal.go_on-requires
-go_on-requires c = let a = c.args.self.now in let o = order_of a.order in (laid_holds o (state a) _ a.fine.0 c.put_bits-next.ensures, omega (arith, c.in_ok-number.ensures.0))
+go_on-requires c = let a = c.args.self.now in laid_holds (order_of a.order) (state a) _ a.fine.0 c.put_bits-next.ensures
 
 pub returns-in_err-go_on-clause-writes : goal.returns-in_err-go_on-clause-writes
 returns-in_err-go_on-clause-writes c = let a = c.args.self.now in let o = order_of a.order in let n = c.args.bits in let v = c.in_ok-number.ensures in λ i is. record {

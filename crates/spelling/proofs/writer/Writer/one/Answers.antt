@@ -19,11 +19,8 @@ returns-in_err-next c = let a = c.args.self.now in let o = order_of a.order in r
   };
 }
 
-pub invariant_of-self-2 : goal.invariant_of-self-2
-invariant_of-self-2 c = let a = c.args.self.now in let o = order_of a.order in record {
-  fine = c.on_byte-self.ensures.2;
-  inside = omega (arith, next_inside o c.args.kind a.values.now c.align-start.new.out c.align-start.result.byte.0 a.index c.spell_next.new.out c.in_ok-next.next (c.in_ok-next.ensures.writes o));
-}
+pub overflow_add-self : goal.overflow_add-self
+overflow_add-self c = let a = c.args.self.now in let o = order_of a.order in omega (arith, next_inside o c.args.kind a.values.now c.align-start.new.out c.align-start.result.byte.0 a.index c.spell_next.new.out c.in_ok-next.next (c.in_ok-next.ensures.writes o))
 
 pub returns : goal.returns
 returns c = let a = c.args.self.now in let o = order_of a.order in record {

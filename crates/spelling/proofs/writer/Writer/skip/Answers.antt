@@ -6,7 +6,7 @@ use Rattle.spelling.proofs.RunLaws.{skip_fine, ran_align}
 use Rattle.spelling.proofs.writer.Writer.skip.Goals as goal
 
 pub invariant_of-self : goal.invariant_of-self
-invariant_of-self c = let a = c.args.self.now in record { fine = skip_fine (order_of a.order) (state a) a.fine.1 c.align-start.ensures; inside = a.inside }
+invariant_of-self c = let a = c.args.self.now in record { fine = skip_fine (order_of a.order) (state a) a.fine.1 c.align-start.ensures }
 
 pub returns-clause-writes : goal.returns-clause-writes
 returns-clause-writes c = let a = c.args.self.now in record {

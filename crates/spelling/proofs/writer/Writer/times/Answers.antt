@@ -9,13 +9,13 @@ use Rattle.spelling.specs.Writer.{state}
 use Rattle.spelling.proofs.WriteLaws.{missing, onward_none}
 use Rattle.spelling.proofs.writer.Writer.times.Goals as goal
 
-pub returns-then-values-from : goal.returns-then-values-from
-returns-then-values-from c = let a = c.args.self.now in record {
-  writes = record { onward = onward_none a; told = items_few (order_of a.order) Time a.values.now (state a) a.index c.args.count c.if-values-from.true };
+pub returns-then-saturating_sub-count : goal.returns-then-saturating_sub-count
+returns-then-saturating_sub-count c = let a = c.args.self.now in record {
+  writes = record { onward = onward_none a; told = items_few (order_of a.order) Time a.values.now (state a) a.index c.args.count (omega (arith, c.saturating_sub.ensures, c.if-saturating_sub-count.true)) };
 }
 
 pub spell_times-requires : goal.spell_times-requires
-spell_times-requires c = let a = c.args.self.now in let s = skip_place (order_of a.order) (state a) a.fine.1 c.align-start.ensures in (omega (arith, s.0, s.1), omega (arith, a.inside, c.if-values-from.false))
+spell_times-requires c = let a = c.args.self.now in let s = skip_place (order_of a.order) (state a) a.fine.1 c.align-start.ensures in (omega (arith, s.0, s.1), omega (arith, c.saturating_sub.ensures, c.if-saturating_sub-count.false, c.requires))
 
 pub returns-in_err-end : goal.returns-in_err-end
 returns-in_err-end c = let a = c.args.self.now in let o = order_of a.order in record {

@@ -1,9 +1,9 @@
 -- `table::Reader::scaled` meets its contract: a width, and the run that it tells.
-use Rattle.std.proofs.Common.{sym, ◌∙◌}
+use Rattle.std.proofs.Common.{sym, ap, ◌∙◌}
 use Rattle.format.specs.Formats.{times, the}
 use Rattle.bits.specs.Places.{order_of}
 use Rattle.reasons.proofs.NumberLaws.{passed_on}
-use Rattle.table.specs.Fields.{field_of}
+use Rattle.table.specs.Fields.{field_of, reason_told}
 use Rattle.table.proofs.ReaderLaws.{reads_first, reads_never_then, reads_ok, reads_err, shown_room}
 use Rattle.table.proofs.FieldLaws.{width_one, width_stop, width_fits, judged_unsigned}
 use Rattle.table.proofs.reader.Reader.scaled.Goals as goal
@@ -29,8 +29,8 @@ fields-requires c = let a = c.args.self.now in let f = width_fits (order_of a.or
 
 pub returns-in_err-fields : goal.returns-in_err-fields
 returns-in_err-fields c = let a = c.args.self.now in let f = width_fits (order_of a.order) a.body.now a.place.0 c.in_ok-width.ensures in
-    reads_first (λ w. times c.args.count (field_of c.args.kind (the w))) c.requires.0 f.0 c.show.ensures (width_one (order_of a.order) a.body.now a.place.0 c.in_ok-width.ensures) (reads_err c.in_err-fields.was (passed_on c.from_residual-in_err-fields.result c.from_residual-in_err-fields.ensures.1) c.fields.ensures.reads)
+    reads_first (λ w. times c.args.count (field_of c.args.kind (the w))) c.requires.0 f.0 c.show.ensures (width_one (order_of a.order) a.body.now a.place.0 c.in_ok-width.ensures) (reads_err (ap reason_told c.in_err-fields.was) (passed_on c.from_residual-in_err-fields.result c.from_residual-in_err-fields.ensures.1) c.fields.ensures.reads)
 
 pub returns : goal.returns
 returns c = let a = c.args.self.now in let f = width_fits (order_of a.order) a.body.now a.place.0 c.in_ok-width.ensures in
-    reads_first (λ w. times c.args.count (field_of c.args.kind (the w))) c.requires.0 f.0 c.show.ensures (width_one (order_of a.order) a.body.now a.place.0 c.in_ok-width.ensures) (reads_ok c.in_ok-fields.was c.fields.ensures.reads)
+    reads_first (λ w. times c.args.count (field_of c.args.kind (the w))) c.requires.0 f.0 c.show.ensures (width_one (order_of a.order) a.body.now a.place.0 c.in_ok-width.ensures) (reads_ok (ap reason_told c.in_ok-fields.was) c.fields.ensures.reads)
