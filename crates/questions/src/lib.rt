@@ -11,7 +11,8 @@ use reasons::Reason;
 
 mod lent;
 
-// The lent numbers, if they are the index of the lent tag table: whole tags, codes to 1023.
+// The lent numbers, if they are the index of the lent tag table: whole tags, codes to 1023. Inline, since else the answer takes stack of its own.
+#[inline(always)]
 fn judged<'a>(tags: &'a [u32], index: &'a [u32]) -> Option<Lent<'a>>
     ensures none { IfNone result (is_index tags.now index.now ≡ false) }
     ensures some { IfSome result (λ lent. (is_index tags.now index.now ≡ true) × (lent.tags.now ≡ tags.now) × (lent.index.now ≡ index.now)) }

@@ -47,8 +47,8 @@ impl Tally {
 }
 
 // Whether a file is beyond the limit, or a count is above 16,777,216,000,000.
-fn is_full(tally: Tally) -> bool
-    ensures { result ≡ is_full tally }
+fn is_full(tally: &Tally) -> bool
+    ensures { result ≡ is_full tally.now }
 {
     HEADERS_LIMIT <= tally.headers || tally.counts.iter().any(|&count| COUNT_LIMIT < count)
 }
@@ -85,12 +85,11 @@ fn next_place(order: Order, class: Class, header: Header, file: &[u8], place: us
 }
 
 // Adds a file that was judged: the bytes from each tag's place to the next one's, which are its own, to its code's count.
-fn with_file(tally: Tally, level: u32, order: Order, file: &[u8]) -> Tally
-    requires { Good (order_of order) level file.now × IsFile file.now × NoneAbove 16777216000000 tally.counts × (tally.headers < 9000000) }
-    ensures { result ≡ with_file tally (tags_in (order_of order) level file.now) }
+fn with_file(tally: &mut Tally, level: u32, order: Order, file: &[u8])
+    requires { Good (order_of order) level file.now × IsFile file.now × NoneAbove 16777216000000 tally.old.counts × (tally.old.headers < 9000000) }
+    ensures { tally.new ≡ with_file tally.old (tags_in (order_of order) level file.now) }
 {
     let classes = classes::all();
-    let mut counts = tally.counts;
     let mut place = 9;
     while place < file.len() {
         let header = headers::raw_head(file, BytePlace(place)).unwrap();
@@ -98,20 +97,17 @@ fn with_file(tally: Tally, level: u32, order: Order, file: &[u8]) -> Tally
         let listed = classes[(code / 32) as usize][(code % 32) as usize];
         let class = classes::at_level(level, code, listed);
         let next = next_place(order, class, header, file, place);
-        counts[code as usize] += (next - place) as u64;
+        tally.counts[code as usize] += (next - place) as u64;
         place = next;
     }
-    Tally {
-        counts,
-        headers: tally.headers + 9,
-    }
+    tally.headers += 9;
 }
 
 // Adds a file to a tally. The tag table of a good file has no room in memory that is not lent, so 19 says that it is good.
-pub fn add(tally: Tally, level: u32, order: u32, file: &[u8]) -> Added
+pub fn add(mut tally: Tally, level: u32, order: u32, file: &[u8]) -> Added
     ensures { leaves result ≡ adding order level tally file.now }
 {
-    if is_full(tally) {
+    if is_full(&tally) {
         return Added {
             tally,
             answer: Answer::Refused(Reason::TallyFull, 0),
@@ -128,8 +124,9 @@ pub fn add(tally: Tally, level: u32, order: u32, file: &[u8]) -> Added
     }
     answers::is_file(file);
     let named = Order::try_from(order).unwrap();
+    with_file(&mut tally, level, named, file);
     Added {
-        tally: with_file(tally, level, named, file),
+        tally,
         answer: Answer::Accepted(file.len() as u64),
     }
 }
