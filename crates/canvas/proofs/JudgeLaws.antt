@@ -25,7 +25,7 @@ use Rattle.classes.specs.declared.Class.{Class}
 use Rattle.classes.specs.declared.Class.TheVariants.{Fixed, Attributes}
 use Rattle.headers.specs.declared.Header.{Header}
 use Rattle.tags.specs.Shown.{values_of, list_of}
-use Rattle.tags.proofs.TagLaws.{body_shown, leaf_refused, values_le}
+use Rattle.tags.proofs.TagLaws.{whole_leaf_shown, leaf_refused, values_le}
 use Rattle.canvas.specs.Looking.{span, judged_by, Valued, numbered, judged_end, judged_at}
 use Rattle.canvas.specs.declared.Judged.{Judged}
 
@@ -58,7 +58,7 @@ module _ {a b : Reader} {y : Result (Unit {0}) Reason} (code : ℕ) (class : Cla
       go (inr e) = valued_told (order_of a.order) a.body.now code z Attributes e (subst (λ (b : Bool). Valued (read_body (order_of a.order) (body_by b code) a.body.now).ended false z) (attributes_so e) v)
 
   pub leaf_ok : {x : Unit {0}} → y ≡ Ok x → V (Ok None)
-  leaf_ok q = leaf_valued (Ok None) (valued (body_shown (body_by block code) laid q))
+  leaf_ok q = leaf_valued (Ok None) (valued (whole_leaf_shown (body_by block code) laid q))
 
   pub leaf_err : {e : Reason} {z : Result (Option BytePlace) Reason} → y ≡ Err e → z ≡ Err e → V z
   leaf_err {e} {z} q w = leaf_valued z (valued (leaf_refused laid q w))

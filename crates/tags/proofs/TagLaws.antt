@@ -91,8 +91,8 @@ pub leaf_shown : {a b : Reader} {r : Result Unit Reason} {x : Unit} {R : Reading
 leaf_shown h e at = record { lays = lays_ok h None e; opened = (refl, omega (arith, at)) }
 
 -- and one that was read as a body: it ends on a whole byte
-pub body_shown : {a b : Reader} {r : Result Unit Reason} {x : Unit} (y : Body) → Lays a b r (read_body (order_of a.order) y a.body.now) → r ≡ Ok x → Shows a b (Ok None) (read_body (order_of a.order) y a.body.now) false
-body_shown y h e = leaf_shown h e (leaf_ends y h e)
+pub whole_leaf_shown : {a b : Reader} {r : Result Unit Reason} {x : Unit} (y : Body) → Lays a b r (read_body (order_of a.order) y a.body.now) → r ≡ Ok x → Shows a b (Ok None) (read_body (order_of a.order) y a.body.now) false
+whole_leaf_shown y h e = leaf_shown h e (leaf_ends y h e)
 
 pub leaf_refused : {a b : Reader} {r : Result Unit Reason} {s : Result (Option BytePlace) Reason} {e : Reason} {R : Reading} → Lays a b r R → r ≡ Err e → s ≡ Err e → Shows a b s R false
 leaf_refused h e d = record { lays = lays_err h e d; opened = rw d tt }
