@@ -20,7 +20,7 @@ use sink::Impossible;
 pub trait PartAnywhere {
     ghost format: { Self → Format };
 
-    fn write(&self, writer: &mut Writer) -> Result<(), Impossible>
+    fn write_anywhere(&self, writer: &mut Writer) -> Result<(), Impossible>
         ensures writes { Writes writer.old writer.new result (format self.now) };
 }
 
@@ -33,7 +33,7 @@ pub fn write_all_anywhere<P: PartAnywhere>(
     ensures writes { Writes writer.old writer.new result (times count (P.format part.now)) }
 {
     for _ in 0..count {
-        part.write(writer)?;
+        part.write_anywhere(writer)?;
     }
     Ok(())
 }
@@ -47,7 +47,7 @@ pub trait Part {
         ensures writes { Writes writer.old writer.new result (format self.now) };
 }
 
-// n such parts. Where no file has one of them, the index is the one before it.
+// n such parts. The index is so afterwards, too: where no file has one of them, it goes back before that one.
 pub fn write_all<P: Part>(part: &P, count: usize, writer: &mut Writer) -> Result<(), Impossible>
     requires { writer.old.index ≤ length writer.old.values.now }
     ensures writes { Writes writer.old writer.new result (times count (P.format part.now)) }
@@ -72,7 +72,7 @@ pub struct Text;
 impl PartAnywhere for Text {
     ghost format = { λ _. string };
 
-    fn write(&self, writer: &mut Writer) -> Result<(), Impossible> {
+    fn write_anywhere(&self, writer: &mut Writer) -> Result<(), Impossible> {
         writer.string()
     }
 }
@@ -82,7 +82,7 @@ impl<P: PartAnywhere> Part for P {
     ghost format = { λ part. P.format part };
 
     fn write(&self, writer: &mut Writer) -> Result<(), Impossible> {
-        PartAnywhere::write(self, writer)
+        self.write_anywhere(writer)
     }
 }
 

@@ -60,7 +60,7 @@ struct Stop {
 impl PartAnywhere for Stop {
     ghost format = { λ stop. stop_of stop.bytes };
 
-    fn write(&self, writer: &mut Writer) -> Result<(), Impossible> {
+    fn write_anywhere(&self, writer: &mut Writer) -> Result<(), Impossible> {
         write_pair(Item::Uint16, Item::Uint16, writer)?;
         writer.items(Item::Byte, self.bytes)
     }
@@ -128,7 +128,7 @@ struct Compound {
 impl PartAnywhere for Compound {
     ghost format = { λ value. compound_of value.what };
 
-    fn write(&self, writer: &mut Writer) -> Result<(), Impossible> {
+    fn write_anywhere(&self, writer: &mut Writer) -> Result<(), Impossible> {
         match self.what {
             DataType::Ratio => write_pair(Item::I32, Item::U32, writer),
             DataType::Path => write_path(writer),
@@ -147,7 +147,7 @@ pub fn write_value(what: DataType, writer: &mut Writer) -> Result<(), Impossible
 {
     match single_of(what) {
         Some(kind) => writer.one(kind),
-        None => Compound { what }.write(writer),
+        None => Compound { what }.write_anywhere(writer),
     }
 }
 
