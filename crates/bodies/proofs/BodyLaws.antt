@@ -7,7 +7,7 @@ use native.Mathlib.Omega.{arith}
 use lib.ListN.{length, get_or, take}
 use lib.Seq.{get_or-take}
 use lib.Dec.{eqb}
-use borrow.Author.Tests.{eq-eqb, ne_eqb}
+use borrow.Author.Tests.{eq-eqb, ne_eqb, eqb-true}
 use Rattle.std.proofs.Common.{Result, Ok, Err, Option, Some, None}
 use Rattle.std.specs.Prelude.{IfOk}
 use Rattle.format.specs.Tests.{pick}
@@ -137,6 +137,22 @@ module _ {a b : Reader} {r : Result BytePlace Reason} (h : Lays a b r (read_alig
     pub end_over : (q.0 ≡ length b.body.now → ⊥) → Lays {A = Unit {0}} a b (Err BodyNotUsedUp) end_here
     end_over n = ends (rw (z, ne_eqb b.place.0 (8 * length a.body.now) (λ e. n (omega (arith, at, e, ap length h.same.body)))))
 
+-- a body that was read ends behind its last byte
+used_end : (n : ℕ) (xs : List ℕ) (z : Ending) {p : ℕ} → (used_up n xs z).ended ≡ At p → p ≡ n
+used_end n xs (At q) {p} e = go (eqb q n) refl e
+  where
+    go : (c : Bool) → eqb q n ≡ c → pick c (At q) (Fault 18) ≡ At p → p ≡ n
+    go true d h = let z : q ≡ p = cc in sym z ∙ eqb-true q n d
+    go false d h = clash cc
+used_end n xs (Fault e) h = clash cc
+
+pub leaf_ends : {a b : Reader} {r : Result Unit Reason} {u : Unit} (y : Body) → Lays a b r (read_body (order_of a.order) y a.body.now) → r ≡ Ok u → b.place.0 ≡ 8 * length b.body.now
+unfolding read_body shown_over
+leaf_ends {a} {b} y h e =
+    let o : PaperOrder = order_of a.order in
+    used_end (8 * length a.body.now) (to_end o a.body.now y).shown (to_end o a.body.now y).ended (ap (λ (s : State). s.ended) (sym h.left ∙ ap (state_of b) e))
+    ∙ ap (λ (b : List ℕ). 8 * length b) (sym h.same.body)
+
 -- ---- so a body is read
 module _ {A : Type 0} {a b : Reader} {r : Result A Reason} (y : Body) (h : Lays a b r (read_part (order_of a.order) a.body.now y 0)) where
   abbrev o : PaperOrder
@@ -172,8 +188,8 @@ module _ {A : Type 0} {a b : Reader} {r : Result A Reason} (y : Body) (h : Lays 
       open_stop z d = rw is (record { lays = lays_err (open_lays e k) z d; opened = rw d tt })
 
     module _ {c : Reader} {s : Result Unit Reason} (is : list ≡ false) (k : Lays b c s (end_at (order_of b.order) b.body.now b.place.0)) where
-      pub closed_shows : {u : Unit} → s ≡ Ok u → c.place.0 ≡ 8 * length c.body.now → Shows a c (Ok None) (either list) list
-      closed_shows z at = rw is (record { lays = lays_ok (leaf_lays e k) None z; opened = (refl, omega (arith, at)) })
+      pub closed_shows : {u : Unit} → s ≡ Ok u → Shows a c (Ok None) (either list) list
+      closed_shows z = rw is (record { lays = lays_ok (leaf_lays e k) None z; opened = (refl, omega (arith, leaf_ends y (leaf_lays e k) z)) })
 
       pub closed_stop : {t : Result (Option BytePlace) Reason} {n : Reason} → s ≡ Err n → t ≡ Err n → Shows a c t (either list) list
       closed_stop z d = rw is (record { lays = lays_err (leaf_lays e k) z d; opened = rw d tt })

@@ -1,5 +1,5 @@
 -- One tag: its values, and what its header and they tell.
-use Prim.Native.Nat.{ℕ, ◌+◌, ◌-◌, ◌*◌, ◌/◌, ◌≤◌, ◌<◌, ◌^◌}
+use Prim.Native.Nat.{ℕ, ◌+◌, ◌-◌, ◌/◌, ◌≤◌, ◌<◌, ◌^◌}
 use mathlib.Core.List.{List}
 use mathlib.Core.Path.{◌≡◌, refl, ap, sym, subst, ◌∙◌}
 use mathlib.Core.Bool.{Bool, true, false}
@@ -25,7 +25,7 @@ use Rattle.classes.specs.declared.Class.{Class}
 use Rattle.classes.specs.declared.Class.TheVariants.{Fixed, Attributes}
 use Rattle.headers.specs.declared.Header.{Header}
 use Rattle.tags.specs.Shown.{values_of, list_of}
-use Rattle.tags.proofs.TagLaws.{leaf_shown, leaf_refused, values_le}
+use Rattle.tags.proofs.TagLaws.{whole_leaf_shown, leaf_refused, values_le}
 use Rattle.canvas.specs.Looking.{span, judged_by, Valued, numbered, judged_end, judged_at}
 use Rattle.canvas.specs.declared.Judged.{Judged}
 
@@ -57,8 +57,8 @@ module _ {a b : Reader} {y : Result (Unit {0}) Reason} (code : ℕ) (class : Cla
       go (inl e) = valued_told (order_of a.order) a.body.now code z Fixed e (subst (λ (b : Bool). Valued (read_body (order_of a.order) (body_by b code) a.body.now).ended false z) (fixed_so e) v)
       go (inr e) = valued_told (order_of a.order) a.body.now code z Attributes e (subst (λ (b : Bool). Valued (read_body (order_of a.order) (body_by b code) a.body.now).ended false z) (attributes_so e) v)
 
-  pub leaf_ok : {x : Unit {0}} → y ≡ Ok x → b.place.0 ≡ 8 * length b.body.now → V (Ok None)
-  leaf_ok q at = leaf_valued (Ok None) (valued (leaf_shown laid q at))
+  pub leaf_ok : {x : Unit {0}} → y ≡ Ok x → V (Ok None)
+  leaf_ok q = leaf_valued (Ok None) (valued (whole_leaf_shown (body_by block code) laid q))
 
   pub leaf_err : {e : Reason} {z : Result (Option BytePlace) Reason} → y ≡ Err e → z ≡ Err e → V z
   leaf_err {e} {z} q w = leaf_valued z (valued (leaf_refused laid q w))

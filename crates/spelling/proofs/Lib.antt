@@ -1,5 +1,6 @@
 pub mod RunLaws
 pub mod WriteLaws
+pub mod InsideLaws
 pub mod NumberLaws
 pub mod FieldLaws
 pub mod TextLaws

@@ -3,7 +3,7 @@ ghost use Rattle.std.specs.Prelude.{◌≡◌, ◌+◌, ◌-◌, ◌*◌, ◌<�
 ghost use Rattle.format.specs.Formats.{Format, times};
 ghost use Rattle.format.specs.Items.{string};
 ghost use Rattle.items.specs.Kinds.{format_of};
-ghost use Rattle.items.specs.declared.Item.TheVariants.{Time};
+ghost use Rattle.items.specs.declared.Item.TheVariants.{Byte, Time};
 ghost use Rattle.bits.specs.Places.{InEither};
 ghost use Rattle.sink.specs.Laying.{mk};
 ghost use Rattle.spelling.specs.Spellings.{written_to};
@@ -16,20 +16,52 @@ use crate::{on_byte, spell_next};
 use items::Item;
 use sink::Impossible;
 
-// What a writer can write, as its format.
-pub trait Part {
+// What a writer can write, as its format, from any index on.
+pub trait PartAnywhere {
     ghost format: { Self → Format };
 
-    fn write(&self, writer: &mut Writer) -> Result<(), Impossible>
+    fn write_anywhere(&self, writer: &mut Writer) -> Result<(), Impossible>
         ensures writes { Writes writer.old writer.new result (format self.now) };
 }
 
 // n such parts.
-pub fn write_all<P: Part>(part: &P, count: usize, writer: &mut Writer) -> Result<(), Impossible>
+pub fn write_all_anywhere<P: PartAnywhere>(
+    part: &P,
+    count: usize,
+    writer: &mut Writer,
+) -> Result<(), Impossible>
     ensures writes { Writes writer.old writer.new result (times count (P.format part.now)) }
 {
     for _ in 0..count {
-        part.write(writer)?;
+        part.write_anywhere(writer)?;
+    }
+    Ok(())
+}
+
+// What a writer can write, as its format, from an index that is at most behind its last value: who writes it may go by that.
+pub trait Part {
+    ghost format: { Self → Format };
+
+    fn write(&self, writer: &mut Writer) -> Result<(), Impossible>
+        requires { writer.old.index ≤ length writer.old.values.now }
+        ensures writes { Writes writer.old writer.new result (format self.now) };
+}
+
+// n such parts. The index is so afterwards, too: where no file has one of them, it goes back before that one.
+pub fn write_all<P: Part>(part: &P, count: usize, writer: &mut Writer) -> Result<(), Impossible>
+    requires { writer.old.index ≤ length writer.old.values.now }
+    ensures writes { Writes writer.old writer.new result (times count (P.format part.now)) }
+    ensures inside { writer.new.index ≤ length writer.new.values.now }
+{
+    for _ in 0..count {
+        let from = writer.index;
+        match part.write(writer) {
+            Ok(()) => {}
+            Err(refused) => {
+                writer.index = from;
+                return Err(refused);
+            }
+        }
     }
     Ok(())
 }
@@ -37,11 +69,20 @@ pub fn write_all<P: Part>(part: &P, count: usize, writer: &mut Writer) -> Result
 // A String.
 pub struct Text;
 
-impl Part for Text {
+impl PartAnywhere for Text {
     ghost format = { λ _. string };
 
-    fn write(&self, writer: &mut Writer) -> Result<(), Impossible> {
+    fn write_anywhere(&self, writer: &mut Writer) -> Result<(), Impossible> {
         writer.string()
+    }
+}
+
+// What can be written from any index can be from these.
+impl<P: PartAnywhere> Part for P {
+    ghost format = { λ part. P.format part };
+
+    fn write(&self, writer: &mut Writer) -> Result<(), Impossible> {
+        self.write_anywhere(writer)
     }
 }
 
@@ -121,5 +162,54 @@ impl Writer<'_> {
         self.sink = on_byte(end);
         self.index = from + count;
         Ok(())
+    }
+}
+
+#[cfg(test)]
+mod tests {
+    use super::*;
+    use bits::Order;
+
+    // A byte, by a part that counts the values that are left: it may, since its writer's index is one of theirs.
+    struct Counting;
+
+    impl Part for Counting {
+        ghost format = { λ _. format_of Byte };
+
+        fn write(&self, writer: &mut Writer) -> Result<(), Impossible> {
+            let left = writer.values.len() - writer.index;
+            let _ = left;
+            writer.one(Item::Byte)
+        }
+    }
+
+    #[test]
+    fn strings_and_then_bytes(rt: HostRuntime) {
+        let mut out = [255; 8];
+        let mut writer = Writer {
+            order: Order::HighFirst,
+            out: &mut out,
+            sink: on_byte(0),
+            values: &[1, 97, 2, 98, 99, 7, 8],
+            index: 0,
+        };
+        assert!(rt; write_all(&Text, 2, &mut writer).is_ok());
+        assert_eq!(rt; writer.index, 5);
+        assert!(rt; write_all(&Counting, 2, &mut writer).is_ok());
+        assert_eq!(rt; writer.index, 7);
+        assert_eq!(rt; out, [97, 0, 98, 99, 0, 7, 8, 255]);
+    }
+
+    #[test]
+    fn index_before_the_part_that_no_file_has(rt: HostRuntime) {
+        let mut writer = Writer {
+            order: Order::LowFirst,
+            out: &mut [0; 4],
+            sink: on_byte(0),
+            values: &[7, 8, 256],
+            index: 0,
+        };
+        assert!(rt; write_all(&Counting, 3, &mut writer).is_err());
+        assert_eq!(rt; writer.index, 2);
     }
 }

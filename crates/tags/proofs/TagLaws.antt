@@ -35,7 +35,7 @@ use Rattle.table.proofs.EngineLaws.{state_eq, after_none}
 use Rattle.table.proofs.ReaderLaws.{same_refl, same_then}
 use Rattle.table.proofs.StoringLaws.{Storing, storing_next, storing_done}
 use Rattle.bodies.specs.Shown.{Lays, Opens, Shows}
-use Rattle.bodies.proofs.BodyLaws.{lays_ok, lays_err}
+use Rattle.bodies.proofs.BodyLaws.{lays_ok, lays_err, leaf_ends}
 use Rattle.classes.specs.declared.Class.{Class}
 use Rattle.classes.specs.declared.Class.TheVariants.{Opaque, End, Container, Fixed, Attributes}
 use Rattle.tags.specs.Shown.{values_of, list_of, headed}
@@ -89,6 +89,10 @@ none_shown a p = record { lays = record { same = same_refl a; left = ap (λ (q :
 -- a body without a list
 pub leaf_shown : {a b : Reader} {r : Result Unit Reason} {x : Unit} {R : Reading} → Lays a b r R → r ≡ Ok x → b.place.0 ≡ 8 * length b.body.now → Shows a b (Ok None) R false
 leaf_shown h e at = record { lays = lays_ok h None e; opened = (refl, omega (arith, at)) }
+
+-- and one that was read as a body: it ends on a whole byte
+pub whole_leaf_shown : {a b : Reader} {r : Result Unit Reason} {x : Unit} (y : Body) → Lays a b r (read_body (order_of a.order) y a.body.now) → r ≡ Ok x → Shows a b (Ok None) (read_body (order_of a.order) y a.body.now) false
+whole_leaf_shown y h e = leaf_shown h e (leaf_ends y h e)
 
 pub leaf_refused : {a b : Reader} {r : Result Unit Reason} {s : Result (Option BytePlace) Reason} {e : Reason} {R : Reading} → Lays a b r R → r ≡ Err e → s ≡ Err e → Shows a b s R false
 leaf_refused h e d = record { lays = lays_err h e d; opened = rw d tt }

@@ -7,7 +7,7 @@ ghost use Rattle.spelling.specs.Writer.{Writes};
 
 use items::Item;
 use sink::Impossible;
-use spelling::in_turn::{Text, write_all};
+use spelling::in_turn::{Text, write_all_anywhere};
 use spelling::writer::Writer;
 
 // The items of these rows, in order.
@@ -25,7 +25,7 @@ fn write_fonts(writer: &mut Writer) -> Result<(), Impossible>
     ensures { Writes writer.old writer.new result font_tables }
 {
     let count = writer.count(0)?;
-    write_all(&Text, 2 * count, writer)
+    write_all_anywhere(&Text, 2 * count, writer)
 }
 
 // The items of a tag that is no attribute block; of a container those before its list.

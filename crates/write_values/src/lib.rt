@@ -16,7 +16,7 @@ pub mod keyframes;
 use attributes::{DataType, Kind, Layout};
 use items::Item;
 use sink::Impossible;
-use spelling::in_turn::{Part, write_all};
+use spelling::in_turn::{PartAnywhere, write_all_anywhere};
 use spelling::writer::Writer;
 use table::fields::Field;
 use values::single_of;
@@ -57,10 +57,10 @@ struct Stop {
     bytes: usize,
 }
 
-impl Part for Stop {
+impl PartAnywhere for Stop {
     ghost format = { λ stop. stop_of stop.bytes };
 
-    fn write(&self, writer: &mut Writer) -> Result<(), Impossible> {
+    fn write_anywhere(&self, writer: &mut Writer) -> Result<(), Impossible> {
         write_pair(Item::Uint16, Item::Uint16, writer)?;
         writer.items(Item::Byte, self.bytes)
     }
@@ -70,8 +70,8 @@ impl Part for Stop {
 fn write_both_stops(alphas: usize, colors: usize, writer: &mut Writer) -> Result<(), Impossible>
     ensures { Writes writer.old writer.new result (stops_of alphas colors) }
 {
-    write_all(&Stop { bytes: 1 }, alphas, writer)?;
-    write_all(&Stop { bytes: 3 }, colors, writer)
+    write_all_anywhere(&Stop { bytes: 1 }, alphas, writer)?;
+    write_all_anywhere(&Stop { bytes: 3 }, colors, writer)
 }
 
 // What follows the count of alpha stops: the count of color stops, and the stops.
@@ -125,10 +125,10 @@ struct Compound {
     what: DataType,
 }
 
-impl Part for Compound {
+impl PartAnywhere for Compound {
     ghost format = { λ value. compound_of value.what };
 
-    fn write(&self, writer: &mut Writer) -> Result<(), Impossible> {
+    fn write_anywhere(&self, writer: &mut Writer) -> Result<(), Impossible> {
         match self.what {
             DataType::Ratio => write_pair(Item::I32, Item::U32, writer),
             DataType::Path => write_path(writer),
@@ -147,7 +147,7 @@ pub fn write_value(what: DataType, writer: &mut Writer) -> Result<(), Impossible
 {
     match single_of(what) {
         Some(kind) => writer.one(kind),
-        None => Compound { what }.write(writer),
+        None => Compound { what }.write_anywhere(writer),
     }
 }
 
@@ -157,7 +157,7 @@ fn write_each(what: DataType, count: usize, writer: &mut Writer) -> Result<(), I
 {
     match single_of(what) {
         Some(kind) => writer.items(kind, count),
-        None => write_all(&Compound { what }, count, writer),
+        None => write_all_anywhere(&Compound { what }, count, writer),
     }
 }
 

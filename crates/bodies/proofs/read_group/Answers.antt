@@ -31,4 +31,4 @@ returns-in_err-end_body c =
 pub returns : goal.returns
 returns c =
     closed_shows group (group_part c.block_of.ensures.are c.read_block.ensures.lays) c.in_ok-flags.was (group_list (attributes_in c.block_of.result.now) _ c.block_of.ensures.are (sym (rows_many c.block_of.result.now)) c.read_block.ensures.lays c.in_ok-flags.was c.in_ok-flags.ensures.flags ∙ ne_eqb _ _ c.if-flags-eq1.false)
-    c.end_body.ensures.lays c.in_ok-end_body.was c.in_ok-end_body.ensures.byte
+    c.end_body.ensures.lays c.in_ok-end_body.was

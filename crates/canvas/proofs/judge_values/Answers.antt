@@ -13,4 +13,4 @@ pub returns-in_err-read_leaf-in-Fixed : goal.returns-in_err-read_leaf-in-Fixed
 returns-in_err-read_leaf-in-Fixed c = leaf_err c.args.code c.args.class c.in-Fixed.is (λ e. search rules) (λ e. search rules) c.read_leaf.ensures.lays c.in_err-read_leaf-in-Fixed.was (passed_on c.from_residual.result c.from_residual.ensures.1)
 
 pub returns-in_ok-read_leaf-in-Fixed : goal.returns-in_ok-read_leaf-in-Fixed
-returns-in_ok-read_leaf-in-Fixed c = leaf_ok c.args.code c.args.class c.in-Fixed.is (λ e. search rules) (λ e. search rules) c.read_leaf.ensures.lays c.in_ok-read_leaf-in-Fixed.was c.in_ok-read_leaf-in-Fixed.ensures.byte
+returns-in_ok-read_leaf-in-Fixed c = leaf_ok c.args.code c.args.class c.in-Fixed.is (λ e. search rules) (λ e. search rules) c.read_leaf.ensures.lays c.in_ok-read_leaf-in-Fixed.was
